@@ -1,0 +1,5 @@
+-- Mathematics with nothing of crystals in it, each law for any size, order or type: numbers, matrices, motions, lists, closures, lattices, groups, sets.
+pub mod Integer
+pub mod Matrix
+pub mod Motion
+pub mod Residue

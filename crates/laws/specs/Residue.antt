@@ -1,0 +1,102 @@
+-- Integers and vectors modulo 12: the residue of an integer, and how it goes with sums, negatives and products.
+use mathlib.Core.Path.{_≡_, refl, sym, _∙_, ap}
+use Prim.Native.Nat.{ℕ, zero, suc, _+_, _*_, _-_, _%_, _<_}
+use native.Mathlib.Omega.{arith}
+use native.Mathlib.Nat.{div-add-mod'}
+use lib.IntN.{ℤ, pos, negsuc, negℤ, sucℤ, predℤ, _+ℤ_, _-ℤ_, _*ℤ_, +ℤ-idl, sucℤ-+ℤ, predℤ-+ℤ, zero-*ℤ, sucℤ-*ℤ, predℤ-*ℤ}
+use Rattle.laws.specs.Integer.{integer-induction}
+use Rattle.laws.specs.Matrix.{Matrix, Vector, act, plus, opposite}
+
+-- The one number below 12 that differs from a by a multiple of 12.
+unfoldable pub residue : ℤ → ℕ
+residue (pos a) = a % 12
+residue (negsuc a) = 11 - a % 12
+
+pub residue-lt : (a : ℤ) → residue a < 12
+unfolding residue
+residue-lt (pos a) = omega arith
+residue-lt (negsuc a) = omega arith
+
+-- A residue is its own residue, and a number's residue is its remainder.
+pub residue-pos : (a : ℕ) → residue (pos a) ≡ a % 12
+unfolding residue
+residue-pos a = refl
+
+pub residue-again : (a : ℤ) → residue (pos (residue a)) ≡ residue a
+unfolding residue
+residue-again a = omega (arith, residue-lt a)
+
+residue-suc : (a : ℤ) → residue (sucℤ a) ≡ (residue a + 1) % 12
+unfolding residue
+residue-suc (pos a) = omega arith
+residue-suc (negsuc zero) = refl
+residue-suc (negsuc (suc a)) = omega arith
+
+residue-pred : (a : ℤ) → residue (predℤ a) ≡ (residue a + 11) % 12
+unfolding residue
+residue-pred (pos zero) = refl
+residue-pred (pos (suc a)) = omega arith
+residue-pred (negsuc a) = omega arith
+
+-- The residue of a sum, of a negative and of a product.
+pub residue-add : (a b : ℤ) → residue (a +ℤ b) ≡ (residue a + residue b) % 12
+unfolding residue
+residue-add a b =
+    integer-induction (λ x. residue (x +ℤ b) ≡ (residue x + residue b) % 12)
+    (rw +ℤ-idl (omega (arith, residue-lt b)))
+    (λ x h. rw (sucℤ-+ℤ x b, residue-suc (x +ℤ b), residue-suc x) (omega arith))
+    (λ x h. rw (predℤ-+ℤ x b, residue-pred (x +ℤ b), residue-pred x) (omega (arith, residue-lt b)))
+    a
+
+pub residue-neg : (a : ℤ) → residue (negℤ a) ≡ (12 - residue a) % 12
+unfolding residue
+residue-neg (pos zero) = refl
+residue-neg (pos (suc a)) = omega arith
+residue-neg (negsuc a) = omega arith
+
+remainder-times : (a b : ℕ) → (a % 12 * b) % 12 ≡ (a * b) % 12
+remainder-times a b = omega (arith, ap (λ (k : ℕ). k * b) (div-add-mod' a 12))
+
+pub residue-mul : (a b : ℤ) → residue (a *ℤ b) ≡ (residue a * residue b) % 12
+unfolding residue
+residue-mul a b =
+    integer-induction (λ x. residue (x *ℤ b) ≡ (residue x * residue b) % 12)
+    (rw zero-*ℤ (omega arith))
+    (λ x h. rw (sucℤ-*ℤ x b, residue-add (x *ℤ b) b, residue-suc x) (rw (h, remainder-times (residue x + 1) (residue b)) (omega arith)))
+    (λ x h. rw (predℤ-*ℤ x b, residue-add (x *ℤ b) (negℤ b), residue-pred x, residue-neg b, h, remainder-times (residue x + 11) (residue b)) (omega (arith, residue-lt b)))
+    a
+
+-- ---- triples of residues
+pub record Triple : Type 0 where
+  pub x : ℕ
+  pub y : ℕ
+  pub z : ℕ
+
+pub triple≡ : {s t : Triple} → s .x ≡ t .x → s .y ≡ t .y → s .z ≡ t .z → s ≡ t
+triple≡ p q r = λ i. record { x = p i; y = q i; z = r i }
+
+-- Each coordinate is below 12.
+abbrev pub Reduced : Triple → Type 0
+Reduced t = (t .x < 12) × (t .y < 12) × (t .z < 12)
+
+-- A vector's residues, and a triple as a vector.
+abbrev pub reduced : Vector → Triple
+reduced v = record { x = residue (v .x); y = residue (v .y); z = residue (v .z) }
+
+abbrev pub lifted : Triple → Vector
+lifted t = record { x = pos (t .x); y = pos (t .y); z = pos (t .z) }
+
+pub reduced-lt : (v : Vector) → Reduced (reduced v)
+reduced-lt v = (residue-lt (v .x), residue-lt (v .y), residue-lt (v .z))
+
+-- Sum and negative modulo 12.
+infixl 60 _⊕_
+unfoldable pub _⊕_ : Triple → Triple → Triple
+s ⊕ t = record { x = (s .x + t .x) % 12; y = (s .y + t .y) % 12; z = (s .z + t .z) % 12 }
+
+unfoldable pub minus : Triple → Triple
+minus t = record { x = (12 - t .x % 12) % 12; y = (12 - t .y % 12) % 12; z = (12 - t .z % 12) % 12 }
+
+-- A matrix applied to a triple, modulo 12.
+unfoldable pub turned : Matrix → Triple → Triple
+turned R t = reduced (act R (lifted t))

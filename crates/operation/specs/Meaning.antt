@@ -1,0 +1,47 @@
+-- What the numbers of the code mean: a digit is an entry of a matrix, a rotation an integer matrix, an operation a motion of space.
+use mathlib.Core.Path.{_≡_}
+use mathlib.Core.Bool.{Bool, true, false}
+use Prim.Native.Nat.{ℕ, zero, suc, _+_, _*_}
+use lib.IntN.{ℤ, pos, negsuc, one, _+ℤ_, _-ℤ_}
+use Rattle.laws.specs.Matrix.{Matrix, Vector}
+use Rattle.laws.specs.Motion.{Motion, SpaceMotion}
+use Rattle.operation.specs.declared.Rotation.{Rotation}
+use Rattle.operation.specs.declared.Translation.{Translation}
+use Rattle.operation.specs.declared.Operation.{Operation}
+
+-- The digit d stands for the entry d − 1, whatever d is.
+unfoldable pub entryOf : ℕ → ℤ
+entryOf d = pos d -ℤ one
+
+-- The rotation's matrix.
+unfoldable pub matrixOf : Rotation → Matrix
+matrixOf r =
+    record {
+      xx = entryOf (r .xx);
+      xy = entryOf (r .xy);
+      xz = entryOf (r .xz);
+      yx = entryOf (r .yx);
+      yy = entryOf (r .yy);
+      yz = entryOf (r .yz);
+      zx = entryOf (r .zx);
+      zy = entryOf (r .zy);
+      zz = entryOf (r .zz)
+    }
+
+-- The translation's vector, in twelfths.
+unfoldable pub vectorOf : Translation → Vector
+vectorOf t = record { x = pos (t .x); y = pos (t .y); z = pos (t .z) }
+
+unfoldable pub motionOf : Operation → SpaceMotion
+motionOf f = record { rotation = matrixOf (f .rotation); translation = vectorOf (f .translation) }
+
+-- Back from a number e + 1: 0, 1, 2 are the digits of −1, 0, 1, and 3 says that the entry has left −1..1.
+unfoldable pub digitAbove : ℤ → ℕ
+digitAbove (pos zero) = 0
+digitAbove (pos (suc zero)) = 1
+digitAbove (pos (suc (suc zero))) = 2
+digitAbove (pos (suc (suc (suc n)))) = 3
+digitAbove (negsuc n) = 3
+
+unfoldable pub digitOf : ℤ → ℕ
+digitOf e = digitAbove (e +ℤ one)
