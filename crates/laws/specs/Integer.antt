@@ -2,9 +2,9 @@
 -- Where terms cancel, differences are written `p ⊖ q`, brought outside by `outer`, and two of them compared by `cross`.
 use mathlib.Core.Path.{_≡_, refl, sym, _∙_, ap, ap₂}
 use mathlib.Core.Logic.{_⊎_, inl, inr}
-use Prim.Native.Nat.{ℕ, zero, suc, _+_, _*_, _<_}
+use Prim.Native.Nat.{ℕ, zero, suc, _+_, _*_, _-_, _<_, _≤_}
 use native.Mathlib.Omega.{arith}
-use lib.IntN.{ℤ, pos, negsuc, negℤ, sucℤ, predℤ, natAbs, _+ℤ_, _-ℤ_, _*ℤ_, +ℤ-idl, +ℤ-idr, +ℤ-assoc, +ℤ-comm, sucℤ-+ℤ, predℤ-+ℤ, zero-*ℤ, *ℤ-zero, *ℤ-one, sucℤ-*ℤ, predℤ-*ℤ, *ℤ-comm, negℤ-+ℤ, negℤ-sucℤ, negℤ-predℤ, negℤ-negℤ, one, +ℤ-invr, +ℤ-negℤ-cancel, pos-*ℤ-pos, pos-*ℤ-negsuc, negsuc-*ℤ-pos, negsuc-*ℤ-negsuc}
+use lib.IntN.{ℤ, pos, negsuc, negℤ, sucℤ, predℤ, natAbs, _+ℤ_, _-ℤ_, _*ℤ_, +ℤ-idl, +ℤ-idr, +ℤ-assoc, +ℤ-comm, sucℤ-+ℤ, predℤ-+ℤ, zero-*ℤ, *ℤ-zero, *ℤ-one, sucℤ-*ℤ, predℤ-*ℤ, *ℤ-comm, negℤ-+ℤ, negℤ-sucℤ, negℤ-predℤ, negℤ-negℤ, one, +ℤ-invr, +ℤ-negℤ-cancel, pos-+ℤ-pos}
 
 -- What holds of 0 and goes over to the next integer, up and down, holds of every integer.
 pub integer-induction : (P : ℤ → Type 0) → P (pos 0) → ((m : ℤ) → P m → P (sucℤ m)) → ((m : ℤ) → P m → P (predℤ m)) → (m : ℤ) → P m
@@ -130,3 +130,29 @@ cross p q r s h =
 pub cross-nought : (p q : ℤ) → p ≡ q → p ⊖ q ≡ nought
 unfolding _⊖_ nought
 cross-nought p q h = rw h (+ℤ-invr q)
+
+-- ---- naturals among the integers
+-- A difference of naturals that is not below 0.
+pub pos-minus : (p q : ℕ) → q ≤ p → pos p -ℤ pos q ≡ pos (p - q)
+pos-minus p q h =
+    let split : p ≡ p - q + q = omega arith in
+    ap (λ (n : ℕ). pos n -ℤ pos q) split ∙ ap (λ x. x -ℤ pos q) (sym (pos-+ℤ-pos (p - q) q)) ∙ +ℤ-negℤ-cancel (pos (p - q)) (pos q)
+
+-- One that is.
+pub pos-minus-below : (p q : ℕ) → p < q → pos p -ℤ pos q ≡ negsuc (q - suc p)
+pos-minus-below p q h =
+    let turn : pos p -ℤ pos q ≡ negℤ (pos q -ℤ pos p) = simp ring in
+    let gap : q - p ≡ suc (q - suc p) = omega arith in
+    turn ∙ ap negℤ (pos-minus q p (omega arith) ∙ ap pos gap)
+
+natAbs-neg : (k : ℤ) → natAbs (negℤ k) ≡ natAbs k
+natAbs-neg (pos zero) = refl
+natAbs-neg (pos (suc n)) = refl
+natAbs-neg (negsuc n) = refl
+
+-- The absolute value of a product.
+pub natAbs-*ℤ : (m k : ℤ) → natAbs (m *ℤ k) ≡ natAbs m * natAbs k
+natAbs-*ℤ (pos a) (pos b) = refl
+natAbs-*ℤ (pos a) (negsuc b) = natAbs-neg (pos (a * suc b))
+natAbs-*ℤ (negsuc a) (pos b) = natAbs-neg (pos (suc a * b))
+natAbs-*ℤ (negsuc a) (negsuc b) = refl

@@ -3,3 +3,6 @@ pub mod Integer
 pub mod Matrix
 pub mod Motion
 pub mod Residue
+pub mod Sorted
+pub mod Sets
+pub mod ListOrder

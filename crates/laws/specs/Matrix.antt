@@ -45,7 +45,7 @@ times A B =
       yz = dot (A .yx) (A .yy) (A .yz) (B .xz) (B .yz) (B .zz);
       zx = dot (A .zx) (A .zy) (A .zz) (B .xx) (B .yx) (B .zx);
       zy = dot (A .zx) (A .zy) (A .zz) (B .xy) (B .yy) (B .zy);
-      zz = dot (A .zx) (A .zy) (A .zz) (B .xz) (B .yz) (B .zz)
+      zz = dot (A .zx) (A .zy) (A .zz) (B .xz) (B .yz) (B .zz);
     }
 
 -- A matrix applied to a vector.
@@ -54,7 +54,7 @@ act A v =
     record {
       x = dot (A .xx) (A .xy) (A .xz) (v .x) (v .y) (v .z);
       y = dot (A .yx) (A .yy) (A .yz) (v .x) (v .y) (v .z);
-      z = dot (A .zx) (A .zy) (A .zz) (v .x) (v .y) (v .z)
+      z = dot (A .zx) (A .zy) (A .zz) (v .x) (v .y) (v .z);
     }
 
 unfoldable pub plus : Vector → Vector → Vector
@@ -144,7 +144,7 @@ adjugate A =
       yz = A .xz *ℤ A .yx ⊖ A .xx *ℤ A .yz;
       zx = A .yx *ℤ A .zy ⊖ A .yy *ℤ A .zx;
       zy = A .xy *ℤ A .zx ⊖ A .xx *ℤ A .zy;
-      zz = A .xx *ℤ A .yy ⊖ A .xy *ℤ A .yx
+      zz = A .xx *ℤ A .yy ⊖ A .xy *ℤ A .yx;
     }
 
 -- A matrix times its adjugate, either way round, is its determinant.
@@ -188,7 +188,7 @@ mix a b c u v w =
     record {
       x = dot a b c (u .x) (v .x) (w .x);
       y = dot a b c (u .y) (v .y) (w .y);
-      z = dot a b c (u .z) (v .z) (w .z)
+      z = dot a b c (u .z) (v .z) (w .z);
     }
 
 volume-turn : (u v w : Vector) → volume u v w ≡ volume v w u
@@ -279,7 +279,7 @@ scaled k A =
       yz = k *ℤ A .yz;
       zx = k *ℤ A .zx;
       zy = k *ℤ A .zy;
-      zz = k *ℤ A .zz
+      zz = k *ℤ A .zz;
     }
 
 -- The adjugate with the determinant's sign.

@@ -12,7 +12,6 @@ module _ {R W : Type 0} (_·_ : R → R → R) (_⊕_ : W → W → W) (_▹_ : 
   infixl 70 _·_
   infixl 60 _⊕_
   infixr 80 _▹_
-
   -- Rotations with unit e are a monoid, translations with zero o are one, and rotations act on translations and keep their sums.
   pub record Acts (e : R) (o : W) : Type 0 where
     pub mul-assoc : (a b c : R) → a · b · c ≡ a · (b · c)
@@ -59,7 +58,7 @@ matrices-act =
       act-mul = act-times;
       act-one = act-unit;
       act-add = act-plus;
-      act-zero = act-origin
+      act-zero = act-origin;
     }
 
 -- (R,t)(S,u) = (RS, Ru + t)

@@ -2,7 +2,7 @@
 use mathlib.Core.Path.{_≡_, refl, sym, _∙_, ap}
 use Prim.Native.Nat.{ℕ, zero, suc, _+_, _*_, _-_, _%_, _<_}
 use native.Mathlib.Omega.{arith}
-use native.Mathlib.Nat.{div-add-mod'}
+use native.Mathlib.Nat.{div-add-mod', mul-comm}
 use lib.IntN.{ℤ, pos, negsuc, negℤ, sucℤ, predℤ, _+ℤ_, _-ℤ_, _*ℤ_, +ℤ-idl, sucℤ-+ℤ, predℤ-+ℤ, zero-*ℤ, sucℤ-*ℤ, predℤ-*ℤ}
 use Rattle.laws.specs.Integer.{integer-induction}
 use Rattle.laws.specs.Matrix.{Matrix, Vector, act, plus, opposite}
@@ -54,8 +54,17 @@ residue-neg (pos zero) = refl
 residue-neg (pos (suc a)) = omega arith
 residue-neg (negsuc a) = omega arith
 
+-- The remainder of a sum goes by the remainders of its summands.
+pub remainder-sum : (a b : ℕ) → (a % 12 + b % 12) % 12 ≡ (a + b) % 12
+remainder-sum a b = omega arith
+
 remainder-times : (a b : ℕ) → (a % 12 * b) % 12 ≡ (a * b) % 12
 remainder-times a b = omega (arith, ap (λ (k : ℕ). k * b) (div-add-mod' a 12))
+
+-- The remainder of a product goes by the remainders of its factors.
+pub remainder-product : (a b : ℕ) → (a % 12 * (b % 12)) % 12 ≡ (a * b) % 12
+remainder-product a b =
+    remainder-times a (b % 12) ∙ ap (λ (k : ℕ). k % 12) (mul-comm a (b % 12)) ∙ remainder-times b a ∙ ap (λ (k : ℕ). k % 12) (mul-comm b a)
 
 pub residue-mul : (a b : ℤ) → residue (a *ℤ b) ≡ (residue a * residue b) % 12
 unfolding residue

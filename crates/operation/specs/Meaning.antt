@@ -1,7 +1,6 @@
 -- What the numbers of the code mean: a digit is an entry of a matrix, a rotation an integer matrix, an operation a motion of space.
 use mathlib.Core.Path.{_≡_}
-use mathlib.Core.Bool.{Bool, true, false}
-use Prim.Native.Nat.{ℕ, zero, suc, _+_, _*_}
+use Prim.Native.Nat.{ℕ, zero, suc, _<_}
 use lib.IntN.{ℤ, pos, negsuc, one, _+ℤ_, _-ℤ_}
 use Rattle.laws.specs.Matrix.{Matrix, Vector}
 use Rattle.laws.specs.Motion.{Motion, SpaceMotion}
@@ -25,7 +24,7 @@ matrixOf r =
       yz = entryOf (r .yz);
       zx = entryOf (r .zx);
       zy = entryOf (r .zy);
-      zz = entryOf (r .zz)
+      zz = entryOf (r .zz);
     }
 
 -- The translation's vector, in twelfths.
@@ -45,3 +44,19 @@ digitAbove (negsuc n) = 3
 
 unfoldable pub digitOf : ℤ → ℕ
 digitOf e = digitAbove (e +ℤ one)
+
+-- Each digit is below 3: each entry is −1, 0 or 1.
+pub record Digits (r : Rotation) : Type 0 where
+  pub xx : r .xx < 3
+  pub xy : r .xy < 3
+  pub xz : r .xz < 3
+  pub yx : r .yx < 3
+  pub yy : r .yy < 3
+  pub yz : r .yz < 3
+  pub zx : r .zx < 3
+  pub zy : r .zy < 3
+  pub zz : r .zz < 3
+
+pub rotation≡ : {r s : Rotation} → r .xx ≡ s .xx → r .xy ≡ s .xy → r .xz ≡ s .xz → r .yx ≡ s .yx → r .yy ≡ s .yy → r .yz ≡ s .yz → r .zx ≡ s .zx → r .zy ≡ s .zy → r .zz ≡ s .zz → r ≡ s
+rotation≡ xx xy xz yx yy yz zx zy zz =
+    λ i. record { xx = xx i; xy = xy i; xz = xz i; yx = yx i; yy = yy i; yz = yz i; zx = zx i; zy = zy i; zz = zz i }

@@ -1,6 +1,9 @@
 // Operations (R, t) with entries of R in −1..1 and t in twelfths of a cell edge: the product, the rotation's code and type, and doubles.
 // Ported from base/operation.rs and identify/rotation_type.rs of moyo 0.21.0, and changed: digits for entries, twelfths for f64, refusals for panics.
 
+pub mod code;
+pub mod product;
+
 // A rotation by rows: each field is an entry of the matrix plus one, so 0, 1, 2 for −1, 0, 1.
 pub struct Rotation {
     pub xx: u8,

@@ -1,0 +1,63 @@
+use mathlib.Core.Path.{sym, _∙_, ap}
+use Prim.Native.Nat.{ℕ, _%_}
+use Rattle.operation.specs.Digits.{moved-residue}
+use borrow.Author.Needs.{needs}
+use Rattle.operation.proofs.product.moved.Statement.{statement}
+use Rattle.operation.proofs.product.moved.Tie as tie
+use Rattle.operation.proofs.product.moved.Reads as reads
+use Rattle.operation.proofs.product.moved.Lts as lts
+use Rattle.operation.proofs.product.turned.Reads as turned-reads
+use Rattle.operation.proofs.product.wide.Reads as wide-reads
+
+-- src/product.rt:102:15
+turned-requires : tie.Need-turned-requires
+turned-requires c κs = search needs
+
+-- src/product.rt:102:32
+turned-requires-2 : tie.Need-turned-requires-2
+turned-requires-2 c κs = search needs
+
+-- src/product.rt:102:15
+add-sum : tie.Need-add-sum
+add-sum c = search needs
+
+-- src/product.rt:102:49
+turned-requires-3 : tie.Need-turned-requires-3
+turned-requires-3 c κs = search needs
+
+-- src/product.rt:102:15
+add-sum-2 : tie.Need-add-sum-2
+add-sum-2 c = search needs
+
+-- src/product.rt:102:66
+wide-requires : tie.Need-wide-requires
+wide-requires c κs = search needs
+
+-- src/product.rt:102:15
+add-sum-3 : tie.Need-add-sum-3
+add-sum-3 c = search needs
+
+-- src/product.rt:103:5
+cast-result : tie.Need-cast-result
+cast-result c = search needs
+
+-- src/product.rt:99:1
+returns : tie.Need-returns
+returns c =
+    let a = c .before .before .before .before .args in
+    ap (λ (n : ℕ). n % 12) (cc (c .wide .ensures, c .before .turned3 .ensures .0, c .before .before .turned2 .ensures .0, c .before .before .before .turned .ensures .0)) ∙
+    sym (moved-residue (a .a) (a .b) (a .c) (a .u .x) (a .u .y) (a .u .z) (a .t))
+
+pub moved-spec : {M : Type 1} → statement M
+moved-spec =
+    tie.close
+    (tie.spec
+    turned-requires
+    turned-requires-2
+    add-sum
+    turned-requires-3
+    add-sum-2
+    wide-requires
+    add-sum-3
+    cast-result
+    returns)

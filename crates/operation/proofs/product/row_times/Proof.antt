@@ -1,0 +1,74 @@
+use borrow.Author.Tests.{le-ltb, lt-ltb}
+use Rattle.operation.specs.Product.{rowOf, rowInside}
+use borrow.Author.Needs.{needs}
+use Rattle.operation.proofs.product.row_times.Statement.{statement}
+use Rattle.operation.proofs.product.row_times.Tie as tie
+use Rattle.operation.proofs.product.row_times.Reads as reads
+use Rattle.operation.proofs.product.row_times.Lts as lts
+use Rattle.operation.proofs.product.row_times_column.Reads as row-times-column-reads
+
+-- src/product.rt:76:9
+row-times-column-requires : tie.Need-row-times-column-requires
+row-times-column-requires c κs = search needs
+
+-- src/product.rt:78:9
+returns : tie.Need-returns
+unfolding rowOf rowInside
+returns c = simp (← c .before .row-times-column .ensures, le-ltb _ _ (c .if1 .taken))
+
+-- src/product.rt:80:9
+row-times-column-requires-2 : tie.Need-row-times-column-requires-2
+row-times-column-requires-2 c κs = search needs
+
+-- src/product.rt:82:9
+returns-2 : tie.Need-returns-2
+unfolding rowOf rowInside
+returns-2 c =
+    simp (
+      ← c .before .before .before .row-times-column .ensures,
+      ← c .before .row-times-column2 .ensures,
+      lt-ltb _ _ (c .before .before .if1 .left),
+      le-ltb _ _ (c .if2 .taken),
+    )
+
+-- src/product.rt:84:9
+row-times-column-requires-3 : tie.Need-row-times-column-requires-3
+row-times-column-requires-3 c κs = search needs
+
+-- src/product.rt:86:9
+returns-3 : tie.Need-returns-3
+unfolding rowOf rowInside
+returns-3 c =
+    simp (
+      ← c .before .before .before .before .before .row-times-column .ensures,
+      ← c .before .before .before .row-times-column2 .ensures,
+      ← c .before .row-times-column3 .ensures,
+      lt-ltb _ _ (c .before .before .before .before .if1 .left),
+      lt-ltb _ _ (c .before .before .if2 .left),
+      le-ltb _ _ (c .if3 .taken),
+    )
+
+-- src/product.rt:73:1
+returns-4 : tie.Need-returns-4
+unfolding rowOf rowInside
+returns-4 c =
+    simp (
+      ← c .before .before .before .before .before .row-times-column .ensures,
+      ← c .before .before .before .row-times-column2 .ensures,
+      ← c .before .row-times-column3 .ensures,
+      lt-ltb _ _ (c .before .before .before .before .if1 .left),
+      lt-ltb _ _ (c .before .before .if2 .left),
+      lt-ltb _ _ (c .if3 .left),
+    )
+
+pub row-times-spec : {M : Type 1} → statement M
+row-times-spec =
+    tie.close
+    (tie.spec
+    row-times-column-requires
+    returns
+    row-times-column-requires-2
+    returns-2
+    row-times-column-requires-3
+    returns-3
+    returns-4)

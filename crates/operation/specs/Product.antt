@@ -1,0 +1,91 @@
+-- The product of operations by 01, "From generators to a group": (R,t)(S,u) = (RS, Ru + t), modulo 12, or the answer that an entry of RS has left −1..1.
+use mathlib.Core.Path.{_≡_, refl, sym, _∙_, ap}
+use mathlib.Core.Bool.{Bool, true, false, _&&_}
+use Prim.Native.Nat.{ℕ, zero, suc, _+_, _*_}
+use native.Mathlib.Omega.{arith}
+use lib.Dec.{ltb}
+use lib.IntN.{ℤ, pos, negsuc, one, _+ℤ_, _-ℤ_, _*ℤ_}
+use Rattle.laws.specs.Matrix.{Matrix, Vector, dot}
+use Rattle.laws.specs.Motion.{Motion, SpaceMotion, compose}
+use Rattle.laws.specs.Residue.{residue}
+use Rattle.operation.specs.Meaning.{entryOf, digitOf, matrixOf, vectorOf, motionOf}
+use Rattle.operation.specs.declared.Rotation.{Rotation}
+use Rattle.operation.specs.declared.Translation.{Translation}
+use Rattle.operation.specs.declared.Operation.{Operation}
+use Rattle.operation.specs.declared.product.Product.{Product}
+use Rattle.operation.specs.declared.product.Product.the-variants.{Inside, Outside}
+use Rattle.operation.specs.declared.product.Row.{Row}
+use Rattle.operation.specs.declared.product.Row.the-variants.{Inside as RowInside, Outside as RowOutside}
+
+-- The identity: rotation I, translation (0,0,0).
+abbrev pub identityOperation : Operation
+identityOperation =
+    record {
+      rotation = record { xx = 2; xy = 1; xz = 1; yx = 1; yy = 2; yz = 1; zx = 1; zy = 1; zz = 2 };
+      translation = record { x = 0; y = 0; z = 0 };
+    }
+
+-- Whether an entry is −1, 0 or 1.
+abbrev pub inside : ℤ → Bool
+inside e = ltb (digitOf e) 3
+
+unfoldable pub rowInside : ℤ → ℤ → ℤ → Bool
+rowInside p q r = inside p && (inside q && inside r)
+
+abbrev pub allInside : Matrix → Bool
+allInside A =
+    rowInside (A .xx) (A .xy) (A .xz) && (rowInside (A .yx) (A .yy) (A .yz) && rowInside (A .zx) (A .zy) (A .zz))
+
+abbrev pub pick : {A : Type 0} → Bool → A → A → A
+pick true a b = a
+pick false a b = b
+
+unfoldable pub rowOf : ℤ → ℤ → ℤ → Row
+rowOf p q r = pick (rowInside p q r) (RowInside (digitOf p) (digitOf q) (digitOf r)) RowOutside
+
+-- What a row's answer says of its entries.
+row-answer : (b : Bool) (x y z a b′ c : ℕ) → pick b (RowInside x y z) RowOutside ≡ RowInside a b′ c → (b ≡ true) × (a ≡ x) × (b′ ≡ y) × (c ≡ z)
+row-answer true x y z a b′ c e = (refl, (cc), (cc), cc)
+row-answer false x y z a b′ c e = let h : _≡_ {A = ℕ} 0 1 = cc in absurd (omega arith)
+
+row-refusal : (b : Bool) (x y z : ℕ) → pick b (RowInside x y z) RowOutside ≡ RowOutside → b ≡ false
+row-refusal true x y z e = let h : _≡_ {A = ℕ} 0 1 = cc in absurd (omega arith)
+row-refusal false x y z e = refl
+
+pub row-inside : (p q r : ℤ) (a b c : ℕ) → rowOf p q r ≡ RowInside a b c → (rowInside p q r ≡ true) × (a ≡ digitOf p) × (b ≡ digitOf q) × (c ≡ digitOf r)
+unfolding rowOf
+row-inside p q r a b c e = row-answer (rowInside p q r) (digitOf p) (digitOf q) (digitOf r) a b c e
+
+pub row-outside : (p q r : ℤ) → rowOf p q r ≡ RowOutside → rowInside p q r ≡ false
+unfolding rowOf
+row-outside p q r e = row-refusal (rowInside p q r) (digitOf p) (digitOf q) (digitOf r) e
+
+-- A motion with entries in −1..1 as an operation, its translation modulo 12.
+unfoldable pub operationOf : SpaceMotion → Operation
+operationOf m =
+    let A = m .rotation in
+    record {
+      rotation =
+          record {
+            xx = digitOf (A .xx);
+            xy = digitOf (A .xy);
+            xz = digitOf (A .xz);
+            yx = digitOf (A .yx);
+            yy = digitOf (A .yy);
+            yz = digitOf (A .yz);
+            zx = digitOf (A .zx);
+            zy = digitOf (A .zy);
+            zz = digitOf (A .zz);
+          };
+      translation =
+          record {
+            x = residue (m .translation .x);
+            y = residue (m .translation .y);
+            z = residue (m .translation .z);
+          };
+    }
+
+unfoldable pub productOf : Operation → Operation → Product
+productOf f g =
+    let m = compose (motionOf f) (motionOf g) in
+    pick (allInside (m .rotation)) (Inside (operationOf m)) Outside
