@@ -1,13 +1,12 @@
 -- The rotation code of 01, "Group record": the sum of (entry+1)·3^(8−i) over the nine entries by rows, i from 0; and the way back.
 use mathlib.Core.Path.{_≡_, refl, sym, _∙_, ap}
 use mathlib.Core.Logic.{_↔_}
-use mathlib.Core.Bool.{Bool, true, false}
+use mathlib.Core.Bool.{Bool, true, false, cond}
 use Prim.Native.Nat.{ℕ, _+_, _*_, _/_, _%_, _^_, _<_}
 use native.Mathlib.Omega.{arith}
 use lib.Dec.{ltb}
 use borrow.Author.Tests.{lt-ltb}
 use Rattle.operation.specs.Meaning.{Digits, rotation≡}
-use Rattle.operation.specs.Product.{pick}
 use Rattle.operation.specs.declared.Rotation.{Rotation}
 use Rattle.operation.specs.declared.code.Decoded.{Decoded}
 use Rattle.operation.specs.declared.code.Decoded.the-variants.{Inside, Outside}
@@ -34,7 +33,7 @@ rotationOf c =
 
 -- A code is below 3⁹ = 19683.
 abbrev pub decodedOf : ℕ → Decoded
-decodedOf c = pick (ltb c 19683) (Inside (rotationOf c)) Outside
+decodedOf c = cond (ltb c 19683) (Inside (rotationOf c)) Outside
 
 -- A code is at most 19682.
 pub code-lt : (r : Rotation) → Digits r → codeOf r < 19683

@@ -1,7 +1,7 @@
 -- What the product's answer says of motions of space: inside, it is the composed motion modulo 12; outside, an entry of the composed rotation has left −1..1.
 use mathlib.Core.Path.{_≡_, refl, sym, _∙_, ap}
 use mathlib.Core.Logic.{_↔_}
-use mathlib.Core.Bool.{Bool, true, false, true≢false, false≢true}
+use mathlib.Core.Bool.{Bool, true, false, cond, true≢false, false≢true}
 use Prim.Native.Nat.{ℕ, _<_, _%_}
 use native.Mathlib.Omega.{arith}
 use lib.IntN.{ℤ, pos, one, _+ℤ_}
@@ -10,7 +10,7 @@ use Rattle.laws.specs.Matrix.{Matrix, Vector, times, unit, origin, matrix≡}
 use Rattle.laws.specs.Motion.{Motion, SpaceMotion, compose, identity, product}
 use Rattle.laws.specs.Residue.{residue, residue-lt, residue-again, Triple, reduced}
 use Rattle.operation.specs.Meaning.{entryOf, digitOf, matrixOf, vectorOf, motionOf}
-use Rattle.operation.specs.Product.{identityOperation, productOf, operationOf, allInside, pick}
+use Rattle.operation.specs.Product.{identityOperation, productOf, operationOf, allInside}
 use Rattle.operation.specs.Entries.{Entries, all-entries, digit-stands}
 use Rattle.operation.specs.declared.Operation.{Operation}
 use Rattle.operation.specs.declared.product.Product.{Product}
@@ -47,11 +47,11 @@ operation-reduces m e =
     }
 
 -- What a choice between the two answers says of the test.
-chosen-inside : (b : Bool) (h k : Operation) → pick b (Inside k) Outside ≡ Inside h → (b ≡ true) × (k ≡ h)
+chosen-inside : (b : Bool) (h k : Operation) → cond b (Inside k) Outside ≡ Inside h → (b ≡ true) × (k ≡ h)
 chosen-inside true h k e = (refl, cc)
 chosen-inside false h k e = let z : _≡_ {A = ℕ} 0 1 = cc in absurd (omega arith)
 
-chosen-outside : (b : Bool) (k : Operation) → pick b (Inside k) Outside ≡ Outside → b ≡ false
+chosen-outside : (b : Bool) (k : Operation) → cond b (Inside k) Outside ≡ Outside → b ≡ false
 chosen-outside true k e = let z : _≡_ {A = ℕ} 0 1 = cc in absurd (omega arith)
 chosen-outside false k e = refl
 
@@ -73,6 +73,6 @@ product-outside f g =
       λ n. from (allInside (m .rotation)) refl n,
     )
   where
-    from : (b : Bool) → allInside (compose (motionOf f) (motionOf g) .rotation) ≡ b → ¬ Entries (compose (motionOf f) (motionOf g) .rotation) → pick b (Inside (operationOf (compose (motionOf f) (motionOf g)))) Outside ≡ Outside
+    from : (b : Bool) → allInside (compose (motionOf f) (motionOf g) .rotation) ≡ b → ¬ Entries (compose (motionOf f) (motionOf g) .rotation) → cond b (Inside (operationOf (compose (motionOf f) (motionOf g)))) Outside ≡ Outside
     from true t n = absurd (n (all-entries _ .0 t))
     from false t n = refl

@@ -1,6 +1,6 @@
 -- The product of operations by 01, "From generators to a group": (R,t)(S,u) = (RS, Ru + t), modulo 12, or the answer that an entry of RS has left −1..1.
 use mathlib.Core.Path.{_≡_, refl, sym, _∙_, ap}
-use mathlib.Core.Bool.{Bool, true, false, _&&_}
+use mathlib.Core.Bool.{Bool, true, false, cond, _&&_}
 use Prim.Native.Nat.{ℕ, zero, suc, _+_, _*_}
 use native.Mathlib.Omega.{arith}
 use lib.Dec.{ltb}
@@ -36,19 +36,15 @@ abbrev pub allInside : Matrix → Bool
 allInside A =
     rowInside (A .xx) (A .xy) (A .xz) && (rowInside (A .yx) (A .yy) (A .yz) && rowInside (A .zx) (A .zy) (A .zz))
 
-abbrev pub pick : {A : Type 0} → Bool → A → A → A
-pick true a b = a
-pick false a b = b
-
 unfoldable pub rowOf : ℤ → ℤ → ℤ → Row
-rowOf p q r = pick (rowInside p q r) (RowInside (digitOf p) (digitOf q) (digitOf r)) RowOutside
+rowOf p q r = cond (rowInside p q r) (RowInside (digitOf p) (digitOf q) (digitOf r)) RowOutside
 
 -- What a row's answer says of its entries.
-row-answer : (b : Bool) (x y z a b′ c : ℕ) → pick b (RowInside x y z) RowOutside ≡ RowInside a b′ c → (b ≡ true) × (a ≡ x) × (b′ ≡ y) × (c ≡ z)
+row-answer : (b : Bool) (x y z a b′ c : ℕ) → cond b (RowInside x y z) RowOutside ≡ RowInside a b′ c → (b ≡ true) × (a ≡ x) × (b′ ≡ y) × (c ≡ z)
 row-answer true x y z a b′ c e = (refl, (cc), (cc), cc)
 row-answer false x y z a b′ c e = let h : _≡_ {A = ℕ} 0 1 = cc in absurd (omega arith)
 
-row-refusal : (b : Bool) (x y z : ℕ) → pick b (RowInside x y z) RowOutside ≡ RowOutside → b ≡ false
+row-refusal : (b : Bool) (x y z : ℕ) → cond b (RowInside x y z) RowOutside ≡ RowOutside → b ≡ false
 row-refusal true x y z e = let h : _≡_ {A = ℕ} 0 1 = cc in absurd (omega arith)
 row-refusal false x y z e = refl
 
@@ -88,4 +84,4 @@ operationOf m =
 unfoldable pub productOf : Operation → Operation → Product
 productOf f g =
     let m = compose (motionOf f) (motionOf g) in
-    pick (allInside (m .rotation)) (Inside (operationOf m)) Outside
+    cond (allInside (m .rotation)) (Inside (operationOf m)) Outside

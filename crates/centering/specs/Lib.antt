@@ -1,0 +1,2 @@
+-- The letters of 01 as data, and what their lattices are.
+pub mod Letters
