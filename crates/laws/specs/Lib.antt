@@ -1,8 +1,21 @@
--- Mathematics with nothing of crystals in it, each law for any size, order or type: numbers, matrices, motions, lists, closures, lattices, groups, sets.
+-- Mathematics with nothing of crystals in it, each law for any size, order or type.
+-- Numbers, matrices and motions:
 pub mod Integer
 pub mod Matrix
 pub mod Motion
 pub mod Residue
+-- Lists without repeats, in strict order, and closures:
+pub mod Distinct
 pub mod Sorted
+pub mod Closure
+pub mod Keyed
+pub mod OrderedClosure
+pub mod Words
+pub mod ShortlexClosure
+-- Lattices:
+pub mod Lattice
+pub mod LatticeMaps
+-- Finite groups and sets of their elements:
+pub mod FiniteGroup
 pub mod Sets
 pub mod ListOrder

@@ -2,7 +2,7 @@
 -- An entry is named by its row and its column. Every law is an identity of polynomials, so `ring` shows it.
 use mathlib.Core.Path.{_≡_, refl, sym, _∙_, ap, ap₂}
 use mathlib.Core.Logic.{_⊎_, inl, inr}
-use lib.IntN.{ℤ, one, pos, negsuc, negℤ, _+ℤ_, _-ℤ_, _*ℤ_, negℤ-negℤ}
+use lib.IntN.{ℤ, one, pos, negsuc, negℤ, _+ℤ_, _-ℤ_, _*ℤ_, negℤ-negℤ, +ℤ-invr}
 use Rattle.laws.specs.Integer.{ring, nought, *ℤ-nought, _⊖_, outer, cross, cross-nought}
 
 pub record Vector : Type 0 where
@@ -122,6 +122,20 @@ origin-plus v = simp ring
 pub plus-origin : (v : Vector) → plus v origin ≡ v
 unfolding plus origin
 plus-origin v = simp ring
+
+-- A vector less itself; a difference turned round; two differences in a row.
+pub plus-opposite : (v : Vector) → plus v (opposite v) ≡ origin
+unfolding plus opposite origin nought
+plus-opposite v = vector≡ (+ℤ-invr (v .x)) (+ℤ-invr (v .y)) (+ℤ-invr (v .z))
+
+pub opposite-difference : (v w : Vector) → opposite (plus v (opposite w)) ≡ plus w (opposite v)
+unfolding plus opposite
+opposite-difference v w = simp ring
+
+pub difference-chain : (u v w : Vector) → plus (plus u (opposite v)) (plus v (opposite w)) ≡ plus u (opposite w)
+difference-chain u v w =
+    plus-assoc u (opposite v) (plus v (opposite w)) ∙
+    ap (plus u) (sym (plus-assoc (opposite v) v (opposite w)) ∙ ap (λ x. plus x (opposite w)) (plus-comm (opposite v) v ∙ plus-opposite v) ∙ origin-plus (opposite w))
 
 -- ---- determinant and trace
 unfoldable pub trace : Matrix → ℤ

@@ -5,7 +5,7 @@ use native.Mathlib.Omega.{arith}
 use native.Mathlib.Nat.{div-add-mod', mul-comm}
 use lib.IntN.{ℤ, pos, negsuc, negℤ, sucℤ, predℤ, _+ℤ_, _-ℤ_, _*ℤ_, +ℤ-idl, sucℤ-+ℤ, predℤ-+ℤ, zero-*ℤ, sucℤ-*ℤ, predℤ-*ℤ}
 use Rattle.laws.specs.Integer.{integer-induction}
-use Rattle.laws.specs.Matrix.{Matrix, Vector, act, plus, opposite}
+use Rattle.laws.specs.Matrix.{Matrix, Vector, act, plus, opposite, times, unit, act-times, act-unit, act-plus}
 
 -- The one number below 12 that differs from a by a multiple of 12.
 unfoldable pub residue : ℤ → ℕ
@@ -109,3 +109,72 @@ minus t = record { x = (12 - t .x % 12) % 12; y = (12 - t .y % 12) % 12; z = (12
 -- A matrix applied to a triple, modulo 12.
 unfoldable pub turned : Matrix → Triple → Triple
 turned R t = reduced (act R (lifted t))
+
+-- ---- residues of vectors
+pub reduced-plus : (v w : Vector) → reduced (plus v w) ≡ reduced v ⊕ reduced w
+unfolding plus _⊕_
+reduced-plus v w = simp residue-add
+
+pub reduced-opposite : (v : Vector) → reduced (opposite v) ≡ minus (reduced v)
+unfolding opposite minus
+reduced-opposite v =
+    triple≡ (single (v .x)) (single (v .y)) (single (v .z))
+  where
+    single : (a : ℤ) → residue (negℤ a) ≡ (12 - residue a % 12) % 12
+    single a = residue-neg a ∙ omega (arith, residue-lt a)
+
+-- A reduced triple is its own residue; any triple's residues are those of its vector.
+pub reduced-lifted : (t : Triple) → Reduced t → reduced (lifted t) ≡ t
+unfolding residue
+reduced-lifted t h = triple≡ (omega arith) (omega arith) (omega arith)
+
+pub reduced-again : (v : Vector) → reduced (lifted (reduced v)) ≡ reduced v
+reduced-again v = reduced-lifted (reduced v) (reduced-lt v)
+
+-- Rv modulo 12 goes by v modulo 12.
+act-residues : (R : Matrix) (v w : Vector) → reduced v ≡ reduced w → reduced (act R v) ≡ reduced (act R w)
+unfolding act
+act-residues R v w p =
+    let px : residue (v .x) ≡ residue (w .x) = ap (λ (t : Triple). t .x) p in
+    let py : residue (v .y) ≡ residue (w .y) = ap (λ (t : Triple). t .y) p in
+    let pz : residue (v .z) ≡ residue (w .z) = ap (λ (t : Triple). t .z) p in
+    simp (residue-add, residue-mul, px, py, pz)
+
+pub reduced-act : (R : Matrix) (v : Vector) → reduced (act R v) ≡ turned R (reduced v)
+unfolding turned
+reduced-act R v = act-residues R v (lifted (reduced v)) (sym (reduced-again v))
+
+-- Triples are turned by a product as by its factors in turn, by the unit not at all, and sums go over to sums.
+pub turned-times : (R S : Matrix) (t : Triple) → turned (times R S) t ≡ turned R (turned S t)
+unfolding turned
+turned-times R S t = ap reduced (act-times R S (lifted t)) ∙ reduced-act R (act S (lifted t))
+
+pub turned-unit : (t : Triple) → Reduced t → turned unit t ≡ t
+unfolding turned
+turned-unit t h = ap reduced (act-unit (lifted t)) ∙ reduced-lifted t h
+
+lifted-sum : (s t : Triple) → reduced (lifted (s ⊕ t)) ≡ reduced (plus (lifted s) (lifted t))
+unfolding _⊕_ plus residue
+lifted-sum s t = triple≡ (omega arith) (omega arith) (omega arith)
+
+pub turned-sum : (R : Matrix) (s t : Triple) → turned R (s ⊕ t) ≡ turned R s ⊕ turned R t
+unfolding turned
+turned-sum R s t =
+    act-residues R _ _ (lifted-sum s t) ∙ ap reduced (act-plus R (lifted s) (lifted t)) ∙ reduced-plus (act R (lifted s)) (act R (lifted t))
+
+-- ---- triples as a group under ⊕
+pub ⊕-assoc : (r s t : Triple) → r ⊕ s ⊕ t ≡ r ⊕ (s ⊕ t)
+unfolding _⊕_
+⊕-assoc r s t = triple≡ (omega arith) (omega arith) (omega arith)
+
+pub ⊕-comm : (s t : Triple) → s ⊕ t ≡ t ⊕ s
+unfolding _⊕_
+⊕-comm s t = triple≡ (omega arith) (omega arith) (omega arith)
+
+pub ⊕-reduced : (s t : Triple) → Reduced (s ⊕ t)
+unfolding _⊕_
+⊕-reduced s t = omega arith
+
+pub ⊕-minus : (s t : Triple) → Reduced s → s ⊕ t ⊕ minus t ≡ s
+unfolding _⊕_ minus
+⊕-minus s t h = triple≡ (omega arith) (omega arith) (omega arith)

@@ -5,7 +5,7 @@ use Prim.Native.Nat.{ℕ, zero, suc, _+_, _*_}
 use native.Mathlib.Omega.{arith}
 use lib.Dec.{ltb}
 use lib.IntN.{ℤ, pos, negsuc, one, _+ℤ_, _-ℤ_, _*ℤ_}
-use Rattle.laws.specs.Matrix.{Matrix, Vector, dot}
+use Rattle.laws.specs.Matrix.{Matrix, Vector, dot, act}
 use Rattle.laws.specs.Motion.{Motion, SpaceMotion, compose}
 use Rattle.laws.specs.Residue.{residue}
 use Rattle.operation.specs.Meaning.{entryOf, digitOf, matrixOf, vectorOf, motionOf}
@@ -55,6 +55,12 @@ row-inside p q r a b c e = row-answer (rowInside p q r) (digitOf p) (digitOf q) 
 pub row-outside : (p q r : ℤ) → rowOf p q r ≡ RowOutside → rowInside p q r ≡ false
 unfolding rowOf
 row-outside p q r e = row-refusal (rowInside p q r) (digitOf p) (digitOf q) (digitOf r) e
+
+-- A rotation applied to a translation: Rt modulo 12.
+unfoldable pub rotatedOf : Rotation → Translation → Translation
+rotatedOf r t =
+    let v = act (matrixOf r) (vectorOf t) in
+    record { x = residue (v .x); y = residue (v .y); z = residue (v .z) }
 
 -- A motion with entries in −1..1 as an operation, its translation modulo 12.
 unfoldable pub operationOf : SpaceMotion → Operation

@@ -6,7 +6,7 @@ ghost use lib.IntN.{pos, _+ℤ_};
 ghost use Rattle.laws.specs.Matrix.{dot};
 ghost use Rattle.laws.specs.Residue.{residue};
 ghost use Rattle.operation.specs.Meaning.{entryOf, digitOf};
-ghost use Rattle.operation.specs.Product.{identityOperation, rowOf, productOf};
+ghost use Rattle.operation.specs.Product.{identityOperation, rowOf, rotatedOf, productOf};
 use super::Operation;
 use super::Rotation;
 use super::Translation;
@@ -90,7 +90,7 @@ fn row_times(a: u8, b: u8, c: u8, s: Rotation) -> Row
 }
 
 // An entry is a − 1, so modulo 12 it is a + 11.
-fn turned(a: u8, u: u8) -> u32
+fn entry_times(a: u8, u: u8) -> u32
     ensures { λ r. ⌜ (r ≡ (a + 11) * u) × (r ≤ 67830) ⌝ }
 {
     (wide(a) + 11) * wide(u)
@@ -100,8 +100,19 @@ fn turned(a: u8, u: u8) -> u32
 fn moved(a: u8, b: u8, c: u8, u: Translation, t: u8) -> u8
     ensures { λ r. ⌜ r ≡ residue (dot (entryOf a) (entryOf b) (entryOf c) (pos (u .x)) (pos (u .y)) (pos (u .z)) +ℤ pos t) ⌝ }
 {
-    let sum = turned(a, u.x) + turned(b, u.y) + turned(c, u.z) + wide(t);
+    let sum = entry_times(a, u.x) + entry_times(b, u.y) + entry_times(c, u.z) + wide(t);
     (sum % 12) as u8
+}
+
+// Rt modulo 12.
+pub fn rotated(r: Rotation, t: Translation) -> Translation
+    ensures { λ u. ⌜ u ≡ rotatedOf r t ⌝ }
+{
+    Translation {
+        x: moved(r.xx, r.xy, r.xz, t, 0),
+        y: moved(r.yx, r.yy, r.yz, t, 0),
+        z: moved(r.zx, r.zy, r.zz, t, 0),
+    }
 }
 
 pub fn mul(f: Operation, g: Operation) -> Product

@@ -6,24 +6,24 @@ use Rattle.operation.proofs.product.moved.Statement.{statement}
 use Rattle.operation.proofs.product.moved.Tie as tie
 use Rattle.operation.proofs.product.moved.Reads as reads
 use Rattle.operation.proofs.product.moved.Lts as lts
-use Rattle.operation.proofs.product.turned.Reads as turned-reads
+use Rattle.operation.proofs.product.entry_times.Reads as entry-times-reads
 use Rattle.operation.proofs.product.wide.Reads as wide-reads
 
 -- src/product.rt:102:15
-turned-requires : tie.Need-turned-requires
-turned-requires c κs = search needs
+entry-times-requires : tie.Need-entry-times-requires
+entry-times-requires c κs = search needs
 
 -- src/product.rt:102:32
-turned-requires-2 : tie.Need-turned-requires-2
-turned-requires-2 c κs = search needs
+entry-times-requires-2 : tie.Need-entry-times-requires-2
+entry-times-requires-2 c κs = search needs
 
 -- src/product.rt:102:15
 add-sum : tie.Need-add-sum
 add-sum c = search needs
 
 -- src/product.rt:102:49
-turned-requires-3 : tie.Need-turned-requires-3
-turned-requires-3 c κs = search needs
+entry-times-requires-3 : tie.Need-entry-times-requires-3
+entry-times-requires-3 c κs = search needs
 
 -- src/product.rt:102:15
 add-sum-2 : tie.Need-add-sum-2
@@ -45,17 +45,17 @@ cast-result c = search needs
 returns : tie.Need-returns
 returns c =
     let a = c .before .before .before .before .args in
-    ap (λ (n : ℕ). n % 12) (cc (c .wide .ensures, c .before .turned3 .ensures .0, c .before .before .turned2 .ensures .0, c .before .before .before .turned .ensures .0)) ∙
+    ap (λ (n : ℕ). n % 12) (cc (c .wide .ensures, c .before .entry-times3 .ensures .0, c .before .before .entry-times2 .ensures .0, c .before .before .before .entry-times .ensures .0)) ∙
     sym (moved-residue (a .a) (a .b) (a .c) (a .u .x) (a .u .y) (a .u .z) (a .t))
 
 pub moved-spec : {M : Type 1} → statement M
 moved-spec =
     tie.close
     (tie.spec
-    turned-requires
-    turned-requires-2
+    entry-times-requires
+    entry-times-requires-2
     add-sum
-    turned-requires-3
+    entry-times-requires-3
     add-sum-2
     wide-requires
     add-sum-3

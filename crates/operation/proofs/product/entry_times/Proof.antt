@@ -3,10 +3,10 @@ use Prim.Native.Nat.{ℕ, _+_, _*_}
 use native.Mathlib.Omega.{arith}
 use native.Mathlib.Nat.{mul-le-mul}
 use borrow.Author.Needs.{needs}
-use Rattle.operation.proofs.product.turned.Statement.{statement}
-use Rattle.operation.proofs.product.turned.Tie as tie
-use Rattle.operation.proofs.product.turned.Reads as reads
-use Rattle.operation.proofs.product.turned.Lts as lts
+use Rattle.operation.proofs.product.entry_times.Statement.{statement}
+use Rattle.operation.proofs.product.entry_times.Tie as tie
+use Rattle.operation.proofs.product.entry_times.Reads as reads
+use Rattle.operation.proofs.product.entry_times.Lts as lts
 use Rattle.operation.proofs.product.wide.Reads as wide-reads
 
 -- src/product.rt:95:6
@@ -29,5 +29,5 @@ mul-result c = record { fits = omega (arith, mul-le-mul {n₁ = c .before .wide 
 returns : tie.Need-returns
 returns c = (ap₂ (λ (a u : ℕ). (a + 11) * u) (c .before .wide .ensures) (c .wide2 .ensures), mul-le-mul {n₂ = 266} {m₂ = 255} (omega arith) (omega arith))
 
-pub turned-spec : {M : Type 1} → statement M
-turned-spec = tie.close (tie.spec wide-requires add-result wide-requires-2 mul-result returns)
+pub entry-times-spec : {M : Type 1} → statement M
+entry-times-spec = tie.close (tie.spec wide-requires add-result wide-requires-2 mul-result returns)
