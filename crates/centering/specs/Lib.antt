@@ -1,2 +1,4 @@
 -- The letters of 01 as data, and what their lattices are.
 pub mod Letters
+pub mod Lattices
+pub mod PointSearch

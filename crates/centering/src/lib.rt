@@ -1,7 +1,12 @@
 // The centred lattices: letters, points, classes of translations modulo the lattice, and the rotations that map it onto itself.
 // Ported from data/centering.rs of moyo 0.21.0 (`Centering`, `lattice_points`), and changed: points in twelfths, no primitive cells.
 ghost use mathlib.Core.Path.{_≡_};
-ghost use Rattle.centering.specs.Letters.{byteOf, letterOf};
+ghost use Rattle.laws.specs.Distinct.{has};
+ghost use Rattle.laws.specs.Lattice.{sameTriple};
+ghost use Rattle.centering.specs.Letters.{byteOf, letterOf, pointsOf};
+ghost use Rattle.centering.specs.Lattices.{tripleOf, latticePointsOf, differenceOf, containsOf, congruentOf};
+
+use operation::{Rotation, Translation};
 
 // P primitive; A, B, C one face centred; I body centred; R rhombohedral, obverse; F all faces centred.
 pub enum Centering {
@@ -19,6 +24,14 @@ pub enum Letter {
     Is(Centering),
     None,
 }
+
+// The points of a letter, count of them; the rest of the four is (0,0,0) again.
+pub struct LatticePoints {
+    pub count: usize,
+    pub points: [Translation; 4],
+}
+
+const ORIGIN: Translation = Translation { x: 0, y: 0, z: 0 };
 
 impl Centering {
     pub fn from_byte(byte: u8) -> Letter
@@ -49,4 +62,93 @@ impl Centering {
             Centering::F => b'F',
         }
     }
+
+    pub fn lattice_points(self) -> LatticePoints
+        ensures { λ r. ⌜ r ≡ latticePointsOf self ⌝ }
+    {
+        match self {
+            Centering::P => LatticePoints {
+                count: 1,
+                points: [ORIGIN, ORIGIN, ORIGIN, ORIGIN],
+            },
+            Centering::A => LatticePoints {
+                count: 2,
+                points: [ORIGIN, Translation { x: 0, y: 6, z: 6 }, ORIGIN, ORIGIN],
+            },
+            Centering::B => LatticePoints {
+                count: 2,
+                points: [ORIGIN, Translation { x: 6, y: 0, z: 6 }, ORIGIN, ORIGIN],
+            },
+            Centering::C => LatticePoints {
+                count: 2,
+                points: [ORIGIN, Translation { x: 6, y: 6, z: 0 }, ORIGIN, ORIGIN],
+            },
+            Centering::I => LatticePoints {
+                count: 2,
+                points: [ORIGIN, Translation { x: 6, y: 6, z: 6 }, ORIGIN, ORIGIN],
+            },
+            Centering::R => LatticePoints {
+                count: 3,
+                points: [ORIGIN, Translation { x: 8, y: 4, z: 4 }, Translation { x: 4, y: 8, z: 8 }, ORIGIN],
+            },
+            Centering::F => LatticePoints {
+                count: 4,
+                points: [ORIGIN, Translation { x: 0, y: 6, z: 6 }, Translation { x: 6, y: 0, z: 6 }, Translation { x: 6, y: 6, z: 0 }],
+            },
+        }
+    }
+
+    // Whether a translation is in the lattice.
+    pub fn contains(self, t: Translation) -> bool
+        ensures { λ r. ⌜ r ≡ containsOf self t ⌝ }
+    {
+        is_point(self, difference(t, ORIGIN))
+    }
+
+    // Whether two translations are in one class modulo the lattice.
+    pub fn congruent(self, s: Translation, t: Translation) -> bool
+        ensures { λ r. ⌜ r ≡ congruentOf self s t ⌝ }
+    {
+        is_point(self, difference(s, t))
+    }
+}
+
+fn same(s: Translation, t: Translation) -> bool
+    ensures { λ r. ⌜ r ≡ sameTriple (tripleOf s) (tripleOf t) ⌝ }
+{
+    if s.x != t.x {
+        return false;
+    }
+    if s.y != t.y {
+        return false;
+    }
+    s.z == t.z
+}
+
+// s − t modulo 12: −1 is 11.
+fn difference(s: Translation, t: Translation) -> Translation
+    ensures { λ r. ⌜ r ≡ differenceOf s t ⌝ }
+{
+    Translation {
+        x: ((s.x as u32 + 11 * (t.x as u32)) % 12) as u8,
+        y: ((s.y as u32 + 11 * (t.y as u32)) % 12) as u8,
+        z: ((s.z as u32 + 11 * (t.z as u32)) % 12) as u8,
+    }
+}
+
+fn is_point(c: Centering, t: Translation) -> bool
+    ensures { λ r. ⌜ r ≡ has sameTriple (tripleOf t) (pointsOf c) ⌝ }
+{
+    let found = c.lattice_points();
+    let points = found.points;
+    if same(t, points[0]) {
+        return true;
+    }
+    if same(t, points[1]) {
+        return true;
+    }
+    if same(t, points[2]) {
+        return true;
+    }
+    same(t, points[3])
 }

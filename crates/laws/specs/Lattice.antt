@@ -11,7 +11,7 @@ use lib.IntN.{ℤ, pos}
 use Rattle.laws.specs.Integer.{nought}
 use Rattle.laws.specs.Matrix.{Vector, plus, opposite, origin, plus-opposite, opposite-difference, difference-chain}
 use Rattle.laws.specs.Residue.{residue, Triple, triple≡, Reduced, reduced, lifted, reduced-lt, reduced-lifted, _⊕_, minus, reduced-plus, reduced-opposite, ⊕-assoc, ⊕-comm, ⊕-reduced, ⊕-minus}
-use Rattle.laws.specs.Distinct.{has, Distinct, nil, cons, DecidesEquality, Equivalence, equality-equivalence, has→Mem, Mem→has}
+use Rattle.laws.specs.Distinct.{or-left, or-right, or-cases, has, Distinct, nil, cons, DecidesEquality, Equivalence, equality-equivalence, has→Mem, Mem→has}
 
 -- ---- tests
 pub and-left : (a b : Bool) → T (a && b) → T a
@@ -283,3 +283,78 @@ module _ (l : List Triple) (L : Points l) where
   smallest-unique t s h c least =
       rank-injective s (smallest l t) h (smallest-reduced t)
       (omega (arith, smallest-least t s h c, least (smallest l t) (smallest-reduced t) (smallest-congruent t)))
+
+-- ---- a list of points filled up with (0,0,0), which changes nothing: code tests a fixed number of points
+unfoldable pub filled : ℕ → List Triple → List Triple
+filled zero l = l
+filled (suc n) [] = zeroTriple ∷ filled n []
+filled (suc n) (p ∷ l) = p ∷ filled n l
+
+filled-has : (n : ℕ) (l : List Triple) (t : Triple) → T (has sameTriple t (filled n l)) → T (has sameTriple t l) ⊎ (t ≡ zeroTriple)
+unfolding filled has
+filled-has zero l t h = inl h
+filled-has (suc n) [] t h = elim (or-cases (sameTriple t zeroTriple) _ h) [
+  | inl s ↦ inr (triple-decides .exact t zeroTriple s)
+  | inr r ↦ filled-has n [] t r
+]
+filled-has (suc n) (p ∷ l) t h = elim (or-cases (sameTriple t p) _ h) [
+  | inl s ↦ inl (or-left (sameTriple t p) _ s)
+  | inr r ↦ elim (filled-has n l t r) [ inl k ↦ inl (or-right (sameTriple t p) _ k) | inr e ↦ inr e ]
+]
+
+has-filled : (n : ℕ) (l : List Triple) (t : Triple) → T (has sameTriple t l) → T (has sameTriple t (filled n l))
+unfolding filled has
+has-filled zero l t h = h
+has-filled (suc n) (p ∷ l) t h = elim (or-cases (sameTriple t p) _ h) [
+  | inl s ↦ or-left (sameTriple t p) _ s
+  | inr r ↦ or-right (sameTriple t p) _ (has-filled n l t r)
+]
+
+-- Two tests that hold together are equal.
+pub same-test : (a b : Bool) → (T a → T b) → (T b → T a) → a ≡ b
+same-test true true f g = refl
+same-test true false f g = absurd (f tt)
+same-test false true f g = absurd (g tt)
+same-test false false f g = refl
+
+least-rank-filled-le : (n : ℕ) (l : List Triple) (t : Triple) → leastRank (filled n l) t ≤ leastRank l t
+unfolding filled leastRank
+least-rank-filled-le zero l t = omega arith
+least-rank-filled-le (suc n) [] t = let h = least-rank-filled-le n [] t in omega arith
+least-rank-filled-le (suc n) (p ∷ l) t = let h = least-rank-filled-le n l t in omega arith
+
+least-rank-filled-ge : (n : ℕ) (l : List Triple) (t : Triple) → min (leastRank l t) (rank (t ⊕ zeroTriple)) ≤ leastRank (filled n l) t
+unfolding filled leastRank
+least-rank-filled-ge zero l t = omega arith
+least-rank-filled-ge (suc n) [] t = let h = least-rank-filled-ge n [] t in omega arith
+least-rank-filled-ge (suc n) (p ∷ l) t = let h = least-rank-filled-ge n l t in omega arith
+
+filled-all : (n : ℕ) (test : Triple → Bool) (l : List Triple) → T (test zeroTriple) → T (all test l) → T (all test (filled n l))
+unfolding filled all
+filled-all zero test l z h = h
+filled-all (suc n) test [] z h = both (test zeroTriple) _ z (filled-all n test [] z tt)
+filled-all (suc n) test (p ∷ l) z h = both (test p) _ (and-left (test p) _ h) (filled-all n test l z (and-right (test p) _ h))
+
+all-filled : (n : ℕ) (test : Triple → Bool) (l : List Triple) → T (all test (filled n l)) → T (all test l)
+unfolding filled all
+all-filled zero test l h = h
+all-filled (suc n) test [] h = tt
+all-filled (suc n) test (p ∷ l) h = both (test p) _ (and-left (test p) _ h) (all-filled n test l (and-right (test p) _ h))
+
+module _ (l : List Triple) (L : Points l) where
+  pub all-filled-same : (n : ℕ) (test : Triple → Bool) → all test (filled n l) ≡ all test l
+  all-filled-same n test = same-test _ _ (all-filled n test l) (λ h. filled-all n test l (all-member test h (L .holds-zero)) h)
+
+  pub has-filled-same : (n : ℕ) (t : Triple) → has sameTriple t (filled n l) ≡ has sameTriple t l
+  has-filled-same n t =
+      same-test _ _
+      (λ h. elim (filled-has n l t h) [
+        | inl k ↦ k
+        | inr e ↦ Mem→has sameTriple (equality-equivalence sameTriple triple-decides) (mem-cast e (L .holds-zero))
+      ])
+      (has-filled n l t)
+
+  pub smallest-filled : (n : ℕ) (t : Triple) → smallest (filled n l) t ≡ smallest l t
+  unfolding smallest
+  smallest-filled n t =
+      ap unrank (omega (arith, least-rank-filled-le n l t, least-rank-filled-ge n l t, least-rank-le l t (L .holds-zero)))

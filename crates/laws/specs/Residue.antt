@@ -75,6 +75,11 @@ residue-mul a b =
     (λ x h. rw (predℤ-*ℤ x b, residue-add (x *ℤ b) (negℤ b), residue-pred x, residue-neg b, h, remainder-times (residue x + 11) (residue b)) (omega (arith, residue-lt b)))
     a
 
+-- The residue of a difference of naturals: −1 is 11.
+pub residue-difference : (a b : ℕ) → residue (pos a +ℤ negℤ (pos b)) ≡ (a + 11 * b) % 12
+unfolding residue
+residue-difference a b = residue-add (pos a) (negℤ (pos b)) ∙ rw (residue-neg (pos b)) (omega arith)
+
 -- ---- triples of residues
 pub record Triple : Type 0 where
   pub x : ℕ

@@ -1,0 +1,82 @@
+-- What the code's four tests for a point say: the points are filled up to four with (0,0,0), so the tests find a point exactly if there is one.
+use mathlib.Core.Path.{_≡_, refl, sym, _∙_, ap}
+use mathlib.Core.Bool.{Bool, true, false, _||_}
+use mathlib.Core.List.{List, [], _∷_, map}
+use Prim.Native.Nat.{ℕ, zero, suc, _<_}
+use native.Mathlib.Omega.{arith}
+use borrow.Author.Tests.{eq-eqb}
+use lib.Dec.{T, eqb, eqb→eq}
+use lib.ListN.{length, getD}
+use Rattle.laws.specs.Residue.{Triple}
+use Rattle.laws.specs.Distinct.{has}
+use Rattle.laws.specs.Lattice.{sameTriple, filled, all, all-member, has-filled-same}
+use Rattle.operation.specs.declared.Translation.{Translation}
+use Rattle.centering.specs.Letters.{letters, pointsOf}
+use Rattle.centering.specs.Lattices.{listed, points, tripleOf, translationOf, latticePointsOf}
+use Rattle.centering.specs.declared.Centering.{Centering}
+use Rattle.centering.specs.declared.LatticePoints.{LatticePoints}
+
+-- Two triples that agree in x and y are the same exactly if they agree in z.
+pub same-by-last : (s t : Triple) → s .x ≡ t .x → s .y ≡ t .y → eqb (s .z) (t .z) ≡ sameTriple s t
+unfolding sameTriple
+same-by-last s t p q = rw (eq-eqb (s .x) (t .x) p, eq-eqb (s .y) (t .y) q)
+
+four-test : T (all (λ c. eqb (length (filled 4 (pointsOf c))) 4) letters)
+unfolding all filled
+four-test = tt
+
+back-again : (l : List Triple) → map tripleOf (map translationOf l) ≡ l
+back-again [] = refl
+back-again (t ∷ l) = ap (λ r. t ∷ r) (back-again l)
+
+length-points : (l : List Triple) → length (map translationOf l) ≡ length l
+length-points [] = refl
+length-points (t ∷ l) = ap suc (length-points l)
+
+-- There are four, and a triple is among them exactly if it is a point.
+pub four-points : (c : Centering) → length (latticePointsOf c .points) ≡ 4
+unfolding latticePointsOf
+four-points c =
+    length-points (filled 4 (pointsOf c)) ∙ eqb→eq _ _ (all-member (λ c. eqb (length (filled 4 (pointsOf c))) 4) four-test (listed c))
+
+pub among-points : (c : Centering) (u : Triple) → has sameTriple u (map tripleOf (latticePointsOf c .points)) ≡ has sameTriple u (pointsOf c)
+unfolding latticePointsOf
+among-points c u = ap (has sameTriple u) (back-again (filled 4 (pointsOf c))) ∙ has-filled-same (pointsOf c) (points c) 4 u
+
+-- A test that passes finds.
+or-true : (a b : Bool) → b ≡ true → a || b ≡ true
+or-true true b h = refl
+or-true false b h = h
+
+pub found : (l : List Translation) (u : Triple) (d : Translation) (i : ℕ) → i < length l → sameTriple u (tripleOf (getD l i d)) ≡ true → has sameTriple u (map tripleOf l) ≡ true
+unfolding has
+found (t ∷ l) u d zero h e = rw e refl
+found (t ∷ l) u d (suc i) h e = or-true (sameTriple u (tripleOf t)) _ (found l u d i (omega arith) e)
+
+-- Where the first three fail, the fourth decides.
+or-false : (a : Bool) → a || false ≡ a
+or-false true = refl
+or-false false = refl
+
+pub fourth : (l : List Translation) (u : Triple) (d : Translation) → length l ≡ 4 → sameTriple u (tripleOf (getD l 0 d)) ≡ false → sameTriple u (tripleOf (getD l 1 d)) ≡ false → sameTriple u (tripleOf (getD l 2 d)) ≡ false → has sameTriple u (map tripleOf l) ≡ sameTriple u (tripleOf (getD l 3 d))
+unfolding has
+fourth (p ∷ q ∷ r ∷ s ∷ []) u d h e f g = rw (e, f, g) (or-false (sameTriple u (tripleOf s)))
+fourth [] u d h e f g = absurd (omega arith)
+fourth (p ∷ []) u d h e f g = absurd (omega arith)
+fourth (p ∷ q ∷ []) u d h e f g = absurd (omega arith)
+fourth (p ∷ q ∷ r ∷ []) u d h e f g = absurd (omega arith)
+fourth (p ∷ q ∷ r ∷ s ∷ t ∷ l) u d h e f g = absurd (omega arith)
+
+-- The same of what `lattice_points` answers.
+module _ (c : Centering) (r : LatticePoints) (answer : r ≡ latticePointsOf c) (u : Triple) (d : Translation) where
+  four : length (r .points) ≡ 4
+  four = ap (λ (p : LatticePoints). length (p .points)) answer ∙ four-points c
+
+  among : has sameTriple u (map tripleOf (r .points)) ≡ has sameTriple u (pointsOf c)
+  among = ap (λ (p : LatticePoints). has sameTriple u (map tripleOf (p .points))) answer ∙ among-points c u
+
+  pub search-found : (i : ℕ) → i < 4 → sameTriple u (tripleOf (getD (r .points) i d)) ≡ true → true ≡ has sameTriple u (pointsOf c)
+  search-found i h e = sym (sym among ∙ found (r .points) u d i (omega (arith, four)) e)
+
+  pub search-fourth : sameTriple u (tripleOf (getD (r .points) 0 d)) ≡ false → sameTriple u (tripleOf (getD (r .points) 1 d)) ≡ false → sameTriple u (tripleOf (getD (r .points) 2 d)) ≡ false → sameTriple u (tripleOf (getD (r .points) 3 d)) ≡ has sameTriple u (pointsOf c)
+  search-fourth e f g = sym (sym among ∙ fourth (r .points) u d four e f g)
