@@ -2,17 +2,17 @@
 use mathlib.Core.Path.{_≡_, refl, sym, _∙_, ap}
 use mathlib.Core.Bool.{Bool, true, false, _||_}
 use mathlib.Core.List.{List, [], _∷_, map}
-use Prim.Native.Nat.{ℕ, zero, suc, _<_}
+use Prim.Native.Nat.{ℕ, zero, suc, min, _<_}
 use native.Mathlib.Omega.{arith}
 use borrow.Author.Tests.{eq-eqb}
 use lib.Dec.{T, eqb, eqb→eq}
 use lib.ListN.{length, getD}
-use Rattle.laws.specs.Residue.{Triple}
+use Rattle.laws.specs.Residue.{Triple, _⊕_, ⊕-reduced}
 use Rattle.laws.specs.Distinct.{has}
-use Rattle.laws.specs.Lattice.{sameTriple, filled, all, all-member, has-filled-same}
+use Rattle.laws.specs.Lattice.{sameTriple, filled, all, all-member, has-filled-same, rank, unrank, rank-lt, leastRank, smallest, smallest-filled}
 use Rattle.operation.specs.declared.Translation.{Translation}
 use Rattle.centering.specs.Letters.{letters, pointsOf}
-use Rattle.centering.specs.Lattices.{listed, points, tripleOf, translationOf, latticePointsOf}
+use Rattle.centering.specs.Lattices.{listed, points, tripleOf, translationOf, latticePointsOf, smallestOf}
 use Rattle.centering.specs.declared.Centering.{Centering}
 use Rattle.centering.specs.declared.LatticePoints.{LatticePoints}
 
@@ -80,3 +80,31 @@ module _ (c : Centering) (r : LatticePoints) (answer : r ≡ latticePointsOf c) 
 
   pub search-fourth : sameTriple u (tripleOf (getD (r .points) 0 d)) ≡ false → sameTriple u (tripleOf (getD (r .points) 1 d)) ≡ false → sameTriple u (tripleOf (getD (r .points) 2 d)) ≡ false → sameTriple u (tripleOf (getD (r .points) 3 d)) ≡ has sameTriple u (pointsOf c)
   search-fourth e f g = sym (sym among ∙ fourth (r .points) u d four e f g)
+
+-- ---- the smallest triple
+smallest-points : (c : Centering) (u : Triple) → unrank (leastRank (map tripleOf (latticePointsOf c .points)) u) ≡ smallest (pointsOf c) u
+unfolding latticePointsOf smallest
+smallest-points c u = ap (λ l. unrank (leastRank l u)) (back-again (filled 4 (pointsOf c))) ∙ smallest-filled (pointsOf c) (points c) 4 u
+
+-- The least rank over four is the least of the four ranks.
+least-of-four : (l : List Translation) (u : Triple) (d : Translation) → length l ≡ 4 → leastRank (map tripleOf l) u ≡ min (rank (u ⊕ tripleOf (getD l 0 d))) (min (rank (u ⊕ tripleOf (getD l 1 d))) (min (rank (u ⊕ tripleOf (getD l 2 d))) (rank (u ⊕ tripleOf (getD l 3 d)))))
+unfolding leastRank
+least-of-four (p ∷ q ∷ r ∷ s ∷ []) u d h =
+    let last : min (rank (u ⊕ tripleOf s)) 1728 ≡ rank (u ⊕ tripleOf s) = omega (arith, rank-lt (u ⊕ tripleOf s) (⊕-reduced u (tripleOf s))) in
+    rw last
+least-of-four [] u d h = absurd (omega arith)
+least-of-four (p ∷ []) u d h = absurd (omega arith)
+least-of-four (p ∷ q ∷ []) u d h = absurd (omega arith)
+least-of-four (p ∷ q ∷ r ∷ []) u d h = absurd (omega arith)
+least-of-four (p ∷ q ∷ r ∷ s ∷ t ∷ l) u d h = absurd (omega arith)
+
+module _ (c : Centering) (r : LatticePoints) (answer : r ≡ latticePointsOf c) (t d : Translation) where
+  -- What the code makes of the four ranks is the smallest triple of the class.
+  pub smallest-of-four : (n : ℕ) → n ≡ min (rank (tripleOf t ⊕ tripleOf (getD (r .points) 0 d))) (min (rank (tripleOf t ⊕ tripleOf (getD (r .points) 1 d))) (min (rank (tripleOf t ⊕ tripleOf (getD (r .points) 2 d))) (rank (tripleOf t ⊕ tripleOf (getD (r .points) 3 d))))) → translationOf (unrank n) ≡ smallestOf c t
+  unfolding smallestOf
+  smallest-of-four n e =
+      ap translationOf
+      (ap unrank (e ∙ sym (least-of-four (r .points) (tripleOf t) d (ap (λ (p : LatticePoints). length (p .points)) answer ∙ four-points c))) ∙ whole)
+    where
+      whole : unrank (leastRank (map tripleOf (r .points)) (tripleOf t)) ≡ smallest (pointsOf c) (tripleOf t)
+      whole = ap (λ (p : LatticePoints). unrank (leastRank (map tripleOf (p .points)) (tripleOf t))) answer ∙ smallest-points c (tripleOf t)

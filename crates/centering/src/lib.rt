@@ -1,12 +1,14 @@
 // The centred lattices: letters, points, classes of translations modulo the lattice, and the rotations that map it onto itself.
 // Ported from data/centering.rs of moyo 0.21.0 (`Centering`, `lattice_points`), and changed: points in twelfths, no primitive cells.
 ghost use mathlib.Core.Path.{_≡_};
+ghost use Prim.Native.Nat.{min, _<_};
 ghost use Rattle.laws.specs.Distinct.{has};
-ghost use Rattle.laws.specs.Lattice.{sameTriple};
+ghost use Rattle.laws.specs.Lattice.{sameTriple, rank, unrank};
+ghost use Rattle.laws.specs.Residue.{_⊕_};
 ghost use Rattle.centering.specs.Letters.{byteOf, letterOf, pointsOf};
-ghost use Rattle.centering.specs.Lattices.{tripleOf, latticePointsOf, differenceOf, containsOf, congruentOf};
-
-use operation::{Rotation, Translation};
+ghost use Rattle.centering.specs.Lattices.{tripleOf, translationOf, latticePointsOf, smallestOf, differenceOf, containsOf, congruentOf};
+use operation::Rotation;
+use operation::Translation;
 
 // P primitive; A, B, C one face centred; I body centred; R rhombohedral, obverse; F all faces centred.
 pub enum Centering {
@@ -89,11 +91,21 @@ impl Centering {
             },
             Centering::R => LatticePoints {
                 count: 3,
-                points: [ORIGIN, Translation { x: 8, y: 4, z: 4 }, Translation { x: 4, y: 8, z: 8 }, ORIGIN],
+                points: [
+                    ORIGIN,
+                    Translation { x: 8, y: 4, z: 4 },
+                    Translation { x: 4, y: 8, z: 8 },
+                    ORIGIN,
+                ],
             },
             Centering::F => LatticePoints {
                 count: 4,
-                points: [ORIGIN, Translation { x: 0, y: 6, z: 6 }, Translation { x: 6, y: 0, z: 6 }, Translation { x: 6, y: 6, z: 0 }],
+                points: [
+                    ORIGIN,
+                    Translation { x: 0, y: 6, z: 6 },
+                    Translation { x: 6, y: 0, z: 6 },
+                    Translation { x: 6, y: 6, z: 0 },
+                ],
             },
         }
     }
@@ -103,6 +115,19 @@ impl Centering {
         ensures { λ r. ⌜ r ≡ containsOf self t ⌝ }
     {
         is_point(self, difference(t, ORIGIN))
+    }
+
+    // The smallest triple of a translation's class modulo the lattice, compared x first.
+    pub fn smallest(self, t: Translation) -> Translation
+        ensures { λ r. ⌜ r ≡ smallestOf self t ⌝ }
+    {
+        let found = self.lattice_points();
+        let points = found.points;
+        let first = moved_rank(t, points[0]);
+        let second = moved_rank(t, points[1]);
+        let third = moved_rank(t, points[2]);
+        let fourth = moved_rank(t, points[3]);
+        of_rank(lesser(first, lesser(second, lesser(third, fourth))))
     }
 
     // Whether two translations are in one class modulo the lattice.
@@ -151,4 +176,34 @@ fn is_point(c: Centering, t: Translation) -> bool
         return true;
     }
     same(t, points[3])
+}
+
+// The rank of t + p modulo 12: triples below 12 compare as their ranks do, x first.
+fn moved_rank(t: Translation, p: Translation) -> u32
+    ensures { λ r. ⌜ (r ≡ rank (tripleOf t ⊕ tripleOf p)) × (r < 1728) ⌝ }
+{
+    let x = (t.x as u32 + p.x as u32) % 12;
+    let y = (t.y as u32 + p.y as u32) % 12;
+    let z = (t.z as u32 + p.z as u32) % 12;
+    x * 144 + y * 12 + z
+}
+
+fn lesser(a: u32, b: u32) -> u32
+    ensures { λ r. ⌜ r ≡ min a b ⌝ }
+{
+    if a < b {
+        return a;
+    }
+    b
+}
+
+fn of_rank(rank: u32) -> Translation
+    requires { ⌜ rank < 1728 ⌝ }
+    ensures { λ r. ⌜ r ≡ translationOf (unrank rank) ⌝ }
+{
+    Translation {
+        x: (rank / 144) as u8,
+        y: (rank / 12 % 12) as u8,
+        z: (rank % 12) as u8,
+    }
 }

@@ -176,7 +176,7 @@ before-rank s t h k = ((λ b. forth s t h k b), λ r. back s t h k r)
       ]
     ]
 
-rank-lt : (t : Triple) → Reduced t → rank t < 1728
+pub rank-lt : (t : Triple) → Reduced t → rank t < 1728
 unfolding rank
 rank-lt t h = omega arith
 

@@ -6,12 +6,12 @@ use Prim.Native.Nat.{ℕ, _<_, _%_}
 use native.Mathlib.Omega.{arith}
 use lib.IntN.{ℤ, pos, one, _+ℤ_}
 use Rattle.laws.specs.Integer.{nought}
-use Rattle.laws.specs.Matrix.{Matrix, Vector, times, unit, origin, matrix≡}
+use Rattle.laws.specs.Matrix.{Matrix, Vector, times, unit, origin}
 use Rattle.laws.specs.Motion.{Motion, SpaceMotion, compose, identity, product}
 use Rattle.laws.specs.Residue.{residue, residue-lt, residue-again, Triple, reduced}
-use Rattle.operation.specs.Meaning.{entryOf, digitOf, matrixOf, vectorOf, motionOf}
-use Rattle.operation.specs.Product.{identityOperation, productOf, operationOf, allInside}
-use Rattle.operation.specs.Entries.{Entries, all-entries, digit-stands}
+use Rattle.operation.specs.Meaning.{entryOf, digitOf, matrixOf, vectorOf, motionOf, allInside}
+use Rattle.operation.specs.Product.{identityOperation, productOf, operationOf}
+use Rattle.operation.specs.Entries.{Entries, all-entries, digits-stand}
 use Rattle.operation.specs.declared.Operation.{Operation}
 use Rattle.operation.specs.declared.product.Product.{Product}
 use Rattle.operation.specs.declared.product.Product.the-variants.{Inside, Outside}
@@ -28,20 +28,10 @@ pub record Reduces (m : SpaceMotion) (h : Operation) : Type 0 where
   pub small : (h .translation .x < 12) × (h .translation .y < 12) × (h .translation .z < 12)
 
 pub operation-reduces : (m : SpaceMotion) → Entries (m .rotation) → Reduces m (operationOf m)
-unfolding operationOf matrixOf vectorOf
+unfolding operationOf vectorOf
 operation-reduces m e =
     record {
-      rotation =
-          matrix≡
-          (digit-stands _ (e .xx))
-          (digit-stands _ (e .xy))
-          (digit-stands _ (e .xz))
-          (digit-stands _ (e .yx))
-          (digit-stands _ (e .yy))
-          (digit-stands _ (e .yz))
-          (digit-stands _ (e .zx))
-          (digit-stands _ (e .zy))
-          (digit-stands _ (e .zz));
+      rotation = digits-stand (m .rotation) e;
       translation = simp residue-again;
       small = (residue-lt (m .translation .x), residue-lt (m .translation .y), residue-lt (m .translation .z));
     }

@@ -5,12 +5,11 @@ use mathlib.Core.Bool.{Bool, true, false, _&&_, false≢true}
 use Prim.Native.Nat.{ℕ, zero, suc, _+_, _<_, _≤_}
 use native.Mathlib.Omega.{arith}
 use lib.Dec.{ltb}
-use borrow.Author.Tests.{ltb-true, lt-ltb}
+use borrow.Author.Tests.{ltb-true, lt-ltb, lt-leb}
 use lib.IntN.{ℤ, pos, negsuc, negℤ, sucℤ, one, _+ℤ_, _-ℤ_, +ℤ-one, -ℤ-one}
 use Rattle.laws.specs.Integer.{nought}
 use Rattle.laws.specs.Matrix.{Matrix, matrix≡}
-use Rattle.operation.specs.Meaning.{entryOf, digitOf, digitAbove, matrixOf, Digits}
-use Rattle.operation.specs.Product.{inside, rowInside, allInside}
+use Rattle.operation.specs.Meaning.{entryOf, digitOf, digitAbove, matrixOf, digitsOf, Digits, inside, rowInside, allInside}
 use Rattle.operation.specs.declared.Rotation.{Rotation}
 
 -- An entry is −1, 0 or 1.
@@ -63,7 +62,7 @@ digit-again (suc zero) h = refl
 digit-again (suc (suc zero)) h = refl
 digit-again (suc (suc (suc d))) h = absurd (omega arith)
 
-below-three : (d : ℕ) → Entry (entryOf d) → d < 3
+below-three : (d : ℕ) → Entry (entryOf d) → d ≤ 2
 unfolding digitAbove entryOf one
 below-three zero h = omega arith
 below-three (suc zero) h = omega arith
@@ -72,30 +71,40 @@ below-three (suc (suc (suc d))) h =
     let large : digitOf (entryOf (suc (suc (suc d)))) ≡ 3 = digit-next (entryOf (suc (suc (suc d)))) ∙ ap (λ e. digitAbove (sucℤ e)) (-ℤ-one (pos (suc (suc (suc d))))) in
     absurd (omega (arith, entry-digit _ h))
 
+-- The test of an entry, by its digit.
+pub inside-digit : (e : ℤ) → inside e ≡ ltb (digitOf e) 3
+unfolding inside digitAbove digitOf one
+inside-digit (pos zero) = refl
+inside-digit (pos (suc zero)) = refl
+inside-digit (pos (suc (suc n))) = rw (digit-next (pos (suc (suc n)))) (lt-leb (suc (suc n)) 1 (omega arith))
+inside-digit (negsuc zero) = refl
+inside-digit (negsuc (suc n)) = rw (digit-next (negsuc (suc n))) (lt-leb (suc (suc n)) 1 (omega arith))
+
 pub inside-entry : (e : ℤ) → (inside e ≡ true) ↔ Entry e
-inside-entry e = ((λ t. digit-entry e (ltb-true (digitOf e) 3 t)), λ h. lt-ltb (digitOf e) 3 (entry-digit e h))
+inside-entry e = ((λ t. digit-entry e (ltb-true (digitOf e) 3 (sym (inside-digit e) ∙ t))), λ h. inside-digit e ∙ lt-ltb (digitOf e) 3 (entry-digit e h))
 
 -- ---- all nine
-and-true : (a b : Bool) → a && b ≡ true → (a ≡ true) × (b ≡ true)
-and-true true b h = (refl, h)
-and-true false b h = absurd (false≢true h)
+-- Three tests that pass together pass each.
+pub three-true : (a b c : Bool) → a && b && c ≡ true → (a ≡ true) × (b ≡ true) × (c ≡ true)
+three-true true true c h = (refl, refl, h)
+three-true true false c h = absurd (false≢true h)
+three-true false b c h = absurd (false≢true h)
 
 row-entries : (p q r : ℤ) → (rowInside p q r ≡ true) ↔ (Entry p × Entry q × Entry r)
 unfolding rowInside
 row-entries p q r = (
   (λ h.
-      let (hp, rest) = and-true (inside p) (inside q && inside r) h in
-      let (hq, hr) = and-true (inside q) (inside r) rest in
+      let (hp, hq, hr) = three-true (inside p) (inside q) (inside r) h in
       (inside-entry p .0 hp, inside-entry q .0 hq, inside-entry r .0 hr)),
   λ (p′, q′, r′). rw (inside-entry p .1 p′, inside-entry q .1 q′, inside-entry r .1 r′),
 )
 
--- The test of the code passes exactly if all nine entries are in −1..1.
+-- The test passes exactly if all nine entries are in −1..1.
 pub all-entries : (A : Matrix) → (allInside A ≡ true) ↔ Entries A
+unfolding allInside
 all-entries A = (
   (λ h.
-      let (hx, rest) = and-true (rowInside (A .xx) (A .xy) (A .xz)) _ h in
-      let (hy, hz) = and-true (rowInside (A .yx) (A .yy) (A .yz)) _ rest in
+      let (hx, hy, hz) = three-true (rowInside (A .xx) (A .xy) (A .xz)) (rowInside (A .yx) (A .yy) (A .yz)) (rowInside (A .zx) (A .zy) (A .zz)) h in
       let x = row-entries (A .xx) (A .xy) (A .xz) .0 hx in
       let y = row-entries (A .yx) (A .yy) (A .yz) .0 hy in
       let z = row-entries (A .zx) (A .zy) (A .zz) .0 hz in
@@ -138,5 +147,20 @@ digits-entries r = (
       },
 )
   where
-    stands : {d : ℕ} → d < 3 → Entry (entryOf d)
-    stands {d} h = digit-entry (entryOf d) (omega (arith, digit-again d h))
+    stands : {d : ℕ} → d ≤ 2 → Entry (entryOf d)
+    stands {d} h = digit-entry (entryOf d) (omega (arith, digit-again d (omega arith)))
+
+-- A matrix with all entries in −1..1 is that of its digits.
+pub digits-stand : (A : Matrix) → Entries A → matrixOf (digitsOf A) ≡ A
+unfolding matrixOf
+digits-stand A e =
+    matrix≡
+    (digit-stands _ (e .xx))
+    (digit-stands _ (e .xy))
+    (digit-stands _ (e .xz))
+    (digit-stands _ (e .yx))
+    (digit-stands _ (e .yy))
+    (digit-stands _ (e .yz))
+    (digit-stands _ (e .zx))
+    (digit-stands _ (e .zy))
+    (digit-stands _ (e .zz))

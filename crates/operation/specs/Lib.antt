@@ -1,7 +1,15 @@
--- What rotations, translations and operations mean: integer matrices, integer vectors in twelfths, and motions.
+-- What rotations, translations and operations mean, and what the answers of this room say of them.
+-- Meaning: matrices, vectors and motions behind the numbers.
 pub mod Meaning
 pub mod Digits
-pub mod Product
-pub mod Code
 pub mod Entries
+-- The product, the code, the type, doubles.
+pub mod Product
 pub mod Composed
+pub mod Code
+pub mod Answer
+pub mod RotationType
+pub mod Below
+pub mod DigitDeterminant
+pub mod Turns
+pub mod Doubles

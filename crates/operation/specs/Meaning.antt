@@ -1,7 +1,9 @@
 -- What the numbers of the code mean: a digit is an entry of a matrix, a rotation an integer matrix, an operation a motion of space.
 use mathlib.Core.Path.{_≡_}
-use Prim.Native.Nat.{ℕ, zero, suc, _<_}
-use lib.IntN.{ℤ, pos, negsuc, one, _+ℤ_, _-ℤ_}
+use mathlib.Core.Bool.{Bool, _&&_}
+use Prim.Native.Nat.{ℕ, zero, suc, _≤_}
+use lib.Dec.{leb}
+use lib.IntN.{ℤ, pos, negsuc, natAbs, one, _+ℤ_, _-ℤ_}
 use Rattle.laws.specs.Matrix.{Matrix, Vector}
 use Rattle.laws.specs.Motion.{Motion, SpaceMotion}
 use Rattle.operation.specs.declared.Rotation.{Rotation}
@@ -45,18 +47,44 @@ digitAbove (negsuc n) = 3
 unfoldable pub digitOf : ℤ → ℕ
 digitOf e = digitAbove (e +ℤ one)
 
--- Each digit is below 3: each entry is −1, 0 or 1.
+-- The digits of a matrix of any integers.
+abbrev pub digitsOf : Matrix → Rotation
+digitsOf A =
+    record {
+      xx = digitOf (A .xx);
+      xy = digitOf (A .xy);
+      xz = digitOf (A .xz);
+      yx = digitOf (A .yx);
+      yy = digitOf (A .yy);
+      yz = digitOf (A .yz);
+      zx = digitOf (A .zx);
+      zy = digitOf (A .zy);
+      zz = digitOf (A .zz);
+    }
+
+-- Each digit is 0, 1 or 2: each entry is −1, 0 or 1.
 pub record Digits (r : Rotation) : Type 0 where
-  pub xx : r .xx < 3
-  pub xy : r .xy < 3
-  pub xz : r .xz < 3
-  pub yx : r .yx < 3
-  pub yy : r .yy < 3
-  pub yz : r .yz < 3
-  pub zx : r .zx < 3
-  pub zy : r .zy < 3
-  pub zz : r .zz < 3
+  pub xx : r .xx ≤ 2
+  pub xy : r .xy ≤ 2
+  pub xz : r .xz ≤ 2
+  pub yx : r .yx ≤ 2
+  pub yy : r .yy ≤ 2
+  pub yz : r .yz ≤ 2
+  pub zx : r .zx ≤ 2
+  pub zy : r .zy ≤ 2
+  pub zz : r .zz ≤ 2
 
 pub rotation≡ : {r s : Rotation} → r .xx ≡ s .xx → r .xy ≡ s .xy → r .xz ≡ s .xz → r .yx ≡ s .yx → r .yy ≡ s .yy → r .yz ≡ s .yz → r .zx ≡ s .zx → r .zy ≡ s .zy → r .zz ≡ s .zz → r ≡ s
 rotation≡ xx xy xz yx yy yz zx zy zz =
     λ i. record { xx = xx i; xy = xy i; xz = xz i; yx = yx i; yy = yy i; yz = yz i; zx = zx i; zy = zy i; zz = zz i }
+
+-- Whether an entry is in −1..1; three of a row; all nine of a matrix.
+unfoldable pub inside : ℤ → Bool
+inside e = leb (natAbs e) 1
+
+unfoldable pub rowInside : ℤ → ℤ → ℤ → Bool
+rowInside p q r = inside p && inside q && inside r
+
+unfoldable pub allInside : Matrix → Bool
+allInside A =
+    rowInside (A .xx) (A .xy) (A .xz) && rowInside (A .yx) (A .yy) (A .yz) && rowInside (A .zx) (A .zy) (A .zz)

@@ -8,7 +8,7 @@ use lib.IntN.{ℤ, pos, negsuc, one, _+ℤ_, _-ℤ_, _*ℤ_}
 use Rattle.laws.specs.Matrix.{Matrix, Vector, dot, act}
 use Rattle.laws.specs.Motion.{Motion, SpaceMotion, compose}
 use Rattle.laws.specs.Residue.{residue}
-use Rattle.operation.specs.Meaning.{entryOf, digitOf, matrixOf, vectorOf, motionOf}
+use Rattle.operation.specs.Meaning.{entryOf, digitOf, matrixOf, vectorOf, motionOf, digitsOf, rowInside, allInside}
 use Rattle.operation.specs.declared.Rotation.{Rotation}
 use Rattle.operation.specs.declared.Translation.{Translation}
 use Rattle.operation.specs.declared.Operation.{Operation}
@@ -24,17 +24,6 @@ identityOperation =
       rotation = record { xx = 2; xy = 1; xz = 1; yx = 1; yy = 2; yz = 1; zx = 1; zy = 1; zz = 2 };
       translation = record { x = 0; y = 0; z = 0 };
     }
-
--- Whether an entry is −1, 0 or 1.
-abbrev pub inside : ℤ → Bool
-inside e = ltb (digitOf e) 3
-
-unfoldable pub rowInside : ℤ → ℤ → ℤ → Bool
-rowInside p q r = inside p && (inside q && inside r)
-
-abbrev pub allInside : Matrix → Bool
-allInside A =
-    rowInside (A .xx) (A .xy) (A .xz) && (rowInside (A .yx) (A .yy) (A .yz) && rowInside (A .zx) (A .zy) (A .zz))
 
 unfoldable pub rowOf : ℤ → ℤ → ℤ → Row
 rowOf p q r = cond (rowInside p q r) (RowInside (digitOf p) (digitOf q) (digitOf r)) RowOutside
@@ -65,20 +54,8 @@ rotatedOf r t =
 -- A motion with entries in −1..1 as an operation, its translation modulo 12.
 unfoldable pub operationOf : SpaceMotion → Operation
 operationOf m =
-    let A = m .rotation in
     record {
-      rotation =
-          record {
-            xx = digitOf (A .xx);
-            xy = digitOf (A .xy);
-            xz = digitOf (A .xz);
-            yx = digitOf (A .yx);
-            yy = digitOf (A .yy);
-            yz = digitOf (A .yz);
-            zx = digitOf (A .zx);
-            zy = digitOf (A .zy);
-            zz = digitOf (A .zz);
-          };
+      rotation = digitsOf (m .rotation);
       translation =
           record {
             x = residue (m .translation .x);

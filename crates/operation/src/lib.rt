@@ -2,7 +2,9 @@
 // Ported from base/operation.rs and identify/rotation_type.rs of moyo 0.21.0, and changed: digits for entries, twelfths for f64, refusals for panics.
 
 pub mod code;
+pub mod doubles;
 pub mod product;
+pub mod rotation_type;
 
 // A rotation by rows: each field is an entry of the matrix plus one, so 0, 1, 2 for −1, 0, 1.
 pub struct Rotation {

@@ -1,7 +1,7 @@
 use mathlib.Core.Path.{sym, _∙_}
 use Rattle.laws.specs.Matrix.{times, act, plus}
 use Rattle.laws.specs.Motion.{product}
-use Rattle.operation.specs.Meaning.{motionOf, matrixOf, vectorOf}
+use Rattle.operation.specs.Meaning.{motionOf, matrixOf, vectorOf, allInside}
 use Rattle.operation.specs.Product.{productOf, operationOf, row-inside, row-outside}
 use borrow.Author.Needs.{needs}
 use Rattle.operation.proofs.product.mul.Statement.{statement}
@@ -25,7 +25,7 @@ enum-told c = search needs
 
 -- src/product.rt:114:9
 returns : tie.Need-returns
-unfolding productOf motionOf matrixOf vectorOf product times act plus
+unfolding productOf allInside motionOf matrixOf vectorOf product times act plus
 returns c = simp (row-outside _ _ _ (sym (c .before .before .row-times .ensures) ∙ c .enum-told .given .1))
 
 -- src/product.rt:116:35
@@ -42,7 +42,7 @@ enum-told-2 c = search needs
 
 -- src/product.rt:117:9
 returns-2 : tie.Need-returns-2
-unfolding productOf motionOf matrixOf vectorOf product times act plus
+unfolding productOf allInside motionOf matrixOf vectorOf product times act plus
 returns-2 c =
     let first = row-inside _ _ _ _ _ _ (sym (c .before .before .before .before .before .before .row-times .ensures) ∙ c .before .before .before .before .xx .given .1) in
     simp (first .0, row-outside _ _ _ (sym (c .before .before .row-times2 .ensures) ∙ c .enum-told2 .given .1))
@@ -61,7 +61,7 @@ enum-told-3 c = search needs
 
 -- src/product.rt:120:9
 returns-3 : tie.Need-returns-3
-unfolding productOf motionOf matrixOf vectorOf product times act plus
+unfolding productOf allInside motionOf matrixOf vectorOf product times act plus
 returns-3 c =
     let first = row-inside _ _ _ _ _ _ (sym (c .before .before .before .before .before .before .before .before .before .before .row-times .ensures) ∙ c .before .before .before .before .before .before .before .before .xx .given .1) in
     let second = row-inside _ _ _ _ _ _ (sym (c .before .before .before .before .before .before .row-times2 .ensures) ∙ c .before .before .before .before .yx .given .1) in
@@ -81,7 +81,7 @@ moved-requires-3 c κs = search needs
 
 -- src/product.rt:106:1
 returns-4 : tie.Need-returns-4
-unfolding productOf operationOf motionOf matrixOf vectorOf product times act plus
+unfolding productOf allInside operationOf motionOf matrixOf vectorOf product times act plus
 returns-4 c =
     let first = row-inside _ _ _ _ _ _ (sym (c .before .before .before .before .before .before .before .before .before .before .before .before .before .before .row-times .ensures) ∙ c .before .before .before .before .before .before .before .before .before .before .before .before .xx .given .1) in
     let second = row-inside _ _ _ _ _ _ (sym (c .before .before .before .before .before .before .before .before .before .before .row-times2 .ensures) ∙ c .before .before .before .before .before .before .before .before .yx .given .1) in

@@ -1,5 +1,7 @@
 use borrow.Author.Tests.{le-ltb, lt-ltb}
-use Rattle.operation.specs.Product.{rowOf, rowInside}
+use Rattle.operation.specs.Meaning.{rowInside}
+use Rattle.operation.specs.Entries.{inside-digit}
+use Rattle.operation.specs.Product.{rowOf}
 use borrow.Author.Needs.{needs}
 use Rattle.operation.proofs.product.row_times.Statement.{statement}
 use Rattle.operation.proofs.product.row_times.Tie as tie
@@ -14,7 +16,7 @@ row-times-column-requires c κs = search needs
 -- src/product.rt:78:9
 returns : tie.Need-returns
 unfolding rowOf rowInside
-returns c = simp (← c .before .row-times-column .ensures, le-ltb _ _ (c .if1 .taken))
+returns c = simp (inside-digit, ← c .before .row-times-column .ensures, le-ltb _ _ (c .if1 .taken))
 
 -- src/product.rt:80:9
 row-times-column-requires-2 : tie.Need-row-times-column-requires-2
@@ -25,6 +27,7 @@ returns-2 : tie.Need-returns-2
 unfolding rowOf rowInside
 returns-2 c =
     simp (
+      inside-digit,
       ← c .before .before .before .row-times-column .ensures,
       ← c .before .row-times-column2 .ensures,
       lt-ltb _ _ (c .before .before .if1 .left),
@@ -40,6 +43,7 @@ returns-3 : tie.Need-returns-3
 unfolding rowOf rowInside
 returns-3 c =
     simp (
+      inside-digit,
       ← c .before .before .before .before .before .row-times-column .ensures,
       ← c .before .before .before .row-times-column2 .ensures,
       ← c .before .row-times-column3 .ensures,
@@ -53,6 +57,7 @@ returns-4 : tie.Need-returns-4
 unfolding rowOf rowInside
 returns-4 c =
     simp (
+      inside-digit,
       ← c .before .before .before .before .before .row-times-column .ensures,
       ← c .before .before .before .row-times-column2 .ensures,
       ← c .before .row-times-column3 .ensures,
