@@ -18,7 +18,7 @@ use Rattle.centering.specs.declared.Letter.{Letter}
 use Rattle.centering.specs.declared.Letter.the-variants.{Is, None}
 
 -- A Boolean answer and the fact it stands for.
-holds : {b : Bool} → T b ↔ (b ≡ true)
+pub holds : {b : Bool} → T b ↔ (b ≡ true)
 holds {b} = (forth b, back b)
   where
     forth : (b : Bool) → T b → b ≡ true

@@ -3,3 +3,4 @@ pub mod Letters
 pub mod Lattices
 pub mod LatticeLaws
 pub mod PointSearch
+pub mod Keeps

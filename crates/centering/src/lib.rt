@@ -5,10 +5,16 @@ ghost use Prim.Native.Nat.{min, _<_};
 ghost use Rattle.laws.specs.Distinct.{has};
 ghost use Rattle.laws.specs.Lattice.{sameTriple, rank, unrank};
 ghost use Rattle.laws.specs.Residue.{_⊕_};
+ghost use Rattle.laws.specs.LatticeMaps.{keepsPoints};
+ghost use Rattle.operation.specs.Meaning.{matrixOf};
+ghost use Rattle.centering.specs.Keeps.{keepsOf};
 ghost use Rattle.centering.specs.Letters.{byteOf, letterOf, pointsOf};
 ghost use Rattle.centering.specs.Lattices.{tripleOf, translationOf, latticePointsOf, smallestOf, differenceOf, containsOf, congruentOf};
 use operation::Rotation;
 use operation::Translation;
+use operation::product::rotated;
+use operation::rotation_type::Handedness;
+use operation::rotation_type::identify_handedness;
 
 // P primitive; A, B, C one face centred; I body centred; R rhombohedral, obverse; F all faces centred.
 pub enum Centering {
@@ -117,6 +123,17 @@ impl Centering {
         is_point(self, difference(t, ORIGIN))
     }
 
+    // Whether a rotation has its entries in −1..1 and maps the lattice onto itself.
+    pub fn keeps(self, r: Rotation) -> bool
+        ensures { λ b. ⌜ b ≡ keepsOf self r ⌝ }
+    {
+        match identify_handedness(r) {
+            Handedness::Proper => keeps_points(self, r),
+            Handedness::Improper => keeps_points(self, r),
+            Handedness::Neither => false,
+        }
+    }
+
     // The smallest triple of a translation's class modulo the lattice, compared x first.
     pub fn smallest(self, t: Translation) -> Translation
         ensures { λ r. ⌜ r ≡ smallestOf self t ⌝ }
@@ -176,6 +193,23 @@ fn is_point(c: Centering, t: Translation) -> bool
         return true;
     }
     same(t, points[3])
+}
+
+// Whether a rotation takes points to points. The first point is (0,0,0), which stays.
+fn keeps_points(c: Centering, r: Rotation) -> bool
+    ensures { λ b. ⌜ b ≡ keepsPoints (pointsOf c) (matrixOf r) ⌝ }
+{
+    let found = c.lattice_points();
+    let count = found.count;
+    let points = found.points;
+    let mut i = 1usize;
+    while i < count {
+        if !c.contains(rotated(r, points[i])) {
+            return false;
+        }
+        i += 1;
+    }
+    true
 }
 
 // The rank of t + p modulo 12: triples below 12 compare as their ranks do, x first.
