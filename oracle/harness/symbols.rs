@@ -1,0 +1,101 @@
+//! The commands that start from a symbol's text.
+//!
+//! Magnetic and layer symbols are compiled with the rest: a command for them is one more function
+//! of the kind of `operations`.
+
+use std::fmt::Write;
+
+use crate::base::Operations;
+use crate::data::hall_symbol::HallSymbol;
+use crate::data::hall_symbol_database::hall_symbol_entry;
+use crate::subgroup::tables;
+
+/// A finite group of whole 3x3 matrices has at most this many members.
+const MOST_ROTATIONS: u64 = 48;
+
+/// Decodes the text and hands it to a command: `utf8` if it is not UTF-8, `none` where the original
+/// answers `None`.
+pub fn answer(hex: &str, command: impl Fn(&str) -> Option<String>) -> Option<String> {
+    let bytes = text_bytes(hex)?;
+    Some(match std::str::from_utf8(&bytes) {
+        Err(_) => "utf8".to_string(),
+        Ok(text) => command(text).unwrap_or_else(|| "none".to_string()),
+    })
+}
+
+/// Two hex digits a byte; `-` is the empty text.
+fn text_bytes(hex: &str) -> Option<Vec<u8>> {
+    if hex == "-" {
+        return Some(vec![]);
+    }
+    if hex.is_empty() || hex.len() % 2 != 0 || !hex.is_ascii() {
+        return None;
+    }
+    (0..hex.len())
+        .step_by(2)
+        .map(|i| u8::from_str_radix(&hex[i..i + 2], 16).ok())
+        .collect()
+}
+
+pub fn operations(text: &str) -> Option<String> {
+    HallSymbol::new(text).map(|symbol| listed(&traverse(&symbol)))
+}
+
+pub fn generators(text: &str) -> Option<String> {
+    HallSymbol::new(text).map(|symbol| {
+        let points = symbol.centering_translations.len() + 1;
+        format!(
+            "{:?} {} {}",
+            symbol.centering,
+            points,
+            listed(&symbol.generators)
+        )
+    })
+}
+
+/// The symbol's list given back to the original, to make a table of it within a tolerance.
+pub fn from_operations(text: &str, epsilon: f64) -> Option<String> {
+    HallSymbol::new(text).map(|symbol| tables::from_operations(&traverse(&symbol), epsilon))
+}
+
+/// The original makes one product for each listed operation and generator. More products than
+/// `MOST_ROTATIONS` members ask for mean that the generated rotations are not finite in number, and then
+/// its queue never runs empty.
+fn traverse(symbol: &HallSymbol) -> Operations {
+    nalgebra::products::allow(Some(MOST_ROTATIONS * symbol.generators.len() as u64));
+    let list = symbol.traverse();
+    nalgebra::products::allow(None);
+    list
+}
+
+/// The count, then for each operation nine entries by rows and the bits of three doubles. Which bits a NaN has is the
+/// processor's choice, so one pattern stands for all.
+fn listed(list: &Operations) -> String {
+    let mut line = list.len().to_string();
+    for operation in list {
+        for entry in operation.rotation_as_array().as_flattened() {
+            write!(line, " {entry}").unwrap();
+        }
+        for part in operation.translation_as_array() {
+            let shown = if part.is_nan() {
+                f64::from_bits(0x7ff8 << 48)
+            } else {
+                part
+            };
+            write!(line, " {:016x}", shown.to_bits()).unwrap();
+        }
+    }
+    line
+}
+
+/// The original's own symbols, each in hex on a line.
+pub fn print_database() {
+    for entry in (1..).map_while(hall_symbol_entry) {
+        let hex: String = entry
+            .hall_symbol
+            .bytes()
+            .map(|byte| format!("{byte:02x}"))
+            .collect();
+        println!("{hex}");
+    }
+}

@@ -1,0 +1,773 @@
+#!/usr/bin/env python3
+"""The rules of the scope document ("01") as a plain program.
+
+It is written from 01 alone: it shares no line with the Rust original and none with the port, and it is kept as the
+independent judge of what is accepted, what is refused with which number and place, and what each answer holds.
+All arithmetic is in whole numbers; a translation is a triple of twelfths. Speed is no aim.
+
+    python3 oracle/model.py test        run the examples of 01
+    python3 oracle/model.py answers     one answer line for each input line (see `answer_line`)
+    python3 oracle/model.py program     what the port's program writes for the bytes on standard input
+
+A section below has the name of the section of 01 that it states.
+"""
+
+import re
+import struct
+import sys
+from itertools import product as pairs
+
+
+class Refusal(Exception):
+    """A refusal: its number and its place, and for number 16 also the component that is off the grid."""
+
+    def __init__(self, number, place, component=None):
+        super().__init__("refused %d %d" % (number, place))
+        self.number = number
+        self.place = place
+        self.component = component
+
+
+# From text to generators ------------------------------------------------------------------------------------------
+
+MOST_BYTES = 80
+MOST_N_TOKENS = 8
+WHITESPACE = bytes([9, 10, 11, 12, 13, 32])
+PRINTED = range(32, 127)
+LETTERS = "PABCIRF"
+
+N_TOKEN = re.compile(rb"(-?)([12346])([\^=]?)([xyz*]?)([1-6abcnuvwd']*)")
+SHIFT_NUMBER = re.compile(rb"0|[1-9]|10|11")
+
+IDENTITY = (1, 0, 0, 0, 1, 0, 0, 0, 1)
+INVERSION = (-1, 0, 0, 0, -1, 0, 0, 0, -1)
+NO_TRANSLATION = (0, 0, 0)
+
+# The twenty matrices, by fold, mark and axis letter; the identity is that of fold 1, which takes neither.
+MATRICES = {
+    ("1", "", "z"): IDENTITY,
+    ("2", "", "x"): (1, 0, 0, 0, -1, 0, 0, 0, -1),
+    ("2", "", "y"): (-1, 0, 0, 0, 1, 0, 0, 0, -1),
+    ("2", "", "z"): (-1, 0, 0, 0, -1, 0, 0, 0, 1),
+    ("3", "", "x"): (1, 0, 0, 0, 0, -1, 0, 1, -1),
+    ("3", "", "y"): (-1, 0, 1, 0, 1, 0, -1, 0, 0),
+    ("3", "", "z"): (0, -1, 0, 1, -1, 0, 0, 0, 1),
+    ("4", "", "x"): (1, 0, 0, 0, 0, -1, 0, 1, 0),
+    ("4", "", "y"): (0, 0, 1, 0, 1, 0, -1, 0, 0),
+    ("4", "", "z"): (0, -1, 0, 1, 0, 0, 0, 0, 1),
+    ("6", "", "x"): (1, 0, 0, 0, 1, -1, 0, 1, 0),
+    ("6", "", "y"): (0, 0, 1, 0, 1, 0, -1, 0, 1),
+    ("6", "", "z"): (1, -1, 0, 1, 0, 0, 0, 0, 1),
+    ("2", "^", "x"): (-1, 0, 0, 0, 0, -1, 0, -1, 0),
+    ("2", "=", "x"): (-1, 0, 0, 0, 0, 1, 0, 1, 0),
+    ("2", "^", "y"): (0, 0, -1, 0, -1, 0, -1, 0, 0),
+    ("2", "=", "y"): (0, 0, 1, 0, -1, 0, 1, 0, 0),
+    ("2", "^", "z"): (0, -1, 0, -1, 0, 0, 0, 0, -1),
+    ("2", "=", "z"): (0, 1, 0, 1, 0, 0, 0, 0, -1),
+    ("3", "", "*"): (0, 0, 1, 1, 0, 0, 0, 1, 0),
+}
+
+TRANSLATIONS = {
+    "a": (6, 0, 0), "b": (0, 6, 0), "c": (0, 0, 6), "n": (6, 6, 6),
+    "u": (3, 0, 0), "v": (0, 3, 0), "w": (0, 0, 3), "d": (3, 3, 3),
+}
+
+
+def apply(rotation, vector):
+    return tuple(sum(rotation[3 * i + j] * vector[j] for j in range(3)) for i in range(3))
+
+
+def plus(v, w):
+    return tuple(a + b for a, b in zip(v, w))
+
+
+def mod_cell(vector):
+    return tuple(part % 12 for part in vector)
+
+
+def tokens_of(text):
+    """Each token with the offset of its first byte."""
+    return [(found.start(), found.group()) for found in re.finditer(rb"[^\t-\r ]+", text)]
+
+
+def read_symbol(text):
+    """Letter and generators of a symbol's bytes; refusals 1 to 11."""
+    if len(text) > MOST_BYTES:
+        raise Refusal(1, MOST_BYTES)
+    for place, byte in enumerate(text):
+        if byte not in WHITESPACE and byte not in PRINTED:
+            raise Refusal(2, place)
+    tokens = tokens_of(text)
+    if not tokens:
+        raise Refusal(3, 0)
+    place, token = tokens[0]
+    lattice = re.fullmatch(rb"(-?)([PABCIRF])", token)
+    if lattice is None:
+        raise Refusal(4, place)
+    inverted, letter = lattice.group(1) == b"-", lattice.group(2).decode()
+
+    read = []
+    shift = NO_TRANSLATION
+    for place, token in tokens[1:]:
+        if token.startswith(b"("):
+            if not read:
+                raise Refusal(10, place)
+            shift = read_shift(text, place)
+            break
+        if len(read) == MOST_N_TOKENS:
+            raise Refusal(11, place)
+        read.append(read_n_token(token, place, read))
+    if not read:
+        raise Refusal(10, len(text))
+
+    generators = [(INVERSION, mod_cell(plus(shift, shift)))] if inverted else []
+    for rotation, translation, _, _ in read:
+        moved = plus(plus(translation, shift), tuple(-part for part in apply(rotation, shift)))
+        generators.append((rotation, mod_cell(moved)))
+    return letter, generators
+
+
+def read_shift(text, place):
+    """The three numbers of the shift whose `(` stands at `place`; refusal 9."""
+    inside, closed, after = text[place + 1:].partition(b")")
+    numbers = inside.split()
+    if not closed or after.strip() or len(numbers) != 3:
+        raise Refusal(9, place)
+    if not all(SHIFT_NUMBER.fullmatch(number) for number in numbers):
+        raise Refusal(9, place)
+    return tuple(int(number) for number in numbers)
+
+
+def read_n_token(token, place, before):
+    """Rotation, translation, fold and axis of one N token, given those before it; refusals 5, 8, 6 and 7."""
+    spelt = N_TOKEN.fullmatch(token)
+    if spelt is None:
+        raise Refusal(5, place)
+    minus, fold, mark, letter, run = (part.decode() for part in spelt.groups())
+    if "'" in run:
+        raise Refusal(8, place)
+    axis = settled_axis(fold, mark, letter, before)
+    if axis is None or (fold,) + axis not in MATRICES:
+        raise Refusal(6, place)
+    rotation = MATRICES[(fold,) + axis]
+    if minus:
+        rotation = tuple(-entry for entry in rotation)
+
+    translation = NO_TRANSLATION
+    for position, character in enumerate(run):
+        if character.isdigit():
+            digit = int(character)
+            if position != 0 or axis != ("", "z") or not 1 <= digit < int(fold):
+                raise Refusal(7, place)
+            translation = plus(translation, (0, 0, 12 * digit // int(fold)))
+        else:
+            translation = plus(translation, TRANSLATIONS[character])
+    return rotation, translation, fold, axis
+
+
+def settled_axis(fold, mark, letter, before):
+    """Mark and letter of the axis, or None where the rules settle none."""
+    if fold == "1":
+        return ("", "z") if not mark and not letter else None
+    if letter:
+        return mark, letter
+    position = len(before)
+    fold_before, axis_before = (before[-1][2], before[-1][3]) if before else (None, None)
+    if mark:
+        if axis_before in (("", "x"), ("", "y"), ("", "z")):
+            return mark, axis_before[1]
+        if position == 0:
+            return mark, "z"
+        if position == 1 and fold_before == "2":
+            return mark, "x"
+        return None
+    if position == 0:
+        return "", "z"
+    if position == 1 and fold_before in ("2", "4"):
+        return "", "x"
+    if position == 1 and fold_before in ("3", "6"):
+        return "^", "z"
+    if position == 2 and fold == "3":
+        return "", "*"
+    return None
+
+
+# From generators to a group ---------------------------------------------------------------------------------------
+
+POINTS = {
+    "P": [(0, 0, 0)],
+    "A": [(0, 0, 0), (0, 6, 6)],
+    "B": [(0, 0, 0), (6, 0, 6)],
+    "C": [(0, 0, 0), (6, 6, 0)],
+    "I": [(0, 0, 0), (6, 6, 6)],
+    "R": [(0, 0, 0), (8, 4, 4), (4, 8, 8)],
+    "F": [(0, 0, 0), (0, 6, 6), (6, 0, 6), (6, 6, 0)],
+}
+MOST_OPERATIONS = 48
+
+
+def smallest(letter, translation):
+    """The smallest triple 0 to 11 in the translation's class modulo L."""
+    return min(mod_cell(plus(translation, point)) for point in POINTS[letter])
+
+
+def keeps_lattice(letter, rotation):
+    return {mod_cell(apply(rotation, point)) for point in POINTS[letter]} == set(POINTS[letter])
+
+
+def rotation_product(r, s):
+    return tuple(sum(r[3 * i + k] * s[3 * k + j] for k in range(3)) for i in range(3) for j in range(3))
+
+
+def product(left, right):
+    (r, t), (s, u) = left, right
+    return rotation_product(r, s), plus(apply(r, u), t)
+
+
+def generated_rotations(generators):
+    """All generated rotations; refusal 13."""
+    found = [IDENTITY]
+    for rotation in found:
+        for generator, _ in generators:
+            image = rotation_product(rotation, generator)
+            if image not in found:
+                if len(found) == MOST_OPERATIONS or any(abs(entry) > 1 for entry in image):
+                    raise Refusal(13, 0)
+                found.append(image)
+    return found
+
+
+def check_translations(letter, generators):
+    """No generated rotation has two translations modulo L; refusal 14."""
+    of_rotation = {IDENTITY: NO_TRANSLATION}
+    waiting = [(IDENTITY, NO_TRANSLATION)]
+    while waiting:
+        motion = waiting.pop()
+        for generator in generators:
+            rotation, translation = product(motion, generator)
+            translation = smallest(letter, translation)
+            if rotation not in of_rotation:
+                of_rotation[rotation] = translation
+                waiting.append((rotation, translation))
+            elif of_rotation[rotation] != translation:
+                raise Refusal(14, 0)
+
+
+def listed_operations(generators):
+    """Breadth first from the identity; the first translation reached stays."""
+    found = [(IDENTITY, NO_TRANSLATION)]
+    rotations = {IDENTITY}
+    for operation in found:
+        for generator in generators:
+            rotation, translation = product(operation, generator)
+            if rotation not in rotations:
+                rotations.add(rotation)
+                found.append((rotation, mod_cell(translation)))
+    return found
+
+
+def group_of_symbol(text):
+    """Letter and operations in list order; refusals 1 to 14."""
+    letter, generators = read_symbol(text)
+    for index, (rotation, _) in enumerate(generators):
+        if not keeps_lattice(letter, rotation):
+            raise Refusal(12, index)
+    generated_rotations(generators)
+    check_translations(letter, generators)
+    return letter, listed_operations(generators)
+
+
+TYPES = {
+    (3, 1): 1, (-1, 1): 2, (0, 1): 3, (1, 1): 4, (2, 1): 6,
+    (-3, -1): -1, (1, -1): -2, (0, -1): -3, (-1, -1): -4, (-2, -1): -6,
+}
+
+
+def determinant(m):
+    return (m[0] * (m[4] * m[8] - m[5] * m[7])
+            - m[1] * (m[3] * m[8] - m[5] * m[6])
+            + m[2] * (m[3] * m[7] - m[4] * m[6]))
+
+
+def rotation_type(entries):
+    """The fold, negative for a rotoinversion; refusal 15."""
+    if any(abs(entry) > 1 for entry in entries):
+        raise Refusal(15, 0)
+    pair = (entries[0] + entries[4] + entries[8], determinant(entries))
+    if pair not in TYPES:
+        raise Refusal(15, 0)
+    return TYPES[pair]
+
+
+def bits(double):
+    return struct.unpack(">Q", struct.pack(">d", double))[0]
+
+
+def doubles(translation):
+    return tuple(k / 12 for k in translation)
+
+
+def twelfths(three_doubles):
+    """The way back from doubles; refusal 16."""
+    grid = {bits(k / 12): k for k in range(12)}
+    for place, component in enumerate(three_doubles):
+        if bits(component) not in grid:
+            raise Refusal(16, place, component)
+    return tuple(grid[bits(component)] for component in three_doubles)
+
+
+# Group record -----------------------------------------------------------------------------------------------------
+
+EDITION = 1
+ITEM = 5
+TRAILER = 5
+MOST_CODE = 3 ** 9 - 1
+
+
+def code(rotation):
+    return sum((entry + 1) * 3 ** (8 - i) for i, entry in enumerate(rotation))
+
+
+def rotation_of(number):
+    return tuple(number // 3 ** (8 - i) % 3 - 1 for i in range(9))
+
+
+def record_operations(letter, operations):
+    """Operations as the record holds them: ascending codes, smallest triples."""
+    return sorted((code(rotation), smallest(letter, translation)) for rotation, translation in operations)
+
+
+def record(letter, operations):
+    items = record_operations(letter, operations)
+    body = b"".join(number.to_bytes(2, "big") + bytes(triple) for number, triple in items)
+    length = ITEM * len(items) + TRAILER
+    return body + letter.encode() + bytes([EDITION, len(items)]) + length.to_bytes(2, "big")
+
+
+def write_record(letter, operations, buffer, start):
+    """Puts the record into a lent bytearray and answers the count; refusal 20."""
+    written = record(letter, operations)
+    if start > len(buffer) or len(buffer) - start < len(written):
+        raise Refusal(20, 0)
+    buffer[start:start + len(written)] = written
+    return len(operations)
+
+
+def read_record(buffer):
+    """Letter and operations of the record that ends where the buffer ends; refusals 30 to 35."""
+    if len(buffer) < ITEM + TRAILER:
+        raise Refusal(30, 0)
+    letter, edition, count, length = struct.unpack(">BBBH", buffer[-TRAILER:])
+    if edition != EDITION:
+        raise Refusal(31, 0)
+    letter = chr(letter)
+    if letter not in LETTERS:
+        raise Refusal(32, 0)
+    if not 1 <= count <= MOST_OPERATIONS or length != ITEM * count + TRAILER or length > len(buffer):
+        raise Refusal(33, 0)
+    body = buffer[len(buffer) - length:len(buffer) - TRAILER]
+    items = [struct.unpack(">HBBB", body[i:i + ITEM]) for i in range(0, len(body), ITEM)]
+    for number, *triple in items:
+        if number > MOST_CODE or max(triple) > 11 or tuple(triple) != smallest(letter, triple):
+            raise Refusal(34, 0)
+    if any(this[0] >= following[0] for this, following in zip(items, items[1:])):
+        raise Refusal(34, 0)
+    operations = [(rotation_of(number), tuple(triple)) for number, *triple in items]
+    if not allowed(letter, operations):
+        raise Refusal(35, 0)
+    return letter, operations
+
+
+def allowed(letter, operations):
+    held = set(operations)
+    return (all(determinant(rotation) in (1, -1) and keeps_lattice(letter, rotation) for rotation, _ in operations)
+            and (IDENTITY, NO_TRANSLATION) in held
+            and all(class_of(letter, product(left, right)) in held for left, right in pairs(operations, repeat=2)))
+
+
+def class_of(letter, operation):
+    rotation, translation = operation
+    return rotation, smallest(letter, translation)
+
+
+# Tables and subgroups ---------------------------------------------------------------------------------------------
+
+class Table:
+    """A group's table: `rows[g][h]` is gh. Built only by the three functions that follow."""
+
+    def __init__(self, rows):
+        self.rows = rows
+        self.order = len(rows)
+        elements = range(self.order)
+        self.identity = next((e for e in elements if all(rows[e][g] == g == rows[g][e] for g in elements)), None)
+        if self.identity is None:
+            raise Refusal(23, 0)
+        self.inverses = [next((h for h in elements if rows[g][h] == self.identity == rows[h][g]), None)
+                         for g in elements]
+        if None in self.inverses:
+            raise Refusal(24, 0)
+        if any(rows[rows[f][g]][h] != rows[f][rows[g][h]] for f, g, h in pairs(elements, repeat=3)):
+            raise Refusal(25, 0)
+
+
+def table_of_bytes(order, entries):
+    """Refusals 21 to 25."""
+    if not 1 <= order <= MOST_OPERATIONS:
+        raise Refusal(21, 0)
+    if len(entries) != order * order or any(entry >= order for entry in entries):
+        raise Refusal(22, 0)
+    return Table([list(entries[order * g:order * g + order]) for g in range(order)])
+
+
+def table_of_operations(letter, operations):
+    classes = [class_of(letter, operation) for operation in operations]
+    return Table([[classes.index(class_of(letter, product(left, right))) for right in operations]
+                  for left in operations])
+
+
+def table_of_symbol(text):
+    return table_of_operations(*group_of_symbol(text))
+
+
+def table_of_record(buffer):
+    return table_of_operations(*read_record(buffer))
+
+
+def members(number):
+    return [i for i in range(number.bit_length()) if number >> i & 1]
+
+
+def set_of(elements):
+    number = 0
+    for element in elements:
+        number |= 1 << element
+    return number
+
+
+def list_key(number):
+    """Sorts sets as the list has them: more members first, then the one with the lowest element of difference."""
+    elements = members(number)
+    return -len(elements), elements
+
+
+def is_subgroup(table, number):
+    if number >> table.order or not number >> table.identity & 1:
+        return False
+    inside = members(number)
+    return (all(number >> table.rows[g][h] & 1 for g, h in pairs(inside, repeat=2))
+            and all(number >> table.inverses[g] & 1 for g in inside))
+
+
+def generated_set(table, number):
+    """The smallest subgroup that holds a set; in a finite group products alone reach the inverses."""
+    number |= 1 << table.identity
+    inside = members(number)
+    for left in inside:
+        for right in inside:
+            for image in (table.rows[left][right], table.rows[right][left]):
+                if not number >> image & 1:
+                    number |= 1 << image
+                    inside.append(image)
+    return number
+
+
+def subgroups(table):
+    """All subgroups in list order: each arises from a smaller one and one more element."""
+    found = {generated_set(table, 0)}
+    waiting = list(found)
+    for subgroup in waiting:
+        for element in range(table.order):
+            if not subgroup >> element & 1:
+                larger = generated_set(table, subgroup | 1 << element)
+                if larger not in found:
+                    found.add(larger)
+                    waiting.append(larger)
+    return sorted(found, key=list_key)
+
+
+def check_subgroup(table, number):
+    if not is_subgroup(table, number):
+        raise Refusal(27, 0)
+
+
+def check_element(table, element):
+    if element >= table.order:
+        raise Refusal(28, 0)
+
+
+def conjugate_element(table, g, h):
+    """g⁻¹hg."""
+    return table.rows[table.rows[table.inverses[g]][h]][g]
+
+
+def conjugate_set(table, number, g):
+    return set_of(conjugate_element(table, g, h) for h in members(number))
+
+
+def conjugate(table, number, element):
+    """Refusals 27 and 28."""
+    check_subgroup(table, number)
+    check_element(table, element)
+    return conjugate_set(table, number, element)
+
+
+def conjugates(table, number):
+    """Pairs of a conjugate and its conjugator; refusal 27."""
+    check_subgroup(table, number)
+    smallest_conjugator = {}
+    for g in range(table.order):
+        smallest_conjugator.setdefault(conjugate_set(table, number, g), g)
+    del smallest_conjugator[number]
+    others = sorted(smallest_conjugator, key=list_key)
+    return [(number, table.identity)] + [(other, smallest_conjugator[other]) for other in others]
+
+
+def normalizer(table, number):
+    """Refusal 27."""
+    check_subgroup(table, number)
+    return set_of(g for g in range(table.order) if conjugate_set(table, number, g) == number)
+
+
+def permutation(table, number, element):
+    """Refusals 27 to 29."""
+    check_subgroup(table, number)
+    check_element(table, element)
+    if not normalizer(table, number) >> element & 1:
+        raise Refusal(29, 0)
+    return positions(table, number, element)
+
+
+def positions(table, number, element):
+    inside = members(number)
+    return [inside.index(conjugate_element(table, element, h)) for h in inside]
+
+
+def classes(table):
+    """The representatives, in list order."""
+    representatives = []
+    seen = set()
+    for subgroup in subgroups(table):
+        if subgroup not in seen:
+            representatives.append(subgroup)
+            seen.update(other for other, _ in conjugates(table, subgroup))
+    return representatives
+
+
+def fill(lent, *values):
+    """Puts each list of values into its lent list; refusal 26 leaves every slot of every lent list 0."""
+    if any(len(found) > len(slots) for slots, found in zip(lent, values)):
+        for slots in lent:
+            slots[:] = [0] * len(slots)
+        raise Refusal(26, 0)
+    for slots, found in zip(lent, values):
+        slots[:len(found)] = found
+    return len(values[0])
+
+
+def fill_subgroups(table, sets):
+    return fill([sets], subgroups(table))
+
+
+def fill_classes(table, sets):
+    return fill([sets], classes(table))
+
+
+def fill_conjugates(table, number, sets, conjugators):
+    found = conjugates(table, number)
+    return fill([sets, conjugators], [each for each, _ in found], [g for _, g in found])
+
+
+def fill_permutation(table, number, element, slots):
+    return fill([slots], permutation(table, number, element))
+
+
+# The program ------------------------------------------------------------------------------------------------------
+
+def program_lines(data):
+    lines = data.split(b"\n")
+    return lines if lines[-1] else lines[:-1]
+
+
+def program_answer(line):
+    written = line[:MOST_BYTES] + b"\n"
+    try:
+        letter, operations = group_of_symbol(line)
+    except Refusal as refusal:
+        return written + b"%s\n" % str(refusal).encode()
+    written += b"%s %d\n" % (letter.encode(), len(operations))
+    for number, triple in record_operations(letter, operations):
+        written += " ".join(map(str, rotation_of(number) + triple)).encode() + b"\n"
+    return written
+
+
+def program(data):
+    return b"".join(map(program_answer, program_lines(data)))
+
+
+# Answers by lines -------------------------------------------------------------------------------------------------
+
+def text_of_hex(word):
+    return b"" if word == "-" else bytes.fromhex(word)
+
+
+def answer_operations(letter, operations):
+    shown = " ".join("%d %d %d %d" % ((code(rotation),) + translation) for rotation, translation in operations)
+    return "%s %d %s" % (letter, len(operations), shown)
+
+
+def answer_table(table):
+    found = subgroups(table)
+    words = ["identity", table.identity, "subgroups", len(found)] + ["%x" % each for each in found]
+    representatives = classes(table)
+    words += ["classes", len(representatives)]
+    for subgroup in representatives:
+        pairs_found = conjugates(table, subgroup)
+        words += ["class", "%x" % subgroup, "conjugates", len(pairs_found)]
+        for each, conjugator in pairs_found:
+            words += ["%x" % each, conjugator]
+        elements = members(normalizer(table, subgroup))
+        words += ["normalizer", len(elements)]
+        for element in elements:
+            words += [element] + positions(table, subgroup, element)
+    return " ".join(map(str, words))
+
+
+def answer_line(line):
+    """`symbol HEX` and `record HEX` (`-` for no byte): letter, count, and code x y z of each operation in order;
+    `group HEX` (the symbol's record in hex); `table N ENTRIES`: as the harness answers `table`. A refusal is
+    `refused NUMBER PLACE`."""
+    command, *words = line.split()
+    try:
+        if command == "symbol":
+            return answer_operations(*group_of_symbol(text_of_hex(words[0])))
+        if command == "record":
+            return answer_operations(*read_record(text_of_hex(words[0])))
+        if command == "group":
+            return record(*group_of_symbol(text_of_hex(words[0]))).hex()
+        if command == "table":
+            order, *entries = map(int, words)
+            return answer_table(table_of_bytes(order, entries))
+    except Refusal as refusal:
+        return str(refusal)
+    return "what"
+
+
+# The examples of 01 -----------------------------------------------------------------------------------------------
+
+def outcome(action, *arguments):
+    """What an action answers, or its refusal as a pair of number and place."""
+    try:
+        return action(*arguments)
+    except Refusal as refusal:
+        return refusal.number, refusal.place
+
+
+def count_of(text):
+    answer = outcome(group_of_symbol, text)
+    return answer if isinstance(answer[0], int) else len(answer[1])
+
+
+def z_translations(text):
+    return [translation[2] for _, translation in group_of_symbol(text)[1]]
+
+
+def example_symbols():
+    """(name, what the model says, what 01 says) for the symbols of "Symbols to try"."""
+    cases = [
+        (b"P 1", 1), (b"-P 1", 2), (b"P 1a", (14, 0)), (b"P 2w", (14, 0)), (b"P 2a1", (7, 2)), (b"P 1x", (6, 2)),
+        (b"P 3* 2^", (6, 5)), (b"R 2", (12, 0)), (b"P 4 6", (13, 0)), (b"P", (10, 1)), (b"", (3, 0)),
+        (b"P 4w", 4), (b"A 4", (12, 0)), (b"P 3 2x", (13, 0)), (b"P 2 (0 0 11)", 2), (b"P 2 (0 0 12)", (9, 4)),
+        (b"P 2'", (8, 2)), (b"H 3", (4, 0)), (b"-P 2ac 2n", 8), (b"-F 4 2 3", 48), (b"-P 4 2 3", 48),
+        (b"P" + b" 1" * 8, 1), (b"P" + b" 1" * 9, (11, 18)), (b"P 1".ljust(80), 1), (b"P 1".ljust(81), (1, 80)),
+    ]
+    found = [(text.decode(), count_of(text), expected) for text, expected in cases]
+    inversion = group_of_symbol(b"-P 1 (0 0 1)")[1]
+    found.append(("-P 1 (0 0 1), list", inversion, [(IDENTITY, (0, 0, 0)), (INVERSION, (0, 0, 2))]))
+    found.append(("P 31, z", z_translations(b"P 31"), [0, 4, 8]))
+    return found
+
+
+def example_rest():
+    """(name, what the model says, what 01 says) for the record, tables, program and the mistakes that 01 names."""
+    cubic = table_of_symbol(b"-P 4 2 3")
+    inverse_record = bytes.fromhex("0C7E0000004064000000500102000F")
+    all_subgroups = subgroups(cubic)
+    just_fits, one_short = [7] * 98, [7] * 97
+    lent = bytearray(range(20))
+    return [
+        ("-P 1, record", record(*group_of_symbol(b"-P 1")), inverse_record),
+        ("-P 1, record at 3", (write_record(*group_of_symbol(b"-P 1"), lent, 3), bytes(lent)),
+         (2, bytes(range(3)) + inverse_record + bytes(range(18, 20)))),
+        ("-P 1, no room", outcome(write_record, *group_of_symbol(b"-P 1"), bytearray(17), 3), (20, 0)),
+        ("-P 1, start beyond", outcome(write_record, *group_of_symbol(b"-P 1"), bytearray(17), 18), (20, 0)),
+        ("-P 1, read back", read_record(b"any" + inverse_record)[0], "P"),
+        ("nine bytes", outcome(read_record, bytes(9)), (30, 0)),
+        ("edition", outcome(read_record, inverse_record[:-4] + b"\x02\x02\x00\x0f"), (31, 0)),
+        ("letter", outcome(read_record, inverse_record[:-5] + b"H\x01\x02\x00\x0f"), (32, 0)),
+        ("count", outcome(read_record, inverse_record[:-5] + b"P\x01\x00\x00\x05"), (33, 0)),
+        ("length", outcome(read_record, inverse_record[:-5] + b"P\x01\x03\x00\x14"), (33, 0)),
+        ("code order", outcome(read_record, inverse_record[5:10] + inverse_record[:5] + inverse_record[10:]), (34, 0)),
+        ("no identity", outcome(read_record, inverse_record[:5] + b"P\x01\x01\x00\x0a"), (35, 0)),
+        ("-P 4 2 3, subgroups", len(all_subgroups), 98),
+        ("-P 4 2 3, classes", len(classes(cubic)), 33),
+        ("98 slots", (fill_subgroups(cubic, just_fits), just_fits), (98, all_subgroups)),
+        ("97 slots", (outcome(fill_subgroups, cubic, one_short), one_short), ((26, 0), [0] * 97)),
+        ("not associative", outcome(table_of_bytes, 3, bytes([0, 1, 2, 1, 0, 1, 2, 2, 0])), (25, 0)),
+        ("order 0", outcome(table_of_bytes, 0, b""), (21, 0)),
+        ("order 49", outcome(table_of_bytes, 49, bytes(49 * 49)), (21, 0)),
+        ("three bytes", outcome(table_of_bytes, 2, bytes([0, 1, 1])), (22, 0)),
+        ("a byte of 2", outcome(table_of_bytes, 2, bytes([0, 1, 1, 2])), (22, 0)),
+        ("no identity in a table", outcome(table_of_bytes, 2, bytes([0, 0, 0, 0])), (23, 0)),
+        ("no inverse", outcome(table_of_bytes, 2, bytes([0, 1, 1, 1])), (24, 0)),
+        ("not a subgroup", outcome(normalizer, cubic, 2), (27, 0)),
+        ("element beyond", outcome(conjugate, cubic, 1 << cubic.identity, 48), (28, 0)),
+        ("outside the normalizer", outside_normalizer(cubic), (29, 0)),
+        ("type of the identity", rotation_type(IDENTITY), 1),
+        ("type of the null matrix", outcome(rotation_type, (0,) * 9), (15, 0)),
+        ("types answered", sum(isinstance(outcome(rotation_type, rotation_of(c)), int) for c in range(19683)), 6096),
+        ("doubles there and back", twelfths(doubles((0, 4, 11))), (0, 4, 11)),
+        ("off the grid", outcome(twelfths, (0.0, 0.3, 2.0)), (16, 1)),
+        ("minus zero", outcome(twelfths, (0.0, 0.0, -0.0)), (16, 2)),
+        ("program", program(b"-P 1\nP 1a\n"),
+         b"-P 1\nP 2\n-1 0 0 0 -1 0 0 0 -1 0 0 0\n1 0 0 0 1 0 0 0 1 0 0 0\nP 1a\nrefused 14 0\n"),
+        ("program, last line unended", program(b"P 1a"), b"P 1a\nrefused 14 0\n"),
+        ("program, blank line", program(b"\n"), b"\nrefused 3 0\n"),
+        ("program, no byte", program(b""), b""),
+        ("program, 81 bytes", program(b"P" * 81), b"P" * 80 + b"\nrefused 1 80\n"),
+        ("C 1ab is plain C", count_of(b"C 1ab"), 1),
+        ("I 1n is plain I", count_of(b"I 1n"), 1),
+        ("F 1bc is plain F", count_of(b"F 1bc"), 1),
+    ]
+
+
+def outside_normalizer(table):
+    subgroup = next(each for each in subgroups(table) if normalizer(table, each) != (1 << table.order) - 1)
+    element = next(g for g in range(table.order) if not normalizer(table, subgroup) >> g & 1)
+    return outcome(permutation, table, subgroup, element)
+
+
+def run_examples():
+    examples = example_symbols() + example_rest()
+    failed = [each for each in examples if each[1] != each[2]]
+    for name, said, expected in failed:
+        print("failed: %s: %s, not %s" % (name, said, expected))
+    print("%d passed, %d failed" % (len(examples) - len(failed), len(failed)))
+    return 1 if failed else 0
+
+
+def main(arguments):
+    if arguments == ["test"]:
+        return run_examples()
+    if arguments == ["program"]:
+        sys.stdout.buffer.write(program(sys.stdin.buffer.read()))
+        return 0
+    if arguments == ["answers"]:
+        for line in sys.stdin:
+            print(answer_line(line), flush=True)
+        return 0
+    print(__doc__, file=sys.stderr)
+    return 2
+
+
+if __name__ == "__main__":
+    sys.exit(main(sys.argv[1:]))
