@@ -1,0 +1,50 @@
+// Finite groups given by the bytes of their tables: the check of a table, subgroups, conjugates, classes, normalizers and their permutations.
+// Ported from subgroup/finite_group.rs of moyo 0.21.0 (`FiniteGroup`), and changed: a flat table of bytes, sets as 64-bit numbers in lent slots, refusals.
+ghost use mathlib.Core.Path.{_≡_};
+ghost use Rattle.finite_group.specs.Answers.{orderAnswer, identityAnswer};
+use table::from_table;
+
+mod table;
+
+// Why there is no answer: document 01's refusals 21 to 29.
+pub enum Refusal {
+    Order,
+    Cells,
+    Identity,
+    Inverse,
+    Associativity,
+    Slots,
+    Subgroup,
+    Element,
+    Normalizer,
+}
+
+// A number, an element, a set or a count; or a refusal.
+pub enum Answer {
+    Value(u64),
+    Refused(Refusal),
+}
+
+// Whether bytes are the table of a group, and which element is its identity.
+pub(crate) enum Checked {
+    Group(usize),
+    NoGroup(Refusal),
+}
+
+pub fn order(n: usize, table: &[u8]) -> Answer
+    ensures { λ r. ⌜ r ≡ orderAnswer n (now (table .entry)) ⌝ }
+{
+    match from_table(n, table) {
+        Checked::Group(_) => Answer::Value(n as u64),
+        Checked::NoGroup(r) => Answer::Refused(r),
+    }
+}
+
+pub fn identity(n: usize, table: &[u8]) -> Answer
+    ensures { λ r. ⌜ r ≡ identityAnswer n (now (table .entry)) ⌝ }
+{
+    match from_table(n, table) {
+        Checked::Group(e) => Answer::Value(e as u64),
+        Checked::NoGroup(r) => Answer::Refused(r),
+    }
+}
