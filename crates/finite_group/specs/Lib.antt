@@ -5,3 +5,11 @@ pub mod Table
 pub mod TableLaws
 pub mod TableVerdict
 pub mod Answers
+pub mod Subsets
+pub mod SubgroupLaws
+pub mod Images
+pub mod Conjugation
+pub mod Removal
+pub mod Adjoin
+pub mod Growth
+pub mod ImageLoop

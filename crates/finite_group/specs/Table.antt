@@ -37,3 +37,8 @@ checkOf n t =
     (NoGroup Inverse))
     (NoGroup Identity))
     (NoGroup NoCells)))
+
+-- the table of a group with identity e, of order 1 to 48
+pub record GroupTable (n : ℕ) (t : List ℕ) (e : ℕ) : Type 0 where
+  pub cells : Cells n t
+  pub group : Group n (product n t) e

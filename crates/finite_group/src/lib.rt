@@ -4,6 +4,8 @@ ghost use mathlib.Core.Path.{_≡_};
 ghost use Rattle.finite_group.specs.Answers.{orderAnswer, identityAnswer};
 use table::from_table;
 
+mod adjoin;
+mod sets;
 mod table;
 
 // Why there is no answer: document 01's refusals 21 to 29.
