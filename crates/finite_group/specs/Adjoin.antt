@@ -20,11 +20,11 @@ use Rattle.finite_group.specs.SubgroupLaws.{closed-set}
 use Rattle.finite_group.specs.Subsets.{Subgroup, imageOf}
 
 -- the set of i holds i
-singleton-self : (i : ℕ) → member (2 ^ i) i ≡ true
+pub singleton-self : (i : ℕ) → member (2 ^ i) i ≡ true
 singleton-self i = member-singleton i i ∙ eq-eqb i i refl
 
 -- and nothing else
-singleton-only : (i j : ℕ) → member (2 ^ i) j ≡ true → j ≡ i
+pub singleton-only : (i j : ℕ) → member (2 ^ i) j ≡ true → j ≡ i
 singleton-only i j m = sym (eqb-true i j (sym (member-singleton i j) ∙ m))
 
 -- the right coset h p, as the code makes it

@@ -4,7 +4,6 @@ pub mod GroupLaws
 pub mod Table
 pub mod TableLaws
 pub mod TableVerdict
-pub mod Answers
 pub mod Subsets
 pub mod SubgroupLaws
 pub mod Images
@@ -13,3 +12,12 @@ pub mod Removal
 pub mod Adjoin
 pub mod Growth
 pub mod ImageLoop
+pub mod Slots
+pub mod Listing
+pub mod Insertion
+pub mod Lists
+pub mod Search
+pub mod Representatives
+pub mod SearchLoop
+pub mod Answers
+pub mod ListAnswers

@@ -12,7 +12,7 @@ use borrow.Author.Tests.{eq-eqb, ne-eqb, lt-ltb, le-ltb, eqb-true, eqb-false, lt
 use Rattle.finite_group.specs.Bounded.{every-passes, passes-every, every-fails, fails-every, passes-or-fails, not-passing}
 use Rattle.finite_group.specs.Groups.{Group, identityOf, inverseOf, hasInverses, associatesAt, associates}
 use Rattle.finite_group.specs.GroupLaws.{TwoSidedIdentity, TwoSidedInverse, identity-found, found-identity, found-inverse, inverse-found, associative-passes, passes-associative, group-made, group-identity, group-inverses}
-use Rattle.finite_group.specs.Table.{product, Cells, goodCells, checkOf}
+use Rattle.finite_group.specs.Table.{product, Cells, goodCells, checkOf, GroupTable}
 use Rattle.finite_group.specs.TableLaws.{good-cells, cells-good, product-below}
 use Rattle.finite_group.specs.declared.Checked.{Checked}
 use Rattle.finite_group.specs.declared.Checked.the-variants.{Group as IsGroup, NoGroup}
@@ -160,3 +160,7 @@ accepted-exactly n t e = (λ p. read (checked-verdict n t) p, λ g. verdict-chec
     read (inverse-refused h C f I x k g) p = absurd (let z : _≡_ {A = ℕ} 0 1 = cc in omega arith)
     read (associativity-refused h C f I J x y z k l m g) p = absurd (let z : _≡_ {A = ℕ} 0 1 = cc in omega arith)
     read (accepted h C f G) p = let q : f ≡ e = cc in (h, C, rw q at G)
+
+-- what is accepted is the table of a group
+pub checked-table : (n : ℕ) (t : List ℕ) (e : ℕ) → checkOf n t ≡ IsGroup e → GroupTable n t e
+checked-table n t e p = let (h, C, G) = accepted-exactly n t e .0 p in record { cells = C; group = G }
