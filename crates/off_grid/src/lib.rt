@@ -3,7 +3,6 @@
 ghost use mathlib.Core.Path.{_≡_};
 ghost use Rattle.off_grid.specs.Component.{offGridIndex, offGridComponent};
 ghost use Rattle.operation.specs.Doubles.{onGrid};
-
 use operation::doubles::Doubles;
 use operation::doubles::Grid;
 use operation::doubles::from_doubles;
