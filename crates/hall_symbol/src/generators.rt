@@ -69,7 +69,7 @@ pub fn shifted(g: Operation, v: Translation) -> Operation
     }
 }
 
-pub fn push(list: Generators, g: Operation) -> Generators
+pub(crate) fn push(list: Generators, g: Operation) -> Generators
     requires { ⌜ list .count < 9 ⌝ }
     ensures { λ r. ⌜ Pushed list g r ⌝ }
 {
@@ -97,7 +97,7 @@ pub fn leading(inverted: bool) -> Generators
 }
 
 // Every generator moved, and the identity in the slots past them.
-pub fn shifted_all(list: Generators, v: Translation) -> Generators
+pub(crate) fn shifted_all(list: Generators, v: Translation) -> Generators
     requires { ⌜ list .count ≤ 9 ⌝ }
     ensures { λ r. ⌜ Moved list v r ⌝ }
 {

@@ -93,7 +93,7 @@ fn parse_numbers(inside: &[u8]) -> Shift
 }
 
 // The shift that starts at the `(` at a place, and ends the text.
-pub fn parse_origin_shift(text: &[u8], bracket: usize) -> Shift
+pub(crate) fn parse_origin_shift(text: &[u8], bracket: usize) -> Shift
     requires { ⌜ bracket < length (now text) ⌝ }
     ensures { λ r. ⌜ r ≡ shiftOf (drop bracket (now (text .entry))) ⌝ }
 {
