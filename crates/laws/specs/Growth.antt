@@ -23,6 +23,16 @@ module _ {A : Type 0} (same : A → A → Bool) where
   place x [] = zero
   place x (y ∷ l) = let later = suc (place x l) in cond (same x y) zero later
 
+  -- it is never past the end
+  pub place-le : (x : A) (l : List A) → place x l ≤ length l
+  unfolding place
+  place-le x [] = omega arith
+  place-le x (y ∷ l) = by-test (same x y) (place-le x l)
+    where
+      by-test : (b : Bool) → place x l ≤ length l → cond b zero (suc (place x l)) ≤ suc (length l)
+      by-test true h = omega arith
+      by-test false h = omega arith
+
 module _ {A : Type 0} (same alike : A → A → Bool) where
   -- p was found before
   abbrev pub recurring : A → Growth A → Growth A
