@@ -127,9 +127,13 @@ module _ {A B G H : Type 0} (sameA alikeA : A → A → Bool) (sameB alikeB : B 
         → takenUp sameB alikeB limit (f p) (imageGrowth f s) ≡ Option·map (imageGrowth f) (takenUp sameA alikeA limit p s)
     unfolding takenUp
     taken-image p s k h =
-        rw (place-image p (s .found) k h, length-map (s .found) f, image-at f (s .found) (place sameA p (s .found)) p,
-            ← (I .alike-image p (getD (s .found) (place sameA p (s .found)) p) k (at-member Fine (s .found) (place sameA p (s .found)) p h k)),
-            ← (map-append f (s .found) (p ∷ [])))
+        rw (
+          place-image p (s .found) k h,
+          length-map (s .found) f,
+          image-at f (s .found) (place sameA p (s .found)) p,
+          ← (I .alike-image p (getD (s .found) (place sameA p (s .found)) p) k (at-member Fine (s .found) (place sameA p (s .found)) p h k)),
+          ← (map-append f (s .found) (p ∷ [])),
+        )
         (choice-image (ltb (place sameA p (s .found)) (length (s .found))) (ltb (length (s .found)) limit)
         (recurring sameA alikeA p s) (lengthened sameA alikeA p s))
 
@@ -164,10 +168,10 @@ module _ {A B G H : Type 0} (sameA alikeA : A → A → Bool) (sameB alikeB : B 
         (λ p. bind (takenUp sameB alikeB limit p (imageGrowth f s)) (turns sameB alikeB _∗_ limit (f x) gens))
         (I .product-image x g k)
         (λ p e. let fine = I .product-fine x p (tag g) k e in
-            bind-image (imageGrowth f) (imageGrowth f) (takenUp sameA alikeA limit p s)
-            (turns sameA alikeA _·_ limit x (map tag gens)) (turns sameB alikeB _∗_ limit (f x) gens)
-            (taken-image p s fine h)
-            (λ t q. turns-image x gens t k (taken-fine p s t fine h q)))
+        bind-image (imageGrowth f) (imageGrowth f) (takenUp sameA alikeA limit p s)
+        (turns sameA alikeA _·_ limit x (map tag gens)) (turns sameB alikeB _∗_ limit (f x) gens)
+        (taken-image p s fine h)
+        (λ t q. turns-image x gens t k (taken-fine p s t fine h q)))
 
     module _ (unit : A) (gens : List H) (fine-unit : Fine unit) where
       -- the growth from an index on
@@ -179,9 +183,9 @@ module _ {A B G H : Type 0} (sameA alikeA : A → A → Bool) (sameB alikeB : B 
           let x = getD (s .found) i unit in
           let fine = at-member Fine (s .found) i unit h fine-unit in
           let more = bind-image (imageGrowth f) (imageGrowth f) (turns sameA alikeA _·_ limit x (map tag gens) s)
-              (grow sameA alikeA _·_ limit unit (map tag gens) n (suc i)) (grow sameB alikeB _∗_ limit (f unit) gens n (suc i))
-              (turns-image x gens s fine h)
-              (λ t q. grow-image n (suc i) t (turns-fine x gens s t fine h q)) in
+          (grow sameA alikeA _·_ limit unit (map tag gens) n (suc i)) (grow sameB alikeB _∗_ limit (f unit) gens n (suc i))
+          (turns-image x gens s fine h)
+          (λ t q. grow-image n (suc i) t (turns-fine x gens s t fine h q)) in
           rw (length-map (s .found) f, image-at f (s .found) i unit, more)
           (more-or-done (ltb i (length (s .found))) (bind (turns sameA alikeA _·_ limit x (map tag gens) s) (grow sameA alikeA _·_ limit unit (map tag gens) n (suc i))) s)
         where

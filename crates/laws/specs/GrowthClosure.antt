@@ -271,7 +271,7 @@ module _ {A G : Type 0} (same alike : A → A → Bool) (fine : A → Bool) (_�
             let joined : t .found ≡ u .found ++ W .later = W .grows in
             let regrouped : (waiting ++ X .added) ++ W .later ≡ waiting ++ (X .added ++ W .later) = append-assoc waiting (X .added) (W .later) in
             let fresh-added : fresh same (taken ++ x ∷ waiting) (map (λ g. x ∗ g) gens) ≡ X .added =
-                fresh-unique same (fresh-meets same _ _) (rw e at (X .is-fresh)) in
+            fresh-unique same (fresh-meets same _ _) (rw e at (X .is-fresh)) in
             record {
               later = X .added ++ W .later;
               grows = W .grows ∙ ap (λ l. l ++ W .later) (X .grows) ∙ append-assoc (s .found) (X .added) (W .later);
@@ -349,9 +349,11 @@ module _ {A G : Type 0} (same alike : A → A → Bool) (fine : A → Bool) (_�
             let added : X .added ≡ f = fresh-unique same (X .is-fresh) is-fresh in
             let joined : u .found ≡ (taken ++ x ∷ []) ++ (waiting ++ f) = X .grows ∙ rw added (ap (λ l. l ++ f) e) ∙ sym (regroup taken waiting f x) in
             let (t, rest) = grow-ends n (taken ++ x ∷ []) (waiting ++ f) l u joined p h each in
-            let (at-x, in-list) = turn-of taken waiting x s e in
-            (t, rw (in-list, at-x) (bind-eq-some-iff (turns same alike allowed limit x gens s) (grow same alike allowed limit unit gens n (suc (length taken))) .1
-            (u, first, rw (one-more taken x) at rest)))
+            let (at-x, in-list) = turn-of taken waiting x s e in (
+              t,
+              rw (in-list, at-x) (bind-eq-some-iff (turns same alike allowed limit x gens s) (grow same alike allowed limit unit gens n (suc (length taken))) .1
+                  (u, first, rw (one-more taken x) at rest)),
+            )
 
         -- ---- the whole growth
 
@@ -365,10 +367,11 @@ module _ {A G : Type 0} (same alike : A → A → Bool) (fine : A → Bool) (_�
               let W = grow-sound limit [] (unit ∷ []) (record { found = unit ∷ []; steps = []; steady = true }) t refl (omega arith) (omega arith) q in
               let whole : t .found ≡ unit ∷ W .later = W .grows in
               let steps : t .steps ≡ stepsFrom gens (t .found) (t .found) = W .all-steps ∙ ap (stepsFrom gens (t .found)) (sym whole) in
-              let steady : t .steady ≡ steadyFrom gens (t .found) (t .found) = W .all-steady ∙ ap (steadyFrom gens (t .found)) (sym whole) in
-              (W .runs,
-               member-all fine (t .found) (λ y m. elim (cases (rw whole at m)) [ inl e ↦ rw e (true-T unit-fine) | inr k ↦ true-T (W .later-fine y k) ]),
-               λ i. record { found = t .found; steps = steps i; steady = steady i })
+              let steady : t .steady ≡ steadyFrom gens (t .found) (t .found) = W .all-steady ∙ ap (steadyFrom gens (t .found)) (sym whole) in (
+                W .runs,
+                member-all fine (t .found) (λ y m. elim (cases (rw whole at m)) [ inl e ↦ rw e (true-T unit-fine) | inr k ↦ true-T (W .later-fine y k) ]),
+                λ i. record { found = t .found; steps = steps i; steady = steady i },
+              )
 
           -- where the closure ends and its members have only allowed steps, the growth ends
           grown-ends : (l : List A) → closure same _∗_ unit gens limit ≡ some l → ((x : A) (g : G) → Mem x l → Mem g gens → fine (x ∗ g) ≡ true)

@@ -110,8 +110,10 @@ module _ (l : List Triple) (L : Points l) where
   unfolding product
   alike-left g x y k (p, c) = (
     ap (times (g .rotation)) p,
-    rw (common-right (act (g .rotation) (x .translation)) (act (g .rotation) (y .translation)) (g .translation),
-        image-difference (g .rotation) (x .translation) (y .translation)) (k .0 (plus (x .translation) (opposite (y .translation))) c),
+    rw (
+      common-right (act (g .rotation) (x .translation)) (act (g .rotation) (y .translation)) (g .translation),
+      image-difference (g .rotation) (x .translation) (y .translation),
+    ) (k .0 (plus (x .translation) (opposite (y .translation))) c),
   )
 
   -- products of two alike motions with one

@@ -1,4 +1,11 @@
--- From generators to a group: the growth of the list, the group by motions of space, and what its answers say.
+-- From generators to a group.
+-- What generators generate, and what is answered, of motions of space:
+pub mod Generated
+-- The list as a program grows it:
 pub mod Places
 pub mod Traversal
 pub mod Resuming
+-- That the two are one:
+pub mod OperationGrowth
+-- When a group is answered, and when each refusal:
+pub mod Acceptance

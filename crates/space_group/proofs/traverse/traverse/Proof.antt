@@ -67,11 +67,14 @@ rotation-code-requires c κs = search needs
 -- src/traverse.rt:84:5
 loop-holds : tie.Need-loop-holds Inv-loop μ-loop
 loop-holds c =
-    let a = c .before .before .args in
-    (record { found = identityOperation ∷ []; steps = []; steady = true },
-     rw (c .rotation-code .ensures, c .before .identity .ensures) shows-start,
-     omega arith, omega arith, omega arith,
-     resume-start (a .c) (take (a .n) (a .t3)))
+    let a = c .before .before .args in (
+      record { found = identityOperation ∷ []; steps = []; steady = true },
+      rw (c .rotation-code .ensures, c .before .identity .ensures) shows-start,
+      omega arith,
+      omega arith,
+      omega arith,
+      resume-start (a .c) (take (a .n) (a .t3)),
+    )
 
 -- src/traverse.rt:86:13
 add-i : tie.Need-add-i Inv-loop μ-loop
@@ -86,9 +89,14 @@ loop-again : tie.Need-loop-again Inv-loop μ-loop
 loop-again c =
     let l = c .before .before .loop in
     let a = c .before .before .before .before .before .args in
-    let g = gens-long (c .before .before .before .before .before) in
-    (l .inv .0, l .inv .1, omega arith, omega arith, omega arith,
-     l .inv .5 ∙ resume-over (a .c) (take (a .n) (a .t3)) (l .inv .0) (l .i) (l .j) (omega arith) (omega arith) (omega arith))
+    let g = gens-long (c .before .before .before .before .before) in (
+      l .inv .0,
+      l .inv .1,
+      omega arith,
+      omega arith,
+      omega arith,
+      l .inv .5 ∙ resume-over (a .c) (take (a .n) (a .t3)) (l .inv .0) (l .i) (l .j) (omega arith) (omega arith) (omega arith),
+    )
 
 -- src/traverse.rt:90:38
 mul-mul : tie.Need-mul-mul Inv-loop μ-loop
@@ -189,11 +197,14 @@ loop-again-2 c =
     let k = place-is (c .before .before .before) in
     let inside = sym (product-is (c .before .before .before .before .before .before .before .before .before)) ∙ c .before .before .before .before .before .before .before .p .given .1 in
     let in-list : place sameTurn p (l .inv .0 .found) < l .count = omega (arith, c .before .before .if2 .taken) in
-    let shown = shows-again (a .c) (l .inv .0) (l .count) (l .operations) (l .codes) (l .steps) (l .steady) (l .made) (l .inv .1) p (omega arith) _ in-list in
-    (recurring sameTurn (sameClass (a .c)) p (l .inv .0),
-     rw (c .agrees .ensures, k) shown,
-     omega arith, omega arith, omega arith,
-     l .inv .5 ∙ resume-again (a .c) (take (a .n) (a .t3)) (l .inv .0) (l .i) (l .j) (omega arith) (omega arith) p inside (omega arith))
+    let shown = shows-again (a .c) (l .inv .0) (l .count) (l .operations) (l .codes) (l .steps) (l .steady) (l .made) (l .inv .1) p (omega arith) _ in-list in (
+      recurring sameTurn (sameClass (a .c)) p (l .inv .0),
+      rw (c .agrees .ensures, k) shown,
+      omega arith,
+      omega arith,
+      omega arith,
+      l .inv .5 ∙ resume-again (a .c) (take (a .n) (a .t3)) (l .inv .0) (l .i) (l .j) (omega arith) (omega arith) p inside (omega arith),
+    )
 
 -- src/traverse.rt:104:13
 overgrown-requires-2 : tie.Need-overgrown-requires-2 Inv-loop μ-loop
@@ -244,11 +255,14 @@ loop-again-3 c =
     let g = gens-long (c .before .before .before .before .before .before .before .before .before .before .before .before .before .before .before .before) in
     let k = place-is (c .before .before) in
     let inside = sym (product-is (c .before .before .before .before .before .before .before .before)) ∙ c .before .before .before .before .before .before .p .given .1 in
-    let shown = shows-new (a .c) (l .inv .0) (l .count) (l .operations) (l .codes) (l .steps) (l .steady) (l .made) (l .inv .1) p (omega arith) (omega arith) in
-    (lengthened sameTurn (sameClass (a .c)) p (l .inv .0),
-     rw (c .before .before .before .before .rotation-code2 .ensures, k) shown,
-     omega arith, omega arith, omega arith,
-     l .inv .5 ∙ resume-new (a .c) (take (a .n) (a .t3)) (l .inv .0) (l .i) (l .j) (omega arith) (omega arith) p inside (omega arith) (omega arith))
+    let shown = shows-new (a .c) (l .inv .0) (l .count) (l .operations) (l .codes) (l .steps) (l .steady) (l .made) (l .inv .1) p (omega arith) (omega arith) in (
+      lengthened sameTurn (sameClass (a .c)) p (l .inv .0),
+      rw (c .before .before .before .before .rotation-code2 .ensures, k) shown,
+      omega arith,
+      omega arith,
+      omega arith,
+      l .inv .5 ∙ resume-new (a .c) (take (a .n) (a .t3)) (l .inv .0) (l .i) (l .j) (omega arith) (omega arith) p inside (omega arith) (omega arith),
+    )
 
 -- src/traverse.rt:71:1
 returns-3 : tie.Need-returns-3 Inv-loop μ-loop
