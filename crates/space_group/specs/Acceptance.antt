@@ -232,7 +232,7 @@ module _ (c : Centering) (gens : List Operation) (l : List SpaceMotion) (e : lis
 
   module _ (keep : AllKeep c gens) where
     -- The motions of generators that map L onto L keep L.
-    motions-keep : (g : SpaceMotion) → Mem g (motions gens) → Keeps (pointsOf c) g
+    pub motions-keep : (g : SpaceMotion) → Mem g (motions gens) → Keeps (pointsOf c) g
     unfolding motionOf
     motions-keep g m = let (o, k, p) = mem-of-map motionOf gens m in rw (← p) (keep o k)
 

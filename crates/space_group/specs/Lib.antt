@@ -9,3 +9,7 @@ pub mod Resuming
 pub mod OperationGrowth
 -- When a group is answered, and when each refusal:
 pub mod Acceptance
+-- What an accepted symbol's list is: its members, its order, its group, and the set of motions:
+pub mod Members
+pub mod WordOrder
+pub mod SetOfMotions

@@ -57,7 +57,7 @@ unfolding operationOf
 same-turn f g p = ap (λ A. codeOf (digitsOf A)) p
 
 -- Codes tell rotations apart as matrices do.
-same-image : (f g : SpaceMotion) → Small f → Small g → sameRotation f g ≡ sameTurn (operationOf f) (operationOf g)
+pub same-image : (f g : SpaceMotion) → Small f → Small g → sameRotation f g ≡ sameTurn (operationOf f) (operationOf g)
 same-image f g h k = same-test (sameRotation f g) (sameTurn (operationOf f) (operationOf g)) forth back
   where
     forth : T (sameRotation f g) → T (sameTurn (operationOf f) (operationOf g))
@@ -69,7 +69,7 @@ same-image f g h k = same-test (sameRotation f g) (sameTurn (operationOf f) (ope
         rotation-same f g (sym (operation-rotation f h) ∙ ap matrixOf digits ∙ operation-rotation g k)
 
 -- Vectors with the same residues have differences with the same residues.
-same-difference : (v w v′ w′ : Vector) → reduced v ≡ reduced v′ → reduced w ≡ reduced w′ → reduced (plus v (opposite w)) ≡ reduced (plus v′ (opposite w′))
+pub same-difference : (v w v′ w′ : Vector) → reduced v ≡ reduced v′ → reduced w ≡ reduced w′ → reduced (plus v (opposite w)) ≡ reduced (plus v′ (opposite w′))
 same-difference v w v′ w′ p q = simp (reduced-plus, reduced-opposite, p, q)
 
 -- Translations modulo 12 are in one class as the vectors are.
@@ -141,7 +141,7 @@ module _ (c : Centering) where
   unfolding isSmall
   small-same f g t e = rw (same-rotation f g t) e
 
-  identity-operation : operationOf identity ≡ identityOperation
+  pub identity-operation : operationOf identity ≡ identityOperation
   unfolding operationOf digitOf digitAbove unit origin one nought residue
   identity-operation = refl
 
