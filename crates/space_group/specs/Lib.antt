@@ -7,6 +7,7 @@ pub mod Traversal
 pub mod Resuming
 -- That the two are one:
 pub mod OperationGrowth
+pub mod Slots
 -- When a group is answered, and when each refusal:
 pub mod Acceptance
 -- What an accepted symbol's list is: its members, its order, its group, and the set of motions:

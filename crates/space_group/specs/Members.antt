@@ -218,7 +218,9 @@ module _ (c : Centering) (gens operations : List Operation) (steps : List ℕ) (
       let keep-f = generated-keeps f t in
       let keep-g = generated-keeps g r in
       let keep-o = alike-keeps g (motionOf o) close keep-g in
-      let keep-p = alike-keeps f (motionOf p) near keep-f in
-      (p, k,
-       M .alike-transitive (compose (motionOf p) (motionOf o)) (compose f g) identity (M .alike-symmetric (compose f g) (compose (motionOf p) (motionOf o)) (alike-product f g (motionOf p) (motionOf o) keep-f keep-g keep-p keep-o near close)) left,
-       M .alike-transitive (compose (motionOf o) (motionOf p)) (compose g f) identity (M .alike-symmetric (compose g f) (compose (motionOf o) (motionOf p)) (alike-product g f (motionOf o) (motionOf p) keep-g keep-f keep-o keep-p close near)) right)
+      let keep-p = alike-keeps f (motionOf p) near keep-f in (
+        p,
+        k,
+        M .alike-transitive (compose (motionOf p) (motionOf o)) (compose f g) identity (M .alike-symmetric (compose f g) (compose (motionOf p) (motionOf o)) (alike-product f g (motionOf p) (motionOf o) keep-f keep-g keep-p keep-o near close)) left,
+        M .alike-transitive (compose (motionOf o) (motionOf p)) (compose g f) identity (M .alike-symmetric (compose g f) (compose (motionOf o) (motionOf p)) (alike-product g f (motionOf o) (motionOf p) keep-g keep-f keep-o keep-p close near)) right,
+      )
