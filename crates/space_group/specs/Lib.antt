@@ -1,5 +1,6 @@
 -- From generators to a group.
 -- What generators generate, and what is answered, of motions of space:
+pub mod Refusals
 pub mod Generated
 -- The list as a program grows it:
 pub mod Places

@@ -7,8 +7,8 @@ use Prim.Native.Nat.{ℕ, zero, suc, _+_, _≤_, _<_}
 use native.Mathlib.Numerals.{add-one}
 use native.Mathlib.Omega.{arith}
 use lib.Dec.{ltb}
-use lib.ListN.{length, getD, drop, replicate}
-use lib.Seq.{drop-cons, drop-length}
+use lib.ListN.{length, getD, take, drop, replicate}
+use lib.Seq.{drop-cons, drop-length, length-take-le, take-all}
 use borrow.Author.Tests.{lt-ltb, le-ltb}
 use Rattle.laws.specs.Motion.{SpaceMotion, compose}
 use Rattle.laws.specs.Lattice.{all}
@@ -53,6 +53,19 @@ answerOf c n (group operations steps) =
       steps = padded 432 0 steps;
     }
 answerOf c n (refused r) = refusedAnswer r
+
+-- The answer of a list of generators.
+unfoldable pub groupAnswer : Centering → List Operation → SpaceGroup
+groupAnswer c gens = answerOf c (length gens) (outcomeOf c gens)
+
+-- As the first n of nine,
+pub answer-few : (c : Centering) (n : ℕ) (l : List Operation) → length l ≡ 9 → n ≤ 9 → answerOf c n (outcomeOf c (take n l)) ≡ groupAnswer c (take n l)
+unfolding groupAnswer
+answer-few c n l e h = ap (λ (m : ℕ). answerOf c m (outcomeOf c (take n l))) (sym (length-take-le n l (omega arith)))
+
+-- or as all nine.
+pub answer-all : (c : Centering) (n : ℕ) (l : List Operation) → length l ≡ 9 → 9 < n → answerOf c 9 (outcomeOf c (take 9 l)) ≡ groupAnswer c (take n l)
+answer-all c n l e h = answer-few c 9 l e (omega arith) ∙ ap (groupAnswer c) (take-all 9 l (omega arith) ∙ sym (take-all n l (omega arith)))
 
 -- ---- the search for a generator that is off
 module _ (c : Centering) (gens : List Operation) (i : ℕ) (h : i < length gens) where
