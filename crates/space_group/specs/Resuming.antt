@@ -123,7 +123,7 @@ map-set f (y ∷ l) zero x = refl
 map-set f (y ∷ l) (suc i) x = ap (λ r. f y ∷ r) (map-set f l i x)
 
 -- Inside a list it does not matter what would stand past its end.
-at-any : {A : Type 0} (l : List A) (i : ℕ) (d e : A) → i < length l → getD l i d ≡ getD l i e
+pub at-any : {A : Type 0} (l : List A) (i : ℕ) (d e : A) → i < length l → getD l i d ≡ getD l i e
 at-any [] i d e h = absurd (omega arith)
 at-any (x ∷ l) zero d e h = refl
 at-any (x ∷ l) (suc i) d e h = at-any l i d e (omega arith)

@@ -7,10 +7,11 @@ use Prim.Native.Nat.{ℕ, zero, suc, _+_, _≤_, _<_}
 use native.Mathlib.Numerals.{add-one}
 use native.Mathlib.Omega.{arith}
 use lib.Dec.{ltb}
-use lib.ListN.{length, getD, take, drop, replicate}
+use lib.ListN.{length, getD, take, drop, replicate, length-map}
 use lib.Seq.{drop-cons, drop-length, length-take-le, take-all}
 use borrow.Author.Tests.{lt-ltb, le-ltb}
-use Rattle.laws.specs.Motion.{SpaceMotion, compose}
+use Rattle.laws.specs.Motion.{SpaceMotion, compose, identity}
+use Rattle.laws.specs.Closure.{closure-length}
 use Rattle.laws.specs.Lattice.{all}
 use Rattle.laws.specs.SameMatrix.{sameRotation}
 use Rattle.laws.specs.Growth.{Growth, imageGrowth}
@@ -117,6 +118,32 @@ module _ (c : Centering) (gens : List Operation) where
   pub outcome-growth : length gens ≤ firstOff c gens → outcomeOf c gens ≡ onGrowth (growth c gens)
   unfolding outcomeOf
   outcome-growth h = rw (le-ltb (firstOff c gens) (length gens) h) (growth-outcome c gens)
+
+-- ---- the number of operations
+-- A listing has at most 48.
+listing-length : (gens : List Operation) (l : List SpaceMotion) → listing gens ≡ some l → length l ≤ 48
+unfolding listing
+listing-length gens l e = closure-length sameRotation compose identity (motions gens) 48 l e
+
+-- A list that was answered is that of a listing.
+few-listed : (c : Centering) (gens : List Operation) (o : Option (List SpaceMotion)) → listing gens ≡ o → (operations : List Operation) (steps : List ℕ) → onListing c gens o ≡ group operations steps → length operations ≤ 48
+unfolding onList
+few-listed c gens none e operations steps p = let z : _≡_ {A = ℕ} 0 1 = cc in absurd (omega arith)
+few-listed c gens (some l) e operations steps p = by-cases (all isSmall l) (steadyFrom sameRotation (sameVectorClass c) isSmall compose (motions gens) l l) (stepsFrom sameRotation (sameVectorClass c) isSmall compose (motions gens) l l) p
+  where
+    by-cases : (a b : Bool) (indices : List ℕ) → cond a (cond b (group (map operationOf l) indices) (refused Translations)) (refused Rotations) ≡ group operations steps → length operations ≤ 48
+    by-cases true true indices q = let z : map operationOf l ≡ operations = cc in rw (← z, length-map l operationOf) (listing-length gens l e)
+    by-cases true false indices q = let z : _≡_ {A = ℕ} 0 1 = cc in absurd (omega arith)
+    by-cases false b indices q = let z : _≡_ {A = ℕ} 0 1 = cc in absurd (omega arith)
+
+-- There are never more than 48.
+pub outcome-few : (c : Centering) (gens operations : List Operation) (steps : List ℕ) → outcomeOf c gens ≡ group operations steps → length operations ≤ 48
+unfolding outcomeOf
+outcome-few c gens operations steps p = by-off (ltb (firstOff c gens) (length gens)) p
+  where
+    by-off : (b : Bool) → cond b (refused (Lattice (firstOff c gens))) (onListing c gens (listing gens)) ≡ group operations steps → length operations ≤ 48
+    by-off true q = let z : _≡_ {A = ℕ} 0 1 = cc in absurd (omega arith)
+    by-off false q = few-listed c gens (listing gens) refl operations steps q
 
 -- ---- from the slots to the growth
 -- The list did not end,
