@@ -1,0 +1,86 @@
+-- The invariant: the members still to come, and the values of the others.
+-- (a x) b
+use mathlib.Core.Path.{_≡_, refl, sym, ap, _∙_, subst}
+use mathlib.Core.Bool.{true}
+use mathlib.Core.List.{List}
+use Prim.Native.Nat.{ℕ, _<_, _^_}
+use native.Mathlib.Omega.{arith}
+use lib.Bits.{bitOr}
+use borrow.Author.Needs.{needs}
+use Rattle.laws.specs.Sets.{member, member-below}
+use Rattle.finite_group.specs.ImageLoop.{Imaging, imaging-start, imaging-step, imaging-end}
+use Rattle.finite_group.specs.Removal.{without-less}
+use Rattle.finite_group.specs.Table.{product}
+use Rattle.finite_group.proofs.adjoin.image.Statement.{statement}
+use Rattle.finite_group.proofs.adjoin.image.Tie as tie
+use Rattle.finite_group.proofs.adjoin.image.Reads as reads
+use Rattle.finite_group.proofs.adjoin.image.Lts as lts
+use Rattle.finite_group.proofs.sets.lowest.Reads as lowest-reads
+use Rattle.finite_group.proofs.sets.with_element.Reads as with-element-reads
+use Rattle.finite_group.proofs.sets.without.Reads as without-reads
+use Rattle.finite_group.proofs.table.cell.Reads as cell-reads
+
+abbrev value : List ℕ → ℕ → ℕ → ℕ → ℕ → ℕ
+value t n a b x = product n t (product n t a x) b
+
+abbrev Inv-loop : tie.InvT-loop
+Inv-loop t n s a b left₀ found₀ left found = Imaging n (value t n a b) s left found
+
+abbrev μ-loop : tie.MeasureT-loop
+μ-loop t n s a b left₀ found₀ left found = left
+
+loop-holds : tie.Need-loop-holds Inv-loop μ-loop
+loop-holds c = imaging-start _ _ _
+
+lowest-requires : tie.Need-lowest-requires Inv-loop μ-loop
+lowest-requires c κs = c .loop-test .taken
+
+cell-requires : tie.Need-cell-requires Inv-loop μ-loop
+cell-requires c κs =
+    let l = c .before .before .loop in
+    let p = c .before .before .before .before .pre in
+    (p .0, p .2, member-below _ _ _ (p .1) (l .inv .inside _ (c .lowest .ensures .0)))
+
+cell-requires-2 : tie.Need-cell-requires-2 Inv-loop μ-loop
+cell-requires-2 c κs = let p = c .before .before .before .before .before .pre in (p .0, c .cell .ensures .1, p .3)
+
+with-element-requires : tie.Need-with-element-requires Inv-loop μ-loop
+with-element-requires c κs = let h = c .before .before .before .before .before .before .pre .0 .limit in let k = c .cell2 .ensures .1 in omega arith
+
+without-requires : tie.Need-without-requires Inv-loop μ-loop
+without-requires c κs = c .before .before .before .lowest .ensures
+
+loop-less : tie.Need-loop-less Inv-loop μ-loop
+loop-less c = without-less _ _ _ (c .without .ensures)
+
+loop-again : tie.Need-loop-again Inv-loop μ-loop
+loop-again c =
+    let l = c .before .before .before .before .before .before .loop in
+    let a = c .before .before .before .before .before .before .before .before .args in
+    let y : c .before .before .cell2 .result ≡ value (a .t .now) (a .n) (a .a) (a .b) (c .before .before .before .before .lowest .result) =
+    c .before .before .cell2 .ensures .0 ∙ ap (λ (z : ℕ). product (a .n) (a .t .now) z (a .b)) (c .before .before .before .cell .ensures .0) in
+    let found : c .before .with-element .result ≡ bitOr (l .found) (2 ^ value (a .t .now) (a .n) (a .a) (a .b) (c .before .before .before .before .lowest .result)) =
+    c .before .with-element .ensures ∙ ap (λ (z : ℕ). bitOr (l .found) (2 ^ z)) y in
+    rw found (imaging-step _ _ _ (l .left) (l .found) (c .before .before .before .before .lowest .result) (c .without .result) (l .inv) (c .before .before .before .before .lowest .ensures .0) (c .without .ensures) (rw (← y) (c .before .before .cell2 .ensures .1)))
+
+returns : tie.Need-returns Inv-loop μ-loop
+returns c =
+    let l = c .before .loop in
+    let none : l .left ≡ 0 = omega arith in
+    imaging-end _ _ _ (c .before .before .before .pre .1) (l .left) (l .found) none (l .inv)
+
+pub image-spec : {M : Type 1} → statement M
+image-spec =
+    tie.close
+    (tie.spec
+    Inv-loop
+    μ-loop
+    loop-holds
+    lowest-requires
+    cell-requires
+    cell-requires-2
+    with-element-requires
+    without-requires
+    loop-less
+    loop-again
+    returns)

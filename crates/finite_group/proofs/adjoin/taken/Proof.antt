@@ -1,0 +1,78 @@
+-- Three returns, one for each case of `Taken`. The members of the coset below the bound are its remainder by 2 ^ bound.
+use mathlib.Core.Path.{_≡_, refl, sym, ap, _∙_, subst}
+use mathlib.Core.Bool.{Bool, true, false}
+use Prim.Native.Nat.{ℕ, _*_, _%_, _^_, _<_}
+use native.Mathlib.Omega.{arith}
+use lib.Bits.{bitAnd, bitOr}
+use lib.Dec.{eqb}
+use lib.Pow.{pow-pos}
+use borrow.Author.Needs.{needs}
+use borrow.Author.Tests.{not-true, not-false}
+use Rattle.laws.specs.Sets.{member, shifted-one}
+use Rattle.finite_group.specs.Adjoin.{cosetOf}
+use Rattle.finite_group.specs.Growth.{Taken, seen, barred, joins, within-passes, within-fails}
+use Rattle.finite_group.specs.Table.{product}
+use Rattle.finite_group.proofs.adjoin.taken.Statement.{statement}
+use Rattle.finite_group.proofs.adjoin.taken.Tie as tie
+use Rattle.finite_group.proofs.adjoin.taken.Reads as reads
+use Rattle.finite_group.proofs.adjoin.taken.Lts as lts
+use Rattle.finite_group.proofs.adjoin.image.Reads as image-reads
+use Rattle.finite_group.proofs.sets.contains.Reads as contains-reads
+use Rattle.finite_group.proofs.sets.with_element.Reads as with-element-reads
+use Rattle.finite_group.proofs.sets.within.Reads as within-reads
+
+contains-requires : tie.Need-contains-requires
+contains-requires c κs = search needs
+
+returns : tie.Need-returns
+returns c = seen (sym (c .before .contains .ensures) ∙ c .if1 .taken)
+
+image-requires : tie.Need-image-requires
+image-requires c κs = search needs
+
+shl-low : tie.Need-shl-low
+shl-low c = search needs
+
+rem-low : tie.Need-rem-low
+rem-low c =
+    let h : c .before .before .before .before .args .bound < 64 = let a = c .before .before .before .before .pre .4 in let b = c .before .before .before .before .pre .0 .limit in omega arith in
+    rw (shifted-one 64 (c .before .before .before .before .args .bound) h) (pow-pos (c .before .before .before .before .args .bound))
+
+within-requires : tie.Need-within-requires
+within-requires c κs = search needs
+
+returns-2 : tie.Need-returns-2
+returns-2 c =
+    let a = c .before .before .before .before .before .before .args in
+    let h : a .bound < 64 = let p = c .before .before .before .before .before .before .pre .4 in let b = c .before .before .before .before .before .before .pre .0 .limit in omega arith in
+    let coset = cosetOf (a .n) (product (a .n) (a .t .now)) (a .e) (a .h) (a .p) in
+    let test : eqb (bitAnd (coset % 2 ^ a .bound) (a .h)) (coset % 2 ^ a .bound) ≡ false =
+    rw (← c .before .before .image .ensures, ← shifted-one 64 (a .bound) h) (sym (c .before .within .ensures) ∙ not-true _ (c .if2 .taken)) in
+    let (i, l, m, new) = within-fails (a .bound) coset (a .h) test in
+    barred refl i l m new
+
+with-element-requires : tie.Need-with-element-requires
+with-element-requires c κs = search needs
+
+returns-3 : tie.Need-returns-3
+returns-3 c =
+    let a = c .before .before .before .before .before .before .before .args in
+    let h : a .bound < 64 = let p = c .before .before .before .before .before .before .before .pre .4 in let b = c .before .before .before .before .before .before .before .pre .0 .limit in omega arith in
+    let coset = cosetOf (a .n) (product (a .n) (a .t .now)) (a .e) (a .h) (a .p) in
+    let test : eqb (bitAnd (coset % 2 ^ a .bound) (a .h)) (coset % 2 ^ a .bound) ≡ true =
+    rw (← c .before .before .before .image .ensures, ← shifted-one 64 (a .bound) h) (sym (c .before .before .within .ensures) ∙ not-false _ (c .before .if2 .left)) in
+    rw (c .before .before .before .image .ensures, c .with-element .ensures) (joins (sym (c .before .before .before .before .before .contains .ensures) ∙ c .before .before .before .before .if1 .left) (within-passes (a .bound) coset (a .h) test))
+
+pub taken-spec : {M : Type 1} → statement M
+taken-spec =
+    tie.close
+    (tie.spec
+    contains-requires
+    returns
+    image-requires
+    shl-low
+    rem-low
+    within-requires
+    returns-2
+    with-element-requires
+    returns-3)

@@ -1,0 +1,22 @@
+-- The two cases.
+use mathlib.Core.Path.{_≡_}
+use borrow.Author.Needs.{needs}
+use borrow.Author.Tests.{not-true, not-false}
+use Rattle.finite_group.specs.Representatives.{first-represented, itself-represented}
+use Rattle.finite_group.proofs.conjugation.representative.Statement.{statement}
+use Rattle.finite_group.proofs.conjugation.representative.Tie as tie
+use Rattle.finite_group.proofs.conjugation.representative.Reads as reads
+use Rattle.finite_group.proofs.conjugation.representative.Lts as lts
+use Rattle.finite_group.proofs.conjugation.first_conjugate.Reads as first-conjugate-reads
+
+returns : tie.Need-returns
+returns c = itself-represented _ _ _ (c .before .before .pre .0 .group) _ _ (not-true _ (c .if1 .taken)) (c .before .before .pre .1)
+
+first-conjugate-requires : tie.Need-first-conjugate-requires
+first-conjugate-requires c κs = search needs
+
+returns-2 : tie.Need-returns-2
+returns-2 c = first-represented _ _ _ (c .before .before .before .pre .0 .group) _ _ _ (not-false _ (c .before .if1 .left)) (c .before .before .before .pre .1) (c .first-conjugate .ensures)
+
+pub representative-spec : {M : Type 1} → statement M
+representative-spec = tie.close (tie.spec returns first-conjugate-requires returns-2)

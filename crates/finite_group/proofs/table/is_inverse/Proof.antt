@@ -1,0 +1,30 @@
+-- Both products are compared with the identity.
+use mathlib.Core.Path.{_≡_, sym, ap, _∙_}
+use lib.Dec.{eqb}
+use Prim.Native.Nat.{ℕ}
+use borrow.Author.Needs.{needs}
+use borrow.Author.Tests.{eq-eqb, ne-eqb}
+use Rattle.finite_group.specs.Bounded.{and-fails-left}
+use Rattle.finite_group.specs.Groups.{isInverse}
+use Rattle.finite_group.proofs.table.is_inverse.Statement.{statement}
+use Rattle.finite_group.proofs.table.is_inverse.Tie as tie
+use Rattle.finite_group.proofs.table.is_inverse.Reads as reads
+use Rattle.finite_group.proofs.table.is_inverse.Lts as lts
+use Rattle.finite_group.proofs.table.cell.Reads as cell-reads
+
+cell-requires : tie.Need-cell-requires
+cell-requires c κs = search needs
+
+returns : tie.Need-returns
+unfolding isInverse
+returns c = sym (and-fails-left _ _ (ne-eqb _ _ (λ q. c .if1 .taken (c .before .cell .ensures .0 ∙ q))))
+
+cell-requires-2 : tie.Need-cell-requires-2
+cell-requires-2 c κs = search needs
+
+returns-2 : tie.Need-returns-2
+unfolding isInverse
+returns-2 c = simp (← c .before .before .cell .ensures .0, eq-eqb _ _ (c .before .if1 .left), ← c .cell2 .ensures .0)
+
+pub is-inverse-spec : {M : Type 1} → statement M
+is-inverse-spec = tie.close (tie.spec cell-requires returns cell-requires-2 returns-2)

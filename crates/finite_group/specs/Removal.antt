@@ -1,0 +1,66 @@
+-- A set without one of its members, as loops over the members of a set take them out.
+use mathlib.Core.Path.{_≡_, refl, sym, ap, _∙_}
+use mathlib.Core.Logic.{_⊎_, inl, inr}
+use mathlib.Core.Bool.{Bool, true, false, not, _&&_, _||_, true≢false}
+use Prim.Native.Nat.{ℕ, _+_, _^_, _<_, _≤_}
+use native.Mathlib.Decide.{ℕ-discrete}
+use native.Mathlib.Omega.{arith}
+use lib.Bits.{bitOr, bitXor}
+use lib.Count.{ones}
+use lib.Dec.{eqb}
+use lib.Pow.{pow-pos}
+use borrow.Author.Tests.{eq-eqb, ne-eqb, eqb-true}
+use Rattle.laws.specs.Sets.{member, member-below, member-singleton, member-difference, same-sets, or-new, member-add, ones-add, with-member, Subset}
+use Rattle.finite_group.specs.Bounded.{or-either, or-holds-left, or-holds-right}
+
+-- r is s without its member i
+pub record Without (s i r : ℕ) : Type 0 where
+  pub gone : member r i ≡ false
+  pub whole : s ≡ r + 2 ^ i
+
+-- the set of i is a subset of each set that holds i
+singleton-subset : (s i : ℕ) → member s i ≡ true → Subset (2 ^ i) s
+singleton-subset s i e j h = rw (sym (eqb-true i j (sym (member-singleton i j) ∙ h))) e
+
+-- a disjunct that fails and a conjunct that holds say nothing
+plain : (b : Bool) → ((b && true) || false) ≡ b
+plain true = refl
+plain false = refl
+
+module _ (s i : ℕ) (e : member s i ≡ true) where
+  -- what the bitwise xor with 2 ^ i leaves
+  left : (j : ℕ) → member (bitXor s (2 ^ i)) j ≡ (member s j && not (eqb i j))
+  left j = member-difference s (2 ^ i) j (singleton-subset s i e) ∙ ap (λ (b : Bool). member s j && not b) (member-singleton i j)
+
+  out : member (bitXor s (2 ^ i)) i ≡ false
+  out = left i ∙ rw (e, eq-eqb i i refl)
+
+  back : (j : ℕ) → member (bitOr (bitXor s (2 ^ i)) (2 ^ i)) j ≡ member s j
+  back j = with-member (bitXor s (2 ^ i)) i j ∙ elim (ℕ-discrete i j) [
+    | yes q ↦ rw (← q, eq-eqb i i refl, e, out)
+    | no q ↦ rw (left j, ne-eqb i j q) (plain (member s j))
+  ]
+
+  -- the bitwise xor with 2 ^ i takes a member out
+  pub xor-without : Without s i (bitXor s (2 ^ i))
+  xor-without = record { gone = out; whole = sym (sym (or-new (bitXor s (2 ^ i)) i out) ∙ same-sets _ s back) }
+
+module _ (s i r : ℕ) (W : Without s i r) where
+  -- what is left was there
+  pub without-old : Subset r s
+  without-old j h = rw (W .whole) (member-add r i j (W .gone) ∙ or-holds-left _ _ h)
+
+  -- what was there is left or was taken out
+  pub without-cases : (j : ℕ) → member s j ≡ true → (member r j ≡ true) ⊎ (i ≡ j)
+  without-cases j h = elim (or-either (member r j) (eqb i j) (sym (member-add r i j (W .gone)) ∙ ap (λ (k : ℕ). member k j) (sym (W .whole)) ∙ h)) [
+    | inl k ↦ inl k
+    | inr k ↦ inr (eqb-true _ _ k)
+  ]
+
+  -- it is a smaller number
+  pub without-less : r < s
+  without-less = omega (arith, W .whole, pow-pos i)
+
+  -- and has a member less
+  pub without-ones : (n : ℕ) → i < n → r < 2 ^ n → ones s ≡ ones r + 1
+  without-ones n h k = ap ones (W .whole) ∙ ones-add n r i h k (W .gone) ∙ omega arith

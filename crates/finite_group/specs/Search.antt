@@ -1,0 +1,454 @@
+-- The search for subgroups, or for one of each class: a list in order grows from the trivial subgroup. Each listed set h, the last first, is
+-- extended by each element g; what comes has more members than h, so it stands before h, and what stands behind h is settled. The idea
+-- of completeness: a subgroup S takes its elements in ascending order, and at each of them a listed set, or a conjugate of one, lies
+-- inside S and has all of S below the next.
+use mathlib.Core.Path.{_≡_, refl, sym, ap, ap₂, _∙_, subst}
+use mathlib.Core.Logic.{_⊎_, inl, inr, _≢_}
+use mathlib.Core.Bool.{Bool, true, false, true≢false}
+use mathlib.Core.List.{List, [], _∷_, _++_, append-assoc, List·Memᴰ as Mem, List·Memᴰ·head as here, List·Memᴰ·tail as there, List·Memᴰ·not-nil as not-nil, List·Memᴰ·cases-cons as cases, List·Memᴰ·append-cases as append-cases, Memᴰ·append-left as mem-left, Memᴰ·append-right as mem-right, Memᴰ·cast as mem-cast}
+use Prim.Native.Nat.{ℕ, zero, suc, _+_, _*_, _/_, _^_, _<_, _≤_}
+use native.Mathlib.Decide.{ℕ-discrete, decLt}
+use native.Mathlib.Nat.{le-of-suc-le-suc, lt-of-lt-of-le}
+use native.Mathlib.Omega.{arith}
+use lib.Count.{ones}
+use lib.ListN.{length, getD, take, drop, length-append, length-drop, take-append-drop}
+use lib.Pow.{pow-mono}
+use borrow.Author.Tests.{eqb-true}
+use lib.Seq.{drop-cons, drop-drop, getD-take, take-append-le, drop-append-le, getD-append-seam, length-take-le}
+use Rattle.laws.specs.ListOrder.{Precedes, more-members, precedes-irreflexive, precedes-transitive, precedes-total, precedes-strict, earlier, earlier-precedes, precedes-earlier}
+use Rattle.laws.specs.Sets.{member, member-below, Subset, subset-antisymmetric, ones-proper, member-singleton}
+use Rattle.laws.specs.Sorted.{Sorted, sorted-cons, sorted-append, append-sorted-left, append-sorted-right, append-sorted-across, at-member, before-all}
+use Rattle.finite_group.specs.Adjoin.{Barred, Extension}
+use Rattle.finite_group.specs.Bounded.{passes-or-fails}
+use Rattle.finite_group.specs.Conjugation.{conjugate-subset, conjugate-set-by-identity, conjugate-set-twice, conjugate-set-back, conjugate-set-forth, conjugate-subgroup, conjugate-below, conjugate-holds, conjugate-source, conjugate-forth, conjugate-element-below, inverse-below, conjugate-by-identity}
+use Rattle.finite_group.specs.Groups.{Group, inverseOf}
+use Rattle.finite_group.specs.Insertion.{Place, Inserted, present, full, added}
+use Rattle.finite_group.specs.Lists.{Chosen}
+use Rattle.finite_group.specs.Slots.{packed, bytesOf, movedUp, slotAt, Words, slot-packed, insertAt, inserted}
+use Rattle.finite_group.specs.Subsets.{Subgroup, conjugateOf, conjugateElement}
+use Rattle.finite_group.specs.declared.search.Found.{Found}
+use Rattle.finite_group.specs.declared.search.Found.the-variants.{Count, Full as Overflow}
+use Rattle.finite_group.specs.declared.slots.Insertion.{Insertion}
+use Rattle.finite_group.specs.declared.slots.Insertion.the-variants.{Present, Full, Added}
+
+-- ---- lists
+
+-- a member has a place
+pub mem-place : (l : List ℕ) {x : ℕ} → Mem x l → (i : ℕ) × (i < length l) × (getD l i 0 ≡ x)
+mem-place (y ∷ l) (here e) = (zero, omega arith, sym e)
+mem-place (y ∷ l) (there m) = let (i, h, e) = mem-place l m in (suc i, omega arith, e)
+
+-- an old member stays when one is put in
+pub insert-member : (p m : ℕ) (l : List ℕ) {x : ℕ} → Mem x l → Mem x (insertAt p m l)
+insert-member p m l {x} k = elim (append-cases (take p l) {t = drop p l} (subst (λ (r : List ℕ). Mem x r) (sym (take-append-drop p l)) k)) [
+  | inl h ↦ mem-left (m ∷ drop p l) h
+  | inr h ↦ mem-right (take p l) (there h)
+]
+
+-- what stands in the longer list is the new member or an old one
+pub insert-source : (p m : ℕ) (l : List ℕ) {x : ℕ} → Mem x (insertAt p m l) → (x ≡ m) ⊎ Mem x l
+insert-source p m l {x} k = elim (append-cases (take p l) {t = m ∷ drop p l} k) [
+  | inl h ↦ inr (subst (λ (r : List ℕ). Mem x r) (take-append-drop p l) (mem-left (drop p l) h))
+  | inr h ↦ elim (cases h) [
+    | inl e ↦ inl e
+    | inr j ↦ inr (subst (λ (r : List ℕ). Mem x r) (take-append-drop p l) (mem-right (take p l) j))
+  ]
+]
+
+-- the new member is in it
+pub insert-here : (p m : ℕ) (l : List ℕ) → Mem m (insertAt p m l)
+insert-here p m l = mem-right (take p l) (here refl)
+
+-- it is longer by one
+pub insert-length : (p m : ℕ) (l : List ℕ) → length (insertAt p m l) ≡ length l + 1
+insert-length p m l =
+    length-append (take p l) (m ∷ drop p l)
+    ∙ omega (arith, sym (length-append (take p l) (drop p l)) ∙ ap length (take-append-drop p l))
+
+-- a member put in before the last part
+pub insert-front : (p m : ℕ) (front back : List ℕ) → p ≤ length front → insertAt p m (front ++ back) ≡ insertAt p m front ++ back
+insert-front p m front back h =
+    ap₂ (λ (x y : List ℕ). x ++ m ∷ y) (take-append-le p front back h) (drop-append-le p front back h)
+    ∙ sym (append-assoc (take p front) (m ∷ drop p front) back)
+
+-- a set put in after all that stand before it, and before one that it stands before
+pub insert-sorted : (p m : ℕ) (l : List ℕ) → Sorted Precedes l → p ≤ length l → ((i : ℕ) → i < p → Precedes (getD l i 0) m)
+    → (p < length l → Precedes m (getD l p 0)) → Sorted Precedes (insertAt p m l)
+insert-sorted p m l sorted h before after =
+    sorted-append Precedes (append-sorted-left Precedes (take p l) (drop p l) parts) (sorted-cons first (append-sorted-right Precedes (take p l) (drop p l) parts))
+    (λ x y i j. elim (cases j) [
+      | inl e ↦ subst (λ (z : ℕ). Precedes x z) (sym e) (front-before x i)
+      | inr k ↦ append-sorted-across Precedes (take p l) (drop p l) parts x y i k
+    ])
+  where
+    parts : Sorted Precedes (take p l ++ drop p l)
+    parts = subst (λ (r : List ℕ). Sorted Precedes r) (sym (take-append-drop p l)) sorted
+
+    front-before : (x : ℕ) → Mem x (take p l) → Precedes x m
+    front-before x i =
+        let (j, k, e) = mem-place (take p l) i in
+        let k' : j < p = let q = length-take-le p l h in omega arith in
+        subst (λ (z : ℕ). Precedes z m) (sym (getD-take p l j 0 k') ∙ e) (before j k')
+
+    first : (y : ℕ) → Mem y (drop p l) → Precedes m y
+    first y j = elim (decLt p (length l)) [
+      | yes k ↦
+          let seam = drop-cons l p 0 k in
+          before-all Precedes precedes-strict (after k)
+          (subst (λ (r : List ℕ). Sorted Precedes r) seam (append-sorted-right Precedes (take p l) (drop p l) parts))
+          y
+          (subst (λ (r : List ℕ). Mem y r) seam j)
+      | no k ↦ absurd (none (drop p l) (let q = length-drop p l in omega arith) j)
+    ]
+      where
+        none : (r : List ℕ) → length r ≡ 0 → Mem y r → ⊥
+        none [] e m = not-nil m
+        none (x ∷ r) e m = omega arith
+
+-- eight bytes more are a slot more
+next : (count : ℕ) → 8 * count + 8 ≡ 8 * (count + 1)
+next count = omega arith
+
+-- ---- the state of the search
+
+module _ (n : ℕ) (_·_ : ℕ → ℕ → ℕ) (e : ℕ) (classes : Bool) where
+  infixl 70 _·_
+  -- the lent bytes hold the list l of chosen sets in its order, and are otherwise as they came
+  pub record Holding (came b l : List ℕ) (count : ℕ) : Type 0 where
+    pub bytes : b ≡ packed l ++ drop (8 * count) came
+    pub size : length l ≡ count
+    pub room : 8 * count ≤ length came
+    pub sorted : Sorted Precedes l
+    pub chosen : (s : ℕ) → Mem s l → Chosen n _·_ e classes s
+
+  -- k is listed, or a conjugate of it where classes are asked for
+  pub record Listed (l : List ℕ) (k : ℕ) : Type 0 where
+    pub set : ℕ
+    pub listed : Mem set l
+    pub conjugator : ℕ
+    pub below : conjugator < n
+    pub conjugate : k ≡ conjugateOf n _·_ e set conjugator
+    pub same : classes ≡ false → conjugator ≡ e
+
+  -- the extension of h by g is listed; or it may be passed over, as it holds a new element below g
+  abbrev pub Settled : List ℕ → ℕ → ℕ → Type 0
+  Settled l h g = ((k : ℕ) × Extension n _·_ e h g k × Listed l k) ⊎ ((classes ≡ false) × Barred n _·_ e h g g)
+
+  -- there are more chosen sets than slots
+  pub record TooMany (slots : ℕ) : Type 0 where
+    pub list : List ℕ
+    pub sorted : Sorted Precedes list
+    pub chosen : (s : ℕ) → Mem s list → Chosen n _·_ e classes s
+    pub more : slots < length list
+
+  -- what a step of the search answers: sets were put in before h, and Done holds of the new list; or there are too many
+  pub data Progress (came front tail b : List ℕ) (h : ℕ) (Done : List ℕ → Type 0) : Found → Type 0 where
+    counted : (front' : List ℕ) {count : ℕ} → Holding came b (front' ++ h ∷ tail) count
+        → ((s : ℕ) → Mem s (front ++ h ∷ tail) → Mem s (front' ++ h ∷ tail)) → Done (front' ++ h ∷ tail)
+        → Progress came front tail b h Done (Count count)
+    overflow : (l : List ℕ) (count : ℕ) → Holding came b l count → TooMany (length came / 8) → Progress came front tail b h Done Overflow
+
+  -- a listed set stays listed in a longer list
+  pub listed-more : (l m : List ℕ) → ((s : ℕ) → Mem s l → Mem s m) → (k : ℕ) → Listed l k → Listed m k
+  listed-more l m f k L = record {
+    set = L .set;
+    listed = f _ (L .listed);
+    conjugator = L .conjugator;
+    below = L .below;
+    conjugate = L .conjugate;
+    same = L .same;
+  }
+
+  -- what is settled stays so
+  pub settled-more : (l m : List ℕ) → ((s : ℕ) → Mem s l → Mem s m) → (h g : ℕ) → Settled l h g → Settled m h g
+  settled-more l m f h g (inl (k, E, L)) = inl (k, E, listed-more l m f k L)
+  settled-more l m f h g (inr B) = inr B
+
+  module _ (limit : n ≤ 48) where
+    -- the sets fit a word
+    chosen-word : (s : ℕ) → Chosen n _·_ e classes s → s < 2 ^ 64
+    chosen-word s C = let wide : n ≤ 64 = omega arith in lt-of-lt-of-le (C .subgroup .small) (pow-mono wide)
+
+    module _ (came b l : List ℕ) (count : ℕ) (H : Holding came b l count) where
+      holding-words : Words l
+      holding-words s m = chosen-word s (H .chosen s m)
+
+      -- a slot holds the set at its place
+      pub holding-slot : (k : ℕ) → k < count → slotAt b k ≡ getD l k 0
+      holding-slot k h =
+          ap (λ (x : List ℕ). slotAt x k) (H .bytes)
+          ∙ slot-packed l (drop (8 * count) came) k holding-words (let q = H .size in omega arith)
+
+      -- a set that is put in
+      module _ (m p : ℕ) (C : Chosen n _·_ e classes m) (P : Place b count m p) (apart : p < count → slotAt b p ≡ m → ⊥) where
+        place-before : (i : ℕ) → i < p → Precedes (getD l i 0) m
+        place-before i h =
+            let k = P .inside in
+            earlier-precedes 64 _ m (subst (λ (s : ℕ). earlier 64 s m ≡ true) (holding-slot i (omega arith)) (P .before i h))
+
+        place-after : p < length l → Precedes m (getD l p 0)
+        place-after h =
+            let k : p < count = let q = H .size in omega arith in
+            let s : slotAt b p ≡ getD l p 0 = holding-slot p k in
+            let word = holding-words _ (at-member Precedes l p 0 h) in
+            elim (precedes-total m (getD l p 0) (λ q. apart k (s ∙ sym q))) [
+              | inl f ↦ f
+              | inr f ↦ absurd (true≢false (sym (precedes-earlier 64 _ m word f) ∙ subst (λ (z : ℕ). earlier 64 z m ≡ false) s (P .after k)))
+            ]
+
+        place-inside : p ≤ length l
+        place-inside = let k = P .inside in let q = H .size in omega arith
+
+        -- the list stays in order
+        pub holding-sorted : Sorted Precedes (insertAt p m l)
+        holding-sorted = insert-sorted p m l (H .sorted) place-inside place-before place-after
+
+        pub holding-chosen : (s : ℕ) → Mem s (insertAt p m l) → Chosen n _·_ e classes s
+        holding-chosen s k = elim (insert-source p m l k) [ inl q ↦ rw q C | inr j ↦ H .chosen s j ]
+
+        -- with no slot left there are too many
+        pub holding-full : length came ≡ length b → length b / 8 ≤ count → TooMany (length came / 8)
+        holding-full same none = record {
+          list = insertAt p m l;
+          sorted = holding-sorted;
+          chosen = holding-chosen;
+          more = let q = insert-length p m l in let r = H .size in let s = ap (λ (x : ℕ). x / 8) same in omega arith;
+        }
+
+        -- with one left the set is put in
+        pub holding-added : (exit : List ℕ) → count < length came / 8
+            → exit ≡ take (8 * p) (movedUp (8 * p) (8 * count) b) ++ (bytesOf m ++ drop (8 * p + 8) (movedUp (8 * p) (8 * count) b))
+            → Holding came exit (insertAt p m l) (count + 1)
+        holding-added exit room made = record {
+          bytes =
+              made ∙ ap (λ (x : List ℕ). take (8 * p) (movedUp (8 * p) (8 * count) x) ++ (bytesOf m ++ drop (8 * p + 8) (movedUp (8 * p) (8 * count) x))) (H .bytes)
+              ∙ inserted l (drop (8 * count) came) m p count (H .size) (P .inside) (rw length-drop (omega arith))
+              ∙ ap (λ (x : List ℕ). packed (insertAt p m l) ++ x) (drop-drop 8 (8 * count) came ∙ ap (λ (i : ℕ). drop i came) (next count));
+          size = insert-length p m l ∙ ap (λ (i : ℕ). i + 1) (H .size);
+          room = omega arith;
+          sorted = holding-sorted;
+          chosen = holding-chosen;
+        }
+
+      -- a set that is there is listed
+      pub holding-present : (m p : ℕ) → p < count → slotAt b p ≡ m → Mem m l
+      holding-present m p h q =
+          mem-cast (sym q ∙ holding-slot p h) (at-member Precedes l p 0 (let r = H .size in omega arith))
+
+    -- putting in a set that stands before h, and what Done then says
+    module _ (came b front tail : List ℕ) (h count : ℕ) (H : Holding came b (front ++ h ∷ tail) count) (same : length came ≡ length b)
+        (m : ℕ) (C : Chosen n _·_ e classes m) (P : Precedes m h) (Done : List ℕ → Type 0) (done : (l : List ℕ) → Mem m l → ((s : ℕ) → Mem s (front ++ h ∷ tail) → Mem s l) → Done l) where
+      -- it belongs among those in front of h
+      place-front : (p : ℕ) → Place b count m p → p ≤ length front
+      place-front p Q = elim (decLt (length front) p) [
+        | no k ↦ omega arith
+        | yes k ↦
+            let inside = Q .inside in
+            let s : slotAt b (length front) ≡ h = holding-slot came b (front ++ h ∷ tail) count H (length front) (omega arith) ∙ getD-append-seam front h tail 0 in
+            absurd (precedes-irreflexive m (precedes-transitive m h m P
+            (earlier-precedes 64 h m (subst (λ (z : ℕ). earlier 64 z m ≡ true) s (Q .before (length front) k)))))
+      ]
+
+      -- each outcome of the insertion is progress
+      pub inserted-present : {exit : List ℕ} → Inserted b count m exit Present → Progress came front tail exit h Done (Count count)
+      inserted-present (present q p k s) =
+          counted front (subst (λ (x : List ℕ). Holding came x (front ++ h ∷ tail) count) (sym q) H) (λ z i. i) (done _ (holding-present came b (front ++ h ∷ tail) count H m p k s) (λ z i. i))
+
+      pub inserted-full : {exit : List ℕ} → Inserted b count m exit Full → Progress came front tail exit h Done Overflow
+      inserted-full (full q none p Q apart) =
+          overflow (front ++ h ∷ tail) count (subst (λ (x : List ℕ). Holding came x (front ++ h ∷ tail) count) (sym q) H) (holding-full came b (front ++ h ∷ tail) count H m p C Q apart same none)
+
+      pub inserted-added : {exit : List ℕ} → Inserted b count m exit Added → Progress came front tail exit h Done (Count (count + 1))
+      inserted-added {exit} (added room p Q apart q) =
+          let at = place-front p Q in
+          let joint : insertAt p m (front ++ h ∷ tail) ≡ insertAt p m front ++ h ∷ tail = insert-front p m front (h ∷ tail) at in
+          let slots : count < length came / 8 = rw same room in
+          counted (insertAt p m front)
+          (subst (λ (l : List ℕ). Holding came exit l (count + 1)) joint (holding-added came b (front ++ h ∷ tail) count H m p C Q apart exit slots q))
+          (λ z i. subst (λ (l : List ℕ). Mem z l) joint (insert-member p m (front ++ h ∷ tail) i))
+          (done _ (subst (λ (l : List ℕ). Mem m l) joint (insert-here p m (front ++ h ∷ tail)))
+          (λ z i. subst (λ (l : List ℕ). Mem z l) joint (insert-member p m (front ++ h ∷ tail) i)))
+
+  -- ---- completeness
+
+  module _ (G : Group n _·_ e) where
+    -- h is its own extension by a member
+    pub own-extension : (h g : ℕ) → Subgroup n _·_ e h → member h g ≡ true → Extension n _·_ e h g h
+    own-extension h g H i = record { subgroup = H; over = λ x j. j; adjoined = i; least = λ u U over new x j. over x j }
+
+    -- a listed set is listed
+    pub listed-itself : (l : List ℕ) (s : ℕ) → s < 2 ^ n → Mem s l → Listed l s
+    listed-itself l s small m = record {
+      set = s;
+      listed = m;
+      conjugator = e;
+      below = G .identity-below;
+      conjugate = sym (conjugate-set-by-identity n _·_ e G s small);
+      same = λ q. refl;
+    }
+
+    -- an extension by a new element has more members, and so has each conjugate of it
+    pub extension-precedes : (h g k m : ℕ) → Extension n _·_ e h g k → member h g ≡ false → ones m ≡ ones k → Precedes m h
+    extension-precedes h g k m E new same =
+        let more = ones-proper h k (E .over) (λ q. true≢false (sym (E .adjoined) ∙ ap (λ (s : ℕ). member s g) (sym q) ∙ new)) in
+        more-members (omega arith)
+
+    -- the trivial subgroup is listed, and each listed set is settled for each element
+    pub record Complete (l : List ℕ) : Type 0 where
+      pub trivial : Mem (2 ^ e) l
+      pub chosen : (s : ℕ) → Mem s l → Chosen n _·_ e classes s
+      pub settled : (h g : ℕ) → Mem h l → g < n → Settled l h g
+
+    module _ (l : List ℕ) (C : Complete l) (S : ℕ) (T : Subgroup n _·_ e S) where
+      -- a listed set, or a conjugate of one, lies inside S and has all of S below i
+      record Inside (i : ℕ) : Type 0 where
+        set : ℕ
+        listed : Mem set l
+        conjugator : ℕ
+        below : conjugator < n
+        same : classes ≡ false → conjugator ≡ e
+        within : Subset (conjugateOf n _·_ e set conjugator) S
+        covers : (j : ℕ) → j < i → member S j ≡ true → member (conjugateOf n _·_ e set conjugator) j ≡ true
+
+      -- the trivial subgroup lies inside
+      inside-start : Inside 0
+      inside-start = record {
+        set = 2 ^ e;
+        listed = C .trivial;
+        conjugator = e;
+        below = G .identity-below;
+        same = λ q. refl;
+        within = λ x m. trivial-inside x (subst (λ (s : ℕ). member s x ≡ true) (conjugate-set-by-identity n _·_ e G (2 ^ e) (C .chosen _ (C .trivial) .subgroup .small)) m);
+        covers = λ j h. absurd (omega arith);
+      }
+        where
+          trivial-inside : (x : ℕ) → member (2 ^ e) x ≡ true → member S x ≡ true
+          trivial-inside x m = subst (λ (s : ℕ). member S s ≡ true) (eqb-true e x (sym (member-singleton e x) ∙ m)) (T .holds-identity)
+
+      -- an element more that is not in S, or is in the conjugate already, changes nothing
+      inside-more : (i : ℕ) (I : Inside i) → (member S i ≡ true → member (conjugateOf n _·_ e (I .set) (I .conjugator)) i ≡ true) → Inside (suc i)
+      inside-more i I f = record {
+        set = I .set;
+        listed = I .listed;
+        conjugator = I .conjugator;
+        below = I .below;
+        same = I .same;
+        within = I .within;
+        covers = λ j h m. elim (ℕ-discrete j i) [ yes q ↦ rw q (f (rw q at m)) | no q ↦ I .covers j (omega arith) m ];
+      }
+
+      -- an element of S that is new extends the listed set
+      module _ (i : ℕ) (I : Inside i) (m : member S i ≡ true) where
+        abbrev old : ℕ
+        old = I .set
+
+        abbrev x : ℕ
+        x = I .conjugator
+
+        abbrev back : ℕ
+        back = inverseOf n _·_ e x
+
+        -- the element that x conjugates to i
+        abbrev g : ℕ
+        g = conjugateElement n _·_ e i back
+
+        i-below : i < n
+        i-below = member-below n S i (T .small) m
+
+        back-below : back < n
+        back-below = inverse-below n _·_ e G x (I .below)
+
+        g-below : g < n
+        g-below = conjugate-element-below n _·_ e G i back i-below back-below
+
+        g-forth : conjugateElement n _·_ e g x ≡ i
+        g-forth = conjugate-forth n _·_ e G i x i-below (I .below)
+
+        small-old : old < 2 ^ n
+        small-old = C .chosen old (I .listed) .subgroup .small
+
+        -- S conjugated back
+        abbrev behind : ℕ
+        behind = conjugateOf n _·_ e S back
+
+        old-behind : Subset old behind
+        old-behind = subst (λ (s : ℕ). Subset s behind) (conjugate-set-back n _·_ e G old x small-old (I .below))
+            (conjugate-subset n _·_ e G _ S back (T .small) back-below (I .within))
+
+        -- the extension, which is listed, lies inside
+        extended-inside : (k : ℕ) → Extension n _·_ e old g k → Listed l k → Inside (suc i)
+        extended-inside k E L = record {
+          set = L .set;
+          listed = L .listed;
+          conjugator = L .conjugator · x;
+          below = G .product-below _ x (L .below) (I .below);
+          same = λ q. ap₂ _·_ (L .same q) (I .same q) ∙ G .left-identity e (G .identity-below);
+          within = λ z j. inner z (subst (λ (s : ℕ). member s z ≡ true) whole j);
+          covers = λ j h u. subst (λ (s : ℕ). member s j ≡ true) (sym whole) (elim (ℕ-discrete j i) [
+            | yes q ↦ subst (λ (z : ℕ). member (conjugateOf n _·_ e k x) z ≡ true) (g-forth ∙ sym q) (conjugate-holds n _·_ e G k x g (E .subgroup .small) (I .below) (E .adjoined))
+            | no q ↦ conjugate-subset n _·_ e G old k x (E .subgroup .small) (I .below) (E .over) j (I .covers j (omega arith) u)
+          ]);
+        }
+          where
+            whole : conjugateOf n _·_ e (L .set) (L .conjugator · x) ≡ conjugateOf n _·_ e k x
+            whole = sym (conjugate-set-twice n _·_ e G (L .set) (L .conjugator) x (C .chosen _ (L .listed) .subgroup .small) (L .below) (I .below))
+                ∙ ap (λ (s : ℕ). conjugateOf n _·_ e s x) (sym (L .conjugate))
+
+            inner : Subset (conjugateOf n _·_ e k x) S
+            inner = subst (λ (s : ℕ). Subset (conjugateOf n _·_ e k x) s) (conjugate-set-forth n _·_ e G S x (T .small) (I .below))
+                (conjugate-subset n _·_ e G k behind x (conjugate-below n _·_ e G S back) (I .below)
+                (E .least behind (conjugate-subgroup n _·_ e G S back back-below T) old-behind (conjugate-holds n _·_ e G S back i (T .small) back-below m)))
+
+        -- an extension that was passed over cannot lie inside
+        barred-inside : classes ≡ false → Barred n _·_ e old g g → ⊥
+        barred-inside q B =
+            let trivially : conjugateOf n _·_ e old x ≡ old = ap (conjugateOf n _·_ e old) (I .same q) ∙ conjugate-set-by-identity n _·_ e G old small-old in
+            let same-element : g ≡ i = sym (conjugate-by-identity n _·_ e G g g-below) ∙ ap (conjugateElement n _·_ e g) (sym (I .same q)) ∙ g-forth in
+            let over : Subset old S = subst (λ (s : ℕ). Subset s S) trivially (I .within) in
+            let held = B .forced .held S T over (rw same-element m) in
+            let low : B .element < i = let h = B .low in omega arith in
+            true≢false (sym (subst (λ (s : ℕ). member s (B .element) ≡ true) trivially (I .covers (B .element) low held)) ∙ B .new)
+
+        inside-new : Inside (suc i)
+        inside-new = elim (C .settled old g (I .listed) g-below) [
+          | inl (k, E, L) ↦ extended-inside k E L
+          | inr (q, B) ↦ absurd (barred-inside q B)
+        ]
+
+      -- up to any element
+      inside-all : (i : ℕ) → Inside i
+      inside-all zero = inside-start
+      inside-all (suc i) =
+          let I = inside-all i in
+          elim (passes-or-fails (member S i)) [
+            | inl m ↦ inside-new i I m
+            | inr f ↦ inside-more i I (λ t. absurd (true≢false (sym t ∙ f)))
+          ]
+
+      -- so S is a conjugate of a listed set, and the set itself where no classes are asked for
+      reached : (s x : ℕ) × Mem s l × (x < n) × (S ≡ conjugateOf n _·_ e s x) × (classes ≡ false → x ≡ e)
+      reached =
+          let I = inside-all n in (
+            I .set,
+            I .conjugator,
+            I .listed,
+            I .below,
+            subset-antisymmetric S _ (λ j m. I .covers j (member-below n S j (T .small) m) m) (I .within),
+            I .same,
+          )
+
+      -- a chosen subgroup is listed
+      pub complete-listed : Chosen n _·_ e classes S → Mem S l
+      complete-listed K = let (s, x, m, h, q, f) = reached in choose classes refl s x m h q f
+        where
+          choose : (b : Bool) → classes ≡ b → (s x : ℕ) → Mem s l → x < n → S ≡ conjugateOf n _·_ e s x → (classes ≡ false → x ≡ e) → Mem S l
+          choose false c s x m h q f =
+              mem-cast (q ∙ ap (conjugateOf n _·_ e s) (f c) ∙ conjugate-set-by-identity n _·_ e G s (C .chosen s m .subgroup .small)) m
+          choose true c s x m h q f = elim (ℕ-discrete S s) [
+            | yes p ↦ mem-cast p m
+            | no p ↦ elim (precedes-total S s p) [
+              | inl before ↦ absurd (C .chosen s m .first c x h (subst (λ (z : ℕ). Precedes z s) q before))
+              | inr before ↦ absurd (K .first c (inverseOf n _·_ e x) (inverse-below n _·_ e G x h)
+                  (subst (λ (z : ℕ). Precedes z S) (sym (conjugate-set-back n _·_ e G s x (C .chosen s m .subgroup .small) h) ∙ ap (λ (z : ℕ). conjugateOf n _·_ e z (inverseOf n _·_ e x)) (sym q)) before))
+            ]
+          ]

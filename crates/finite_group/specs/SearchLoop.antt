@@ -1,0 +1,338 @@
+-- The loops of the search: what each of them keeps, and what the search answers in the end.
+use mathlib.Core.Path.{_≡_, refl, sym, ap, ap₂, _∙_, subst}
+use mathlib.Core.Logic.{_⊎_, inl, inr}
+use mathlib.Core.Bool.{Bool, true, false, cond, true≢false}
+use mathlib.Core.List.{List, [], _∷_, _++_, append-assoc, append-nil, List·Memᴰ as Mem, List·Memᴰ·head as here, List·Memᴰ·tail as there, List·Memᴰ·cases-cons as cases, List·Memᴰ·not-nil as not-nil, List·Memᴰ·eq-of-singleton as mem-one, Memᴰ·append-right as mem-right}
+use Prim.Native.Nat.{ℕ, zero, suc, _+_, _*_, _-_, _/_, _^_, _<_, _≤_}
+use native.Mathlib.Decide.{decLt}
+use native.Mathlib.Omega.{arith}
+use lib.Count.{ones}
+use lib.ListN.{length, getD, take, drop, length-append, length-drop}
+use lib.Pow.{pow-lt}
+use lib.Seq.{split-at, drop-at, drop-append-add, drop-drop}
+use Rattle.laws.specs.ListOrder.{Precedes, precedes-irreflexive}
+use Rattle.laws.specs.Sets.{member, subset-antisymmetric}
+use Rattle.laws.specs.Sorted.{sorted-one, at-member}
+use Rattle.finite_group.specs.Adjoin.{Barred, Extension, singleton-self, singleton-only}
+use Rattle.finite_group.specs.Conjugation.{conjugate-source, conjugate-holds, conjugate-of-identity}
+use Rattle.finite_group.specs.Groups.{Group}
+use Rattle.finite_group.specs.Growth.{Adjoined}
+use Rattle.finite_group.specs.Insertion.{Inserted, added}
+use Rattle.finite_group.specs.Listing.{listed, listed-unique, listed-longest}
+use Rattle.finite_group.specs.Lists.{Chosen, chosen, chosen-passes, passes-chosen}
+use Rattle.finite_group.specs.Representatives.{Represented}
+use Rattle.finite_group.specs.Search.{Holding, holding-slot, Complete, complete-listed, Listed, Settled, TooMany, Progress, counted, overflow, settled-more, own-extension, listed-itself, extension-precedes, inserted-present, inserted-full, inserted-added}
+use Rattle.finite_group.specs.Slots.{packed, packed-length, bytesOf, slotAt, written}
+use Rattle.finite_group.specs.SubgroupLaws.{closed-set}
+use Rattle.finite_group.specs.Subsets.{Subgroup, conjugateOf}
+use Rattle.finite_group.specs.declared.search.Found.{Found}
+use Rattle.finite_group.specs.declared.search.Found.the-variants.{Count, Full as Overflow}
+use Rattle.finite_group.specs.declared.slots.Insertion.the-variants.{Present, Full, Added}
+
+-- the sets that are counted have slots
+abbrev pub Room : Found → List ℕ → Type 0
+Room (Count count) b = 8 * count ≤ length b
+Room Overflow b = Unit
+
+-- a set was put in only where a slot was free
+pub inserted-room : {b : List ℕ} {count m : ℕ} {exit : List ℕ} → Inserted b count m exit Added → count < length b / 8
+inserted-room (added room p Q apart q) = room
+
+module _ (n : ℕ) (_·_ : ℕ → ℕ → ℕ) (e : ℕ) (classes : Bool) where
+  -- what the search answers: the list in the first slots and its length; or that the list is longer than the slots, which are spoilt
+  abbrev pub SearchResult : List ℕ → List ℕ → Found → Type 0
+  SearchResult b exit (Count count) = (exit ≡ written (listed n (chosen n _·_ e classes)) b) × (count ≡ length (listed n (chosen n _·_ e classes))) × (8 * count ≤ length b)
+  SearchResult b exit Overflow = (length b / 8 < length (listed n (chosen n _·_ e classes))) × (drop (8 * (length b / 8)) exit ≡ drop (8 * (length b / 8)) b)
+
+  -- each extension of h by the elements from `from` to `to` was put into the list
+  pub record Extended (h from to count : ℕ) (b exit : List ℕ) (r : Found) : Type 0 where
+    pub room : Room r exit
+    pub progress : (came front tail : List ℕ) → Holding n _·_ e classes came b (front ++ h ∷ tail) count → length came ≡ length b
+        → Progress n _·_ e classes came front tail exit h (λ l. (g : ℕ) → from ≤ g → g < to → Settled n _·_ e classes l h g) r
+
+  -- what holds of one element holds from it to the next
+  one-element : (P : ℕ → Type 0) (g : ℕ) → P g → (j : ℕ) → g ≤ j → j < g + 1 → P j
+  one-element P g p j h k = let q : g ≡ j = omega arith in subst P q p
+
+  -- nothing was put in, as the extension is settled
+  pub extended-settled : (h g count : ℕ) (b : List ℕ) → 8 * count ≤ length b → ((l : List ℕ) → Mem h l → Settled n _·_ e classes l h g)
+      → Extended h g (g + 1) count b b (Count count)
+  extended-settled h g count b room settled = record {
+    room = room;
+    progress = λ came front tail H same. counted front H (λ s i. i)
+        (one-element (λ j. Settled n _·_ e classes (front ++ h ∷ tail) h j) g (settled (front ++ h ∷ tail) (mem-right front (here refl))));
+  }
+
+  module _ (G : Group n _·_ e) (h g : ℕ) (S : Subgroup n _·_ e h) where
+    -- h is its own extension by its members
+    pub member-settled : member h g ≡ true → (l : List ℕ) → Mem h l → Settled n _·_ e classes l h g
+    member-settled i l m = inl (h, own-extension n _·_ e classes G h g S i, listed-itself n _·_ e classes G l h (S .small) m)
+
+    -- an extension that holds a new element below g is passed over
+    pub barred-settled : Barred n _·_ e h g (cond classes 0 g) → (l : List ℕ) → Mem h l → Settled n _·_ e classes l h g
+    barred-settled B l m = either classes refl B
+      where
+        either : (c : Bool) → classes ≡ c → Barred n _·_ e h g (cond c 0 g) → Settled n _·_ e classes l h g
+        either true q B = absurd (let k = B .low in omega arith)
+        either false q B = inr (q, B)
+
+    module _ (limit : n ≤ 48) (k m : ℕ) (E : Extension n _·_ e h g k) (new : member h g ≡ false) (R : Represented n _·_ e classes k m) where
+      -- an extension whose representative is listed is settled
+      represented-settled : (l : List ℕ) → Mem m l → Settled n _·_ e classes l h g
+      represented-settled l i = inl (
+        k,
+        E,
+        record {
+          set = m;
+          listed = i;
+          conjugator = R .conjugator;
+          below = R .below;
+          conjugate = R .conjugate;
+          same = R .same;
+        },
+      )
+
+      done : (before : List ℕ) (l : List ℕ) → Mem m l → ((s : ℕ) → Mem s before → Mem s l) → (j : ℕ) → g ≤ j → j < g + 1 → Settled n _·_ e classes l h j
+      done before l i f = one-element (λ j. Settled n _·_ e classes l h j) g (represented-settled l i)
+
+      precedes : Precedes m h
+      precedes = extension-precedes n _·_ e classes G h g k m E new (R .count)
+
+      -- the three outcomes of the insertion
+      pub extended-present : (count : ℕ) (b exit : List ℕ) → 8 * count ≤ length exit → Inserted b count m exit Present → Extended h g (g + 1) count b exit (Count count)
+      extended-present count b exit room I = record {
+        room = room;
+        progress = λ came front tail H same.
+            inserted-present n _·_ e classes limit came b front tail h count H same m (R .chosen) precedes _ (done (front ++ h ∷ tail)) I;
+      }
+
+      pub extended-full : (count : ℕ) (b exit : List ℕ) → Inserted b count m exit Full → Extended h g (g + 1) count b exit Overflow
+      extended-full count b exit I = record {
+        room = tt;
+        progress = λ came front tail H same.
+            inserted-full n _·_ e classes limit came b front tail h count H same m (R .chosen) precedes _ (done (front ++ h ∷ tail)) I;
+      }
+
+      pub extended-added : (count : ℕ) (b exit : List ℕ) → 8 * (count + 1) ≤ length exit → Inserted b count m exit Added
+          → Extended h g (g + 1) count b exit (Count (count + 1))
+      extended-added count b exit room I = record {
+        room = room;
+        progress = λ came front tail H same.
+            inserted-added n _·_ e classes limit came b front tail h count H same m (R .chosen) precedes _ (done (front ++ h ∷ tail)) I;
+      }
+
+  -- no element yet
+  pub extended-none : (h count : ℕ) (b : List ℕ) → 8 * count ≤ length b → Extended h 0 0 count b b (Count count)
+  extended-none h count b room = record {
+    room = room;
+    progress = λ came front tail H same. counted front H (λ s i. i) (λ g j k. absurd (omega arith));
+  }
+
+  -- one stretch of elements after another
+  pub extended-next : (h mid to count middle : ℕ) (b between exit : List ℕ) (r : Found) → length between ≡ length b
+      → Extended h 0 mid count b between (Count middle) → Extended h mid to middle between exit r → Extended h 0 to count b exit r
+  extended-next h mid to count middle b between exit r same X Y = record {
+    room = Y .room;
+    progress = λ came front tail H long. join came front tail (X .progress came front tail H long) (long ∙ sym same);
+  }
+    where
+      join : (came front tail : List ℕ) → Progress n _·_ e classes came front tail between h (λ l. (g : ℕ) → 0 ≤ g → g < mid → Settled n _·_ e classes l h g) (Count middle)
+          → length came ≡ length between
+          → Progress n _·_ e classes came front tail exit h (λ l. (g : ℕ) → 0 ≤ g → g < to → Settled n _·_ e classes l h g) r
+      join came front tail (counted front' H more settled) long = more-join (Y .progress came front' tail H long)
+        where
+          more-join : {r : Found} → Progress n _·_ e classes came front' tail exit h (λ l. (g : ℕ) → mid ≤ g → g < to → Settled n _·_ e classes l h g) r
+              → Progress n _·_ e classes came front tail exit h (λ l. (g : ℕ) → 0 ≤ g → g < to → Settled n _·_ e classes l h g) r
+          more-join (counted front'' H' more' settled') = counted front'' H' (λ s i. more' s (more s i))
+              (λ g j k. elim (decLt g mid) [
+                | yes l ↦ settled-more n _·_ e classes (front' ++ h ∷ tail) (front'' ++ h ∷ tail) more' h g (settled g j l)
+                | no l ↦ settled' g (omega arith) k
+              ])
+          more-join (overflow l c H' many) = overflow l c H' many
+
+  -- where there are too many sets it does not matter how far one came
+  pub extended-overflow : (h to more count : ℕ) (b exit : List ℕ) → Extended h 0 to count b exit Overflow → Extended h 0 more count b exit Overflow
+  extended-overflow h to more count b exit X = record { room = tt; progress = λ came front tail H same. widen came front tail (X .progress came front tail H same) }
+    where
+      widen : (came front tail : List ℕ) → Progress n _·_ e classes came front tail exit h (λ l. (g : ℕ) → 0 ≤ g → g < to → Settled n _·_ e classes l h g) Overflow
+          → Progress n _·_ e classes came front tail exit h (λ l. (g : ℕ) → 0 ≤ g → g < more → Settled n _·_ e classes l h g) Overflow
+      widen came front tail (overflow l c H many) = overflow l c H many
+
+  -- ---- the outer loop
+
+  -- the lent bytes hold a list, of which the last `done` sets are settled
+  pub record Searching (came b : List ℕ) (count done : ℕ) : Type 0 where
+    pub list : List ℕ
+    pub holding : Holding n _·_ e classes came b list count
+    pub trivial : Mem (2 ^ e) list
+    pub settled : (h : ℕ) → Mem h (drop (count - done) list) → (g : ℕ) → g < n → Settled n _·_ e classes list h g
+
+  module _ (G : Group n _·_ e) (limit : n ≤ 48) where
+    -- the set of the identity is a subgroup
+    trivial-subgroup : Subgroup n _·_ e (2 ^ e)
+    trivial-subgroup = closed-set n _·_ e G (2 ^ e) (pow-lt (G .identity-below)) (singleton-self e)
+        (λ x y i j. rw (singleton-only e x i, singleton-only e y j, G .left-identity e (G .identity-below)) (singleton-self e))
+
+    -- it is its only conjugate
+    trivial-conjugate : (g : ℕ) → g < n → conjugateOf n _·_ e (2 ^ e) g ≡ 2 ^ e
+    trivial-conjugate g h = subset-antisymmetric _ _
+        (λ y i. let (x, k, m, q) = conjugate-source n _·_ e G (2 ^ e) g y i in
+        rw (← q, singleton-only e x m, conjugate-of-identity n _·_ e G g h) (singleton-self e))
+        (λ y i. rw (singleton-only e y i)
+        (subst (λ (z : ℕ). member (conjugateOf n _·_ e (2 ^ e) g) z ≡ true) (conjugate-of-identity n _·_ e G g h)
+        (conjugate-holds n _·_ e G (2 ^ e) g e (trivial-subgroup .small) h (singleton-self e))))
+
+    trivial-chosen : Chosen n _·_ e classes (2 ^ e)
+    trivial-chosen = record {
+      subgroup = trivial-subgroup;
+      first = λ q g h p. precedes-irreflexive (2 ^ e) (subst (λ (z : ℕ). Precedes z (2 ^ e)) (trivial-conjugate g h) p);
+    }
+
+    only-trivial : (s : ℕ) → Mem s (2 ^ e ∷ []) → Chosen n _·_ e classes s
+    only-trivial s m = rw (mem-one m) trivial-chosen
+
+    -- the search begins with it
+    pub searching-start : (came b : List ℕ) → 8 ≤ length came → b ≡ take 0 came ++ (bytesOf (2 ^ e) ++ drop 8 came) → Searching came b 1 0
+    unfolding packed
+    searching-start came b room q = record {
+      list = 2 ^ e ∷ [];
+      holding = record { bytes = q; size = refl; room = room; sorted = sorted-one Precedes; chosen = only-trivial };
+      trivial = here refl;
+      settled = λ h m. absurd (not-nil m);
+    }
+
+    -- with no slot there are too many sets at once
+    pub searching-none : (came : List ℕ) → length came < 8 → TooMany n _·_ e classes (length came / 8)
+    searching-none came h = record { list = 2 ^ e ∷ []; sorted = sorted-one Precedes; chosen = only-trivial; more = omega arith }
+
+    -- the list is longer than the slots
+    too-many : (slots : ℕ) → TooMany n _·_ e classes slots → slots < length (listed n (chosen n _·_ e classes))
+    too-many slots M =
+        let h = M .more in
+        let k = listed-longest n (chosen n _·_ e classes) (M .list) (M .sorted)
+        (λ s m. (M .chosen s m .subgroup .small, passes-chosen n _·_ e G classes s (M .chosen s m))) in
+        omega arith
+
+    pub none-result : (came : List ℕ) → length came < 8 → SearchResult came came Overflow
+    none-result came h = (too-many _ (searching-none came h), refl)
+
+    -- the bytes that are left over are as they came
+    left-over : (came b l : List ℕ) (count : ℕ) → Holding n _·_ e classes came b l count → drop (8 * (length came / 8)) b ≡ drop (8 * (length came / 8)) came
+    left-over came b l count H =
+        let room = H .room in
+        let long : length (packed l) ≡ 8 * count = packed-length l ∙ ap (λ (i : ℕ). 8 * i) (H .size) in
+        let far : 8 * (length came / 8) ≡ 8 * count + (8 * (length came / 8) - 8 * count) = omega arith in
+        ap₂ (λ (i : ℕ) (x : List ℕ). drop i x) (far ∙ ap (λ (i : ℕ). i + (8 * (length came / 8) - 8 * count)) (sym long)) (H .bytes)
+        ∙ drop-append-add (packed l) (drop (8 * count) came) (8 * (length came / 8) - 8 * count)
+        ∙ drop-drop (8 * (length came / 8) - 8 * count) (8 * count) came ∙ ap (λ (i : ℕ). drop i came) (sym far)
+
+    module _ (came b : List ℕ) (count done : ℕ) (S : Searching came b count done) (more : done < count) where
+      abbrev at : ℕ
+      at = count - 1 - done
+
+      at-below : at < length (S .list)
+      at-below = let q = S .holding .size in omega arith
+
+      -- the set in the slot before the settled ones
+      pub searching-slot : slotAt b at ≡ getD (S .list) at 0
+      searching-slot = holding-slot n _·_ e classes limit came b (S .list) count (S .holding) at (omega arith)
+
+      pub searching-subgroup : Subgroup n _·_ e (slotAt b at)
+      searching-subgroup = rw searching-slot (S .holding .chosen _ (at-member Precedes (S .list) at 0 at-below) .subgroup)
+
+      -- the list around it
+      around : S .list ≡ take at (S .list) ++ slotAt b at ∷ drop (suc at) (S .list)
+      around = split-at (S .list) at 0 at-below ∙ ap (λ (h : ℕ). take at (S .list) ++ h ∷ drop (suc at) (S .list)) (sym searching-slot)
+
+      -- once it was extended it is settled too
+      pub searching-next : (exit : List ℕ) (middle : ℕ) → length came ≡ length b → Extended (slotAt b at) 0 n count b exit (Count middle) → Searching came exit middle (done + 1)
+      searching-next exit middle same X =
+          read (X .progress came (take at (S .list)) (drop (suc at) (S .list)) (subst (λ (l : List ℕ). Holding n _·_ e classes came b l count) around (S .holding)) same)
+        where
+          tail : List ℕ
+          tail = drop (suc at) (S .list)
+
+          behind : tail ≡ drop (count - done) (S .list)
+          behind = let q : suc at ≡ count - done = omega arith in ap (λ (i : ℕ). drop i (S .list)) q
+
+          tail-length : length tail ≡ done
+          tail-length = length-drop (suc at) (S .list) ∙ (let q = S .holding .size in omega arith)
+
+          read : Progress n _·_ e classes came (take at (S .list)) tail exit (slotAt b at) (λ l. (g : ℕ) → 0 ≤ g → g < n → Settled n _·_ e classes l (slotAt b at) g) (Count middle)
+              → Searching came exit middle (done + 1)
+          read (counted front H keeps settled) =
+              let old : (s : ℕ) → Mem s (S .list) → Mem s (front ++ slotAt b at ∷ tail) = λ s m. keeps s (subst (λ (l : List ℕ). Mem s l) around m) in
+              let size : length front + suc (length tail) ≡ middle = sym (length-append front (slotAt b at ∷ tail)) ∙ H .size in
+              let place : length front ≡ middle - (done + 1) = let q = tail-length in omega arith in
+              record {
+                list = front ++ slotAt b at ∷ tail;
+                holding = H;
+                trivial = old (2 ^ e) (S .trivial);
+                settled = λ h m g k. elim (cases (subst (λ (l : List ℕ). Mem h l) (drop-at front (slotAt b at ∷ tail) (middle - (done + 1)) place) m)) [
+                  | inl q ↦ subst (λ (z : ℕ). Settled n _·_ e classes (front ++ slotAt b at ∷ tail) z g) (sym q) (settled g (omega arith) k)
+                  | inr i ↦ settled-more n _·_ e classes (S .list) (front ++ slotAt b at ∷ tail) old h g (S .settled h (subst (λ (l : List ℕ). Mem h l) behind i) g k)
+                ];
+              }
+
+      -- or there are too many
+      pub searching-overflow : (exit : List ℕ) → length came ≡ length b → Extended (slotAt b at) 0 n count b exit Overflow → SearchResult came exit Overflow
+      searching-overflow exit same X =
+          read (X .progress came (take at (S .list)) (drop (suc at) (S .list)) (subst (λ (l : List ℕ). Holding n _·_ e classes came b l count) around (S .holding)) same)
+        where
+          read : Progress n _·_ e classes came (take at (S .list)) (drop (suc at) (S .list)) exit (slotAt b at) (λ l. (g : ℕ) → 0 ≤ g → g < n → Settled n _·_ e classes l (slotAt b at) g) Overflow
+              → SearchResult came exit Overflow
+          read (overflow l c H many) = (too-many _ many, left-over came exit l c H)
+
+    -- when all sets are settled the list is the one asked for
+    pub searching-end : (came b : List ℕ) (count done : ℕ) → Searching came b count done → count ≤ done → SearchResult came b (Count count)
+    unfolding written
+    searching-end came b count done S all = (
+      S .holding .bytes ∙ ap₂ (λ (l : List ℕ) (i : ℕ). packed l ++ drop (8 * i) came) same (sym (S .holding .size) ∙ ap length same),
+      sym (S .holding .size) ∙ ap length same,
+      S .holding .room,
+    )
+      where
+        none : drop (count - done) (S .list) ≡ S .list
+        none = let q : count - done ≡ 0 = omega arith in ap (λ (i : ℕ). drop i (S .list)) q
+
+        complete : Complete n _·_ e classes G (S .list)
+        complete = record {
+          trivial = S .trivial;
+          chosen = S .holding .chosen;
+          settled = λ h g m k. S .settled h (subst (λ (l : List ℕ). Mem h l) (sym none) m) g k;
+        }
+
+        same : S .list ≡ listed n (chosen n _·_ e classes)
+        same = listed-unique n (chosen n _·_ e classes) (S .list) (S .holding .sorted)
+            (λ s m. let C = S .holding .chosen s m in (C .subgroup .small, passes-chosen n _·_ e G classes s C))
+            (λ s h t. let C = chosen-passes n _·_ e G classes s t in complete-listed n _·_ e classes G (S .list) complete s (C .subgroup) C)
+
+    -- the list is not empty
+    listed-some : 1 ≤ length (listed n (chosen n _·_ e classes))
+    listed-some = listed-longest n (chosen n _·_ e classes) (2 ^ e ∷ []) (sorted-one Precedes)
+        (λ s m. let C = only-trivial s m in (C .subgroup .small, passes-chosen n _·_ e G classes s C))
+
+    -- the first slot was filled before the loop began: what is said of the bytes then holds of the bytes that came
+    module _ (came b : List ℕ) (m : ℕ) (q : b ≡ bytesOf m ++ drop 8 came) (room : 8 ≤ length came) where
+      -- past the first slot they agree
+      restart-drop : (i : ℕ) → 8 ≤ i → drop i b ≡ drop i came
+      restart-drop i h =
+          let far : i ≡ 8 + (i - 8) = omega arith in
+          ap₂ (λ (j : ℕ) (x : List ℕ). drop j x) far q ∙ drop-append-add (bytesOf m) (drop 8 came) (i - 8) ∙ drop-drop (i - 8) 8 came ∙ ap (λ (j : ℕ). drop j came) (sym far)
+
+      restart-length : length b ≡ length came
+      restart-length = ap length q ∙ length-append (bytesOf m) (drop 8 came) ∙ omega (arith, length-drop 8 came)
+
+      -- the search begins there
+      pub restart-start : m ≡ 2 ^ e → Searching b b 1 0
+      restart-start first = searching-start b b (omega (arith, restart-length)) (q ∙ ap₂ (λ (i : ℕ) (l : List ℕ). bytesOf i ++ l) first (sym (restart-drop 8 (omega arith))))
+
+      pub restart : (exit : List ℕ) (r : Found) → SearchResult b exit r → SearchResult came exit r
+      unfolding written
+      restart exit (Count count) (x, y, z) =
+          let some = listed-some in
+          (x ∙ ap (λ (l : List ℕ). packed (listed n (chosen n _·_ e classes)) ++ l) (restart-drop (8 * length (listed n (chosen n _·_ e classes))) (omega arith)), y, omega (arith, restart-length))
+      restart exit Overflow (x, y) =
+          let same = restart-length in
+          let slots : length b / 8 ≡ length came / 8 = ap (λ (i : ℕ). i / 8) same in
+          (rw (← slots) x, ap (λ (i : ℕ). drop (8 * i) exit) (sym slots) ∙ y ∙ restart-drop (8 * (length b / 8)) (omega arith) ∙ ap (λ (i : ℕ). drop (8 * i) came) slots)

@@ -1,0 +1,142 @@
+// Adjoining an element to a subgroup, by cosets.
+// Ported from subgroup/finite_group.rs of moyo 0.21.0 (`generated_subgroup`), and changed: sets as numbers, cosets instead of all products.
+ghost use mathlib.Core.Path.{_≡_};
+ghost use mathlib.Core.Bool.{true, false};
+ghost use Prim.Native.Nat.{ℕ, _<_, _≤_, _+_, _^_};
+ghost use lib.ListN.{length};
+ghost use Rattle.laws.specs.Sets.{member, Subset};
+ghost use Rattle.finite_group.specs.Adjoin.{Forced, Growing};
+ghost use Rattle.finite_group.specs.Growth.{Taken, Swept, Adjoined};
+ghost use Rattle.finite_group.specs.Subsets.{Subgroup, imageOf};
+ghost use Rattle.finite_group.specs.Table.{product, Cells, GroupTable};
+use super::sets::contains;
+use super::sets::lowest;
+use super::sets::with_element;
+use super::sets::within;
+use super::sets::without;
+use super::table::cell;
+
+// A set that grows, with the representatives that wait to be followed; not ok: an element below the bound would come in.
+pub(crate) struct Growth {
+    pub(crate) ok: bool,
+    pub(crate) set: u64,
+    pub(crate) waiting: u64,
+}
+
+// The set of (a x) b for the members x of s.
+pub(crate) fn image(t: &[u8], n: usize, s: u64, a: usize, b: usize) -> u64
+    requires { ⌜ (Cells n (now t)) × (s < 2 ^ n) × (a < n) × (b < n) ⌝ }
+    ensures { λ r. ⌜ r ≡ imageOf n (λ (x : ℕ). product n (now (t .entry)) (product n (now (t .entry)) a x) b) s ⌝ }
+{
+    let mut left = s;
+    let mut found = 0u64;
+    while 0 < left {
+        let x = lowest(left);
+        let y = cell(t, n, cell(t, n, a, x), b);
+        let more = with_element(found, y);
+        found = more;
+        let rest = without(left, x);
+        left = rest;
+    }
+    found
+}
+
+// The coset h p joins the set k, and p waits, if p is new.
+fn taken(
+    t: &[u8],
+    n: usize,
+    e: usize,
+    h: u64,
+    bound: usize,
+    k: u64,
+    waiting: u64,
+    p: usize,
+) -> Growth
+    requires { ⌜ (Cells n (now t)) × (h < 2 ^ n) × (e < n) × (p < n) × (bound ≤ n) ⌝ }
+    ensures { λ r. ⌜ Taken n (product n (now (t .entry))) e h bound k waiting p r ⌝ }
+{
+    if contains(k, p) {
+        return Growth {
+            ok: true,
+            set: k,
+            waiting,
+        };
+    }
+    let coset = image(t, n, h, e, p);
+    let low = coset % (1u64 << bound);
+    if !within(low, h) {
+        return Growth {
+            ok: false,
+            set: k,
+            waiting,
+        };
+    }
+    let more = with_element(waiting, p);
+    Growth {
+        ok: true,
+        set: k | coset,
+        waiting: more,
+    }
+}
+
+// The representative r is followed by g and by the members of h.
+fn swept(
+    t: &[u8],
+    n: usize,
+    e: usize,
+    h: u64,
+    g: usize,
+    bound: usize,
+    k: u64,
+    waiting: u64,
+    r: usize,
+) -> Growth
+    requires { ⌜ (GroupTable n (now t) e) × (Subgroup n (product n (now t)) e h) × (g < n) × (bound ≤ n)
+        × (Forced n (product n (now t)) e h g r)
+        × (Growing n (product n (now t)) e h g bound k waiting (λ (x : ℕ). x ≡ r)) ⌝ }
+    ensures { λ s. ⌜ Swept n (product n (now (t .entry))) e h g bound k waiting s ⌝ }
+{
+    let first = taken(t, n, e, h, bound, k, waiting, cell(t, n, r, g));
+    if !first.ok {
+        return first;
+    }
+    let mut set = first.set;
+    let mut rest = first.waiting;
+    let mut left = h;
+    while 0 < left {
+        let x = lowest(left);
+        let next = taken(t, n, e, h, bound, set, rest, cell(t, n, r, x));
+        if !next.ok {
+            return next;
+        }
+        set = next.set;
+        rest = next.waiting;
+        let less = without(left, x);
+        left = less;
+    }
+    Growth {
+        ok: true,
+        set,
+        waiting: rest,
+    }
+}
+
+// The least subgroup that holds h and g; or 0 if it holds an element below the bound that h does not hold.
+pub(crate) fn adjoin(t: &[u8], n: usize, e: usize, h: u64, g: usize, bound: usize) -> u64
+    requires { ⌜ (GroupTable n (now t) e) × (Subgroup n (product n (now t)) e h) × (g < n) × (bound ≤ n) ⌝ }
+    ensures { λ r. ⌜ Adjoined n (product n (now (t .entry))) e h g bound r ⌝ }
+{
+    let mut set = h;
+    let mut waiting = 1u64 << e;
+    while 0 < waiting {
+        let r = lowest(waiting);
+        let rest = without(waiting, r);
+        let next = swept(t, n, e, h, g, bound, set, rest, r);
+        if !next.ok {
+            return 0;
+        }
+        set = next.set;
+        waiting = next.waiting;
+    }
+    set
+}

@@ -1,0 +1,45 @@
+// Conjugates of sets, and the first of them in list order.
+// Ported from subgroup/finite_group.rs of moyo 0.21.0 (`conjugate`), and changed: sets as numbers.
+ghost use mathlib.Core.Path.{_≡_};
+ghost use Prim.Native.Nat.{_<_, _≤_, _^_};
+ghost use Rattle.finite_group.specs.Representatives.{FirstConjugate, Represented};
+ghost use Rattle.finite_group.specs.Subsets.{Subgroup, conjugateOf};
+ghost use Rattle.finite_group.specs.Table.{product, GroupTable};
+use super::adjoin::image;
+use super::sets::precedes;
+use super::table::inverse;
+
+// The set of the g⁻¹ x g for the members x of s.
+pub(crate) fn conjugate_set(t: &[u8], n: usize, e: usize, s: u64, g: usize) -> u64
+    requires { ⌜ (GroupTable n (now t) e) × (s < 2 ^ n) × (g < n) ⌝ }
+    ensures { λ r. ⌜ r ≡ conjugateOf n (product n (now (t .entry))) e s g ⌝ }
+{
+    image(t, n, s, inverse(t, n, e, g), g)
+}
+
+fn first_conjugate(t: &[u8], n: usize, e: usize, s: u64) -> u64
+    requires { ⌜ (GroupTable n (now t) e) × (s < 2 ^ n) ⌝ }
+    ensures { λ r. ⌜ FirstConjugate n (product n (now (t .entry))) e s n r ⌝ }
+{
+    let mut best = s;
+    let mut g = 0usize;
+    while g < n {
+        let c = conjugate_set(t, n, e, s, g);
+        if precedes(c, best) {
+            best = c;
+        }
+        g += 1;
+    }
+    best
+}
+
+// The set itself; or, where classes are asked for, the first of its conjugates.
+pub(crate) fn representative(t: &[u8], n: usize, e: usize, s: u64, classes: bool) -> u64
+    requires { ⌜ (GroupTable n (now t) e) × (Subgroup n (product n (now t)) e s) ⌝ }
+    ensures { λ r. ⌜ Represented n (product n (now (t .entry))) e classes s r ⌝ }
+{
+    if !classes {
+        return s;
+    }
+    first_conjugate(t, n, e, s)
+}

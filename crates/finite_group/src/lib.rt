@@ -1,0 +1,78 @@
+// Finite groups given by the bytes of their tables: the check of a table, subgroups, conjugates, classes, normalizers and their permutations.
+// Ported from subgroup/finite_group.rs of moyo 0.21.0 (`FiniteGroup`), and changed: a flat table of bytes, sets as 64-bit numbers in lent slots, refusals.
+ghost use mathlib.Core.Path.{_≡_};
+ghost use Rattle.finite_group.specs.Answers.{orderAnswer, identityAnswer, subgroupsAnswer, subgroupsBytes, classesAnswer, classesBytes};
+use search::list_sets;
+use table::from_table;
+
+mod adjoin;
+mod conjugation;
+mod search;
+mod sets;
+mod slots;
+mod table;
+
+// Why there is no answer: document 01's refusals 21 to 29.
+pub enum Refusal {
+    Order,
+    Cells,
+    Identity,
+    Inverse,
+    Associativity,
+    Slots,
+    Subgroup,
+    Element,
+    Normalizer,
+}
+
+// A number, an element, a set or a count; or a refusal.
+pub enum Answer {
+    Value(u64),
+    Refused(Refusal),
+}
+
+// Whether bytes are the table of a group, and which element is its identity.
+pub(crate) enum Checked {
+    Group(usize),
+    NoGroup(Refusal),
+}
+
+pub fn order(n: usize, table: &[u8]) -> Answer
+    ensures { λ r. ⌜ r ≡ orderAnswer n (now (table .entry)) ⌝ }
+{
+    match from_table(n, table) {
+        Checked::Group(_) => Answer::Value(n as u64),
+        Checked::NoGroup(r) => Answer::Refused(r),
+    }
+}
+
+pub fn identity(n: usize, table: &[u8]) -> Answer
+    ensures { λ r. ⌜ r ≡ identityAnswer n (now (table .entry)) ⌝ }
+{
+    match from_table(n, table) {
+        Checked::Group(e) => Answer::Value(e as u64),
+        Checked::NoGroup(r) => Answer::Refused(r),
+    }
+}
+
+// All subgroups into lent slots of eight bytes, in list order; the answer is their count.
+pub fn enumerate_subgroups(n: usize, table: &[u8], sets: &mut [u8]) -> Answer
+    ensures { λ r. ⌜ (r ≡ subgroupsAnswer n (now (table .entry)) (now (sets .entry)))
+        × (now (sets .exit) ≡ subgroupsBytes n (now (table .entry)) (now (sets .entry))) ⌝ }
+{
+    match from_table(n, table) {
+        Checked::Group(e) => list_sets(sets, table, n, e, false),
+        Checked::NoGroup(r) => Answer::Refused(r),
+    }
+}
+
+// The first subgroup of each class into lent slots of eight bytes, in list order; the answer is the count of classes.
+pub fn conjugacy_classes(n: usize, table: &[u8], sets: &mut [u8]) -> Answer
+    ensures { λ r. ⌜ (r ≡ classesAnswer n (now (table .entry)) (now (sets .entry)))
+        × (now (sets .exit) ≡ classesBytes n (now (table .entry)) (now (sets .entry))) ⌝ }
+{
+    match from_table(n, table) {
+        Checked::Group(e) => list_sets(sets, table, n, e, true),
+        Checked::NoGroup(r) => Answer::Refused(r),
+    }
+}

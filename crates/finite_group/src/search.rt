@@ -1,0 +1,128 @@
+// The search for subgroups, or for one of each class, in the lent slots.
+// Ported from subgroup/finite_group.rs of moyo 0.21.0 (`enumerate_subgroups`), and changed: the list is kept in order, in lent slots.
+ghost use mathlib.Core.Path.{_≡_};
+ghost use mathlib.Core.Bool.{cond};
+ghost use Prim.Native.Nat.{_<_, _≤_, _+_, _*_};
+ghost use lib.ListN.{length};
+ghost use Rattle.finite_group.specs.Answers.{listAnswer, listBytes};
+ghost use Rattle.finite_group.specs.Listing.{listed};
+ghost use Rattle.finite_group.specs.Lists.{chosen};
+ghost use Rattle.finite_group.specs.SearchLoop.{Extended, SearchResult};
+ghost use Rattle.finite_group.specs.Subsets.{Subgroup};
+ghost use Rattle.finite_group.specs.Table.{product, GroupTable};
+use super::Answer;
+use super::Refusal;
+use super::adjoin::adjoin;
+use super::conjugation::representative;
+use super::sets::contains;
+use super::slots::Insertion;
+use super::slots::clear;
+use super::slots::insert;
+use super::slots::set_slot;
+use super::slots::slot;
+
+// How many sets were found, or that there are more than slots.
+pub(crate) enum Found {
+    Count(usize),
+    Full,
+}
+
+// Where all subgroups are asked for, those are passed over that hold a new element below g: they come from elsewhere.
+fn bound_of(classes: bool, g: usize) -> usize
+    ensures { λ r. ⌜ r ≡ cond classes 0 g ⌝ }
+{
+    if classes {
+        return 0;
+    }
+    g
+}
+
+// The extension of h by g is put into the list, in front of h.
+fn extend_by(
+    sets: &mut [u8],
+    t: &[u8],
+    n: usize,
+    e: usize,
+    classes: bool,
+    count: usize,
+    h: u64,
+    g: usize,
+) -> Found
+    requires { ⌜ (GroupTable n (now t) e) × (Subgroup n (product n (now t)) e h) × (g < n) × (8 * count ≤ length (now sets)) ⌝ }
+    ensures { λ r. ⌜ Extended n (product n (now (t .entry))) e classes h g (g + 1) count (now (sets .entry)) (now (sets .exit)) r ⌝ }
+{
+    if contains(h, g) {
+        return Found::Count(count);
+    }
+    let k = adjoin(t, n, e, h, g, bound_of(classes, g));
+    if k == 0 {
+        return Found::Count(count);
+    }
+    let m = representative(t, n, e, k, classes);
+    match insert(sets, count, m) {
+        Insertion::Present => Found::Count(count),
+        Insertion::Full => Found::Full,
+        Insertion::Added => Found::Count(count + 1),
+    }
+}
+
+// All extensions of h are put into the list, in front of h.
+fn extend(
+    sets: &mut [u8],
+    t: &[u8],
+    n: usize,
+    e: usize,
+    classes: bool,
+    count: usize,
+    h: u64,
+) -> Found
+    requires { ⌜ (GroupTable n (now t) e) × (Subgroup n (product n (now t)) e h) × (8 * count ≤ length (now sets)) ⌝ }
+    ensures { λ r. ⌜ Extended n (product n (now (t .entry))) e classes h 0 n count (now (sets .entry)) (now (sets .exit)) r ⌝ }
+{
+    let mut c = count;
+    let mut g = 0usize;
+    while g < n {
+        let Found::Count(k) = extend_by(sets, t, n, e, classes, c, h, g) else {
+            return Found::Full;
+        };
+        c = k;
+        g += 1;
+    }
+    Found::Count(c)
+}
+
+// The list is built in the slots, from the trivial subgroup on; the sets behind the last `done` are settled.
+pub(crate) fn search(sets: &mut [u8], t: &[u8], n: usize, e: usize, classes: bool) -> Found
+    requires { ⌜ GroupTable n (now t) e ⌝ }
+    ensures { λ r. ⌜ SearchResult n (product n (now (t .entry))) e classes (now (sets .entry)) (now (sets .exit)) r ⌝ }
+{
+    if sets.len() < 8 {
+        return Found::Full;
+    }
+    set_slot(sets, 0, 1u64 << e);
+    let mut count = 1usize;
+    let mut done = 0usize;
+    while done < count {
+        let h = slot(sets, count - 1 - done);
+        let Found::Count(k) = extend(sets, t, n, e, classes, count, h) else {
+            return Found::Full;
+        };
+        count = k;
+        done += 1;
+    }
+    Found::Count(count)
+}
+
+// The list in the lent slots, and its length; or 26, and every slot 0.
+pub(crate) fn list_sets(sets: &mut [u8], t: &[u8], n: usize, e: usize, classes: bool) -> Answer
+    requires { ⌜ GroupTable n (now t) e ⌝ }
+    ensures { λ r. ⌜ (r ≡ listAnswer (listed n (chosen n (product n (now (t .entry))) e classes)) (now (sets .entry)))
+        × (now (sets .exit) ≡ listBytes (listed n (chosen n (product n (now (t .entry))) e classes)) (now (sets .entry))) ⌝ }
+{
+    let Found::Count(count) = search(sets, t, n, e, classes) else {
+        let whole = 8 * (sets.len() / 8);
+        clear(sets, whole);
+        return Answer::Refused(Refusal::Slots);
+    };
+    Answer::Value(count as u64)
+}

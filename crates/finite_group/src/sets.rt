@@ -1,0 +1,63 @@
+// Sets of elements as 64-bit numbers, bit i set for member i.
+ghost use mathlib.Core.Path.{_≡_};
+ghost use mathlib.Core.Bool.{true};
+ghost use Prim.Native.Nat.{_<_, _^_};
+ghost use lib.Bits.{bitAnd, bitOr};
+ghost use lib.Dec.{eqb};
+ghost use Rattle.laws.specs.Sets.{member};
+ghost use Rattle.laws.specs.ListOrder.{earlier};
+ghost use Rattle.finite_group.specs.Removal.{Without};
+
+pub(crate) fn contains(s: u64, i: usize) -> bool
+    requires { ⌜ i < 64 ⌝ }
+    ensures { λ r. ⌜ r ≡ member s i ⌝ }
+{
+    (s >> i) % 2 == 1
+}
+
+pub(crate) fn with_element(s: u64, i: usize) -> u64
+    requires { ⌜ i < 64 ⌝ }
+    ensures { λ r. ⌜ r ≡ bitOr s (2 ^ i) ⌝ }
+{
+    s | (1u64 << i)
+}
+
+pub(crate) fn lowest(s: u64) -> usize
+    requires { ⌜ 0 < s ⌝ }
+    ensures { λ r. ⌜ (member s r ≡ true) × (r < 64) ⌝ }
+{
+    u64::trailing_zeros(s) as usize
+}
+
+pub(crate) fn without(s: u64, i: usize) -> u64
+    requires { ⌜ (member s i ≡ true) × (i < 64) ⌝ }
+    ensures { λ r. ⌜ Without s i r ⌝ }
+{
+    s ^ (1u64 << i)
+}
+
+// Whether each member of a is one of b.
+pub(crate) fn within(a: u64, b: u64) -> bool
+    ensures { λ r. ⌜ r ≡ eqb (bitAnd a b) a ⌝ }
+{
+    a & b == a
+}
+
+// Whether a stands before b in the list: more members, or the lowest element in which the two differ.
+pub(crate) fn precedes(a: u64, b: u64) -> bool
+    ensures { λ r. ⌜ r ≡ earlier 64 a b ⌝ }
+{
+    let p = u64::count_ones(a);
+    let q = u64::count_ones(b);
+    if q < p {
+        return true;
+    }
+    if p < q {
+        return false;
+    }
+    let d = u64::trailing_zeros(a ^ b);
+    if d < 64 {
+        return contains(a, d as usize);
+    }
+    false
+}
