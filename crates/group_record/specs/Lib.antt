@@ -4,3 +4,6 @@ pub mod Items
 pub mod Record
 pub mod Reading
 pub mod Groups
+-- Their laws.
+pub mod ListedForm
+pub mod OneRecord
