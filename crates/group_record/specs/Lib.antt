@@ -7,3 +7,4 @@ pub mod Groups
 -- Their laws.
 pub mod ListedForm
 pub mod OneRecord
+pub mod GroupLaws

@@ -32,7 +32,7 @@ pub operation≡ : {f g : Operation} → f .rotation ≡ g .rotation → f .tran
 operation≡ p q = λ i. record { rotation = p i; translation = q i }
 
 -- The digits of a rotation's matrix are the rotation's.
-digits-again : (r : Rotation) → Digits r → digitsOf (matrixOf r) ≡ r
+pub digits-again : (r : Rotation) → Digits r → digitsOf (matrixOf r) ≡ r
 unfolding matrixOf
 digits-again r d =
     rotation≡

@@ -94,7 +94,7 @@ opposite-origin : opposite origin ≡ origin
 unfolding opposite origin
 opposite-origin = simp ring
 
-from-origin : (v : Vector) → plus v (opposite origin) ≡ v
+pub from-origin : (v : Vector) → plus v (opposite origin) ≡ v
 from-origin v = ap (plus v) opposite-origin ∙ plus-origin v
 
 abbrev pub translationBy : Vector → SpaceMotion
