@@ -8,3 +8,4 @@ pub mod Groups
 pub mod ListedForm
 pub mod OneRecord
 pub mod GroupLaws
+pub mod ReadingTests
