@@ -9,3 +9,6 @@ pub mod ListedForm
 pub mod OneRecord
 pub mod GroupLaws
 pub mod ReadingTests
+pub mod Acceptance
+pub mod RoundTrips
+pub mod Example

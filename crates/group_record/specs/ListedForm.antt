@@ -181,8 +181,7 @@ module _ (c : Centering) where
 
       back : InSet c (map motionOf l) m → InSet c (map motionOf (listedForm c l)) m
       back (k, h, a) =
-          let (g, o, e) = mem-of-map motionOf l h in
-          (
+          let (g, o, e) = mem-of-map motionOf l h in (
             motionOf (smallestOperation c g),
             mem-map motionOf (member-form c l o),
             alike-transitive c m k (motionOf (smallestOperation c g)) a (far k g e),

@@ -212,7 +212,7 @@ identity-entries = digits-entries (identityOperation .rotation) .0 digits
     digits : Digits (identityOperation .rotation)
     digits = omega arith
 
-origin-smallest : (c : Centering) → smallestOf c (identityOperation .translation) ≡ identityOperation .translation
+pub origin-smallest : (c : Centering) → smallestOf c (identityOperation .translation) ≡ identityOperation .translation
 unfolding rank
 origin-smallest c =
     sym (smallest-is c (identityOperation .translation) (identityOperation .translation) .0 (record {
@@ -250,10 +250,10 @@ rows-test c l entries = (
       product-test c l entries f g .0 (sym (pair-of-operations c (map itemOf l) f g (entries f m) (entries g k)) ∙ pair)),
   λ closed.
       all-true (rowListed c (map itemOf l)) (map itemOf l) .1 (λ i m.
-        let (f, n, e) = mem-of-map itemOf l m in
-        rw (← e) (all-true (pairListed c (map itemOf l) (itemOf f)) (map itemOf l) .1 (λ j k.
-          let (g, o, q) = mem-of-map itemOf l k in
-          rw (← q) (pair-of-operations c (map itemOf l) f g (entries f n) (entries g o) ∙ product-test c l entries f g .1 (closed f g n o))))),
+      let (f, n, e) = mem-of-map itemOf l m in
+      rw (← e) (all-true (pairListed c (map itemOf l) (itemOf f)) (map itemOf l) .1 (λ j k.
+      let (g, o, q) = mem-of-map itemOf l k in
+      rw (← q) (pair-of-operations c (map itemOf l) f g (entries f n) (entries g o) ∙ product-test c l entries f g .1 (closed f g n o))))),
 )
 
 -- The test of 35: operations in the listed form, 1 to 48 of them, are allowed.
@@ -288,13 +288,13 @@ allowed-test c l F some few = (forth, back)
     back A =
         both-true (all (keepsItem c) (map itemOf l)) _ .1 (
           all-true (keepsItem c) (map itemOf l) .1 (λ i m.
-            let (f, k, e) = mem-of-map itemOf l m in
-            rw (← e) (keeps-test c f (F .entries f k) .1 (A .keeps (motionOf f) (mem-map motionOf k)))),
+              let (f, k, e) = mem-of-map itemOf l m in
+              rw (← e) (keeps-test c f (F .entries f k) .1 (A .keeps (motionOf f) (mem-map motionOf k)))),
           both-true (has (alikeItems c) (itemOf identityOperation) (map itemOf l)) _ .1 (
             identity-test c l F .1 (identity-listed (form-listing c F) (A .holds-identity)),
             rows-test c l (F .entries) .1 (λ f g m k.
-              let (a, n, x) = A .product (motionOf f) (motionOf g) (mem-map motionOf m) (mem-map motionOf k) in
-              let (h, o, e) = mem-of-map motionOf l n in
-              (h, o, subst (λ b. Alike c (compose (motionOf f) (motionOf g)) b) (sym e) x)),
+                let (a, n, x) = A .product (motionOf f) (motionOf g) (mem-map motionOf m) (mem-map motionOf k) in
+                let (h, o, e) = mem-of-map motionOf l n in
+                (h, o, subst (λ b. Alike c (compose (motionOf f) (motionOf g)) b) (sym e) x)),
           ),
         )
