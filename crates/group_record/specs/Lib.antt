@@ -12,3 +12,5 @@ pub mod ReadingTests
 pub mod Acceptance
 pub mod RoundTrips
 pub mod Example
+-- What the code does with items.
+pub mod Search

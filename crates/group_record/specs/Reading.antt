@@ -101,16 +101,16 @@ productListed c items Outside = false
 unfoldable pub pairListed : Centering → List Item → Item → Item → Bool
 pairListed c items i j = productListed c items (productOf (operationOfItem i) (operationOfItem j))
 
-unfoldable pub rowListed : Centering → List Item → Item → Bool
-rowListed c items i = all (pairListed c items i) items
-
--- Refusal 35 is given unless each rotation maps L onto L, the identity is listed, and every product is.
 unfoldable pub keepsItem : Centering → Item → Bool
 keepsItem c i = keepsOf c (operationOfItem i .rotation)
 
+-- The rotation maps L onto L, and every product with this left factor is listed.
+unfoldable pub memberAllowed : Centering → List Item → Item → Bool
+memberAllowed c items i = keepsItem c i && all (pairListed c items i) items
+
+-- Refusal 35 is given unless the identity is listed and each member is so.
 unfoldable pub isAllowed : Centering → List Item → Bool
-isAllowed c items =
-    all (keepsItem c) items && (has (alikeItems c) (itemOf identityOperation) items && all (rowListed c items) items)
+isAllowed c items = has (alikeItems c) (itemOf identityOperation) items && all (memberAllowed c items) items
 
 -- ---- the reading, refusal by refusal
 unfoldable pub readItems : Centering → List Item → RecordGroup

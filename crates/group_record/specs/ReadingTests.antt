@@ -32,7 +32,7 @@ use Rattle.centering.specs.LatticeLaws.{holds, Smallest, smallest-is, smallest-
 use Rattle.centering.specs.Keeps.{keepsOf, keeps-lattice}
 use Rattle.centering.specs.declared.Centering.{Centering}
 use Rattle.group_record.specs.Record.{Item, item≡, itemOf}
-use Rattle.group_record.specs.Reading.{operationOfItem, rotationOfDecoded, isItem, itemBefore, areItems, alikeItems, productListed, pairListed, rowListed, keepsItem, isAllowed}
+use Rattle.group_record.specs.Reading.{operationOfItem, rotationOfDecoded, isItem, itemBefore, areItems, alikeItems, productListed, pairListed, keepsItem, memberAllowed, isAllowed}
 use Rattle.group_record.specs.Groups.{Alike, Allowed, Form, Listing}
 use Rattle.group_record.specs.ListedForm.{operation≡, digits-again, code-matrix, matrix-injective, CodeBefore, form-listing, form-smallest}
 use Rattle.group_record.specs.OneRecord.{operation-of-item}
@@ -241,19 +241,25 @@ pair-of-operations : (c : Centering) (items : List Item) (f g : Operation) → E
 unfolding pairListed
 pair-of-operations c items f g d e = ap₂ (λ (h k : Operation). productListed c items (productOf h k)) (operation-of-item f d) (operation-of-item g e)
 
-rows-test : (c : Centering) (l : List Operation) → ((f : Operation) → Mem f l → Entries (matrixOf (f .rotation))) → (all (rowListed c (map itemOf l)) (map itemOf l) ≡ true) ↔ ((f g : Operation) → Mem f l → Mem g l → (h : Operation) × Mem h l × Alike c (compose (motionOf f) (motionOf g)) (motionOf h))
-unfolding rowListed
-rows-test c l entries = (
-  (λ e f g m k.
-      let row = all-true (rowListed c (map itemOf l)) (map itemOf l) .0 e (itemOf f) (mem-map itemOf m) in
-      let pair = all-true (pairListed c (map itemOf l) (itemOf f)) (map itemOf l) .0 row (itemOf g) (mem-map itemOf k) in
+row-test : (c : Centering) (l : List Operation) → ((f : Operation) → Mem f l → Entries (matrixOf (f .rotation))) → (f : Operation) → Mem f l → (all (pairListed c (map itemOf l) (itemOf f)) (map itemOf l) ≡ true) ↔ ((g : Operation) → Mem g l → (h : Operation) × Mem h l × Alike c (compose (motionOf f) (motionOf g)) (motionOf h))
+row-test c l entries f m = (
+  (λ e g k.
+      let pair = all-true (pairListed c (map itemOf l) (itemOf f)) (map itemOf l) .0 e (itemOf g) (mem-map itemOf k) in
       product-test c l entries f g .0 (sym (pair-of-operations c (map itemOf l) f g (entries f m) (entries g k)) ∙ pair)),
   λ closed.
-      all-true (rowListed c (map itemOf l)) (map itemOf l) .1 (λ i m.
-      let (f, n, e) = mem-of-map itemOf l m in
-      rw (← e) (all-true (pairListed c (map itemOf l) (itemOf f)) (map itemOf l) .1 (λ j k.
-      let (g, o, q) = mem-of-map itemOf l k in
-      rw (← q) (pair-of-operations c (map itemOf l) f g (entries f n) (entries g o) ∙ product-test c l entries f g .1 (closed f g n o))))),
+      all-true (pairListed c (map itemOf l) (itemOf f)) (map itemOf l) .1 (λ j k.
+        let (g, o, q) = mem-of-map itemOf l k in
+        rw (← q) (pair-of-operations c (map itemOf l) f g (entries f m) (entries g o) ∙ product-test c l entries f g .1 (closed g o))),
+)
+
+-- A member is allowed exactly if its rotation maps L onto L and its products are listed modulo L.
+member-test : (c : Centering) (l : List Operation) → ((f : Operation) → Mem f l → Entries (matrixOf (f .rotation))) → (f : Operation) → Mem f l → (memberAllowed c (map itemOf l) (itemOf f) ≡ true) ↔ (MapsOnto (pointsOf c) (matrixOf (f .rotation)) × ((g : Operation) → Mem g l → (h : Operation) × Mem h l × Alike c (compose (motionOf f) (motionOf g)) (motionOf h)))
+unfolding memberAllowed
+member-test c l entries f m = (
+  (λ e.
+      let (p, q) = both-true (keepsItem c (itemOf f)) _ .0 e in
+      (keeps-test c f (entries f m) .0 p, row-test c l entries f m .0 q)),
+  λ (p, q). both-true (keepsItem c (itemOf f)) _ .1 (keeps-test c f (entries f m) .1 p, row-test c l entries f m .1 q),
 )
 
 -- The test of 35: operations in the listed form, 1 to 48 of them, are allowed.
@@ -266,35 +272,32 @@ allowed-test c l F some few = (forth, back)
 
     forth : isAllowed c (map itemOf l) ≡ true → Allowed c (map motionOf l)
     forth e =
-        let (p, q) = both-true (all (keepsItem c) (map itemOf l)) _ .0 e in
-        let (r, s) = both-true (has (alikeItems c) (itemOf identityOperation) (map itemOf l)) _ .0 q in
-        let onto : (f : Operation) → Mem f l → MapsOnto (pointsOf c) (matrixOf (f .rotation)) =
-        λ f m. keeps-test c f (F .entries f m) .0 (all-true (keepsItem c) (map itemOf l) .0 p (itemOf f) (mem-map itemOf m)) in
-        let products = rows-test c l (F .entries) .0 s in
+        let (p, q) = both-true (has (alikeItems c) (itemOf identityOperation) (map itemOf l)) _ .0 e in
+        let member : (f : Operation) → Mem f l → _ = λ f m. member-test c l (F .entries) f m .0 (all-true (memberAllowed c (map itemOf l)) (map itemOf l) .0 q (itemOf f) (mem-map itemOf m)) in
         record {
           count = rw (length-map l motionOf) (some, few);
-          determinant = λ a m. let (f, k, u) = mem-of-map motionOf l m in rw (← u) (onto-unimodular (pointsOf c) (points c) (matrixOf (f .rotation)) (onto f k));
-          keeps = λ a m. let (f, k, u) = mem-of-map motionOf l m in rw (← u) (onto f k);
-          holds-identity = mem-cast (sym identity-motion) (mem-map motionOf (identity-test c l F .0 r));
+          determinant = λ a m. let (f, k, u) = mem-of-map motionOf l m in rw (← u) (onto-unimodular (pointsOf c) (points c) (matrixOf (f .rotation)) (member f k .0));
+          keeps = λ a m. let (f, k, u) = mem-of-map motionOf l m in rw (← u) (member f k .0);
+          holds-identity = mem-cast (sym identity-motion) (mem-map motionOf (identity-test c l F .0 p));
           product =
               λ a b m k.
               let (f, n, u) = mem-of-map motionOf l m in
               let (g, o, v) = mem-of-map motionOf l k in
-              let (h, w, x) = products f g n o in
+              let (h, w, x) = member f n .1 g o in
               (motionOf h, mem-map motionOf w, cast a b f g u v (motionOf h) x);
         }
 
     back : Allowed c (map motionOf l) → isAllowed c (map itemOf l) ≡ true
     back A =
-        both-true (all (keepsItem c) (map itemOf l)) _ .1 (
-          all-true (keepsItem c) (map itemOf l) .1 (λ i m.
-              let (f, k, e) = mem-of-map itemOf l m in
-              rw (← e) (keeps-test c f (F .entries f k) .1 (A .keeps (motionOf f) (mem-map motionOf k)))),
-          both-true (has (alikeItems c) (itemOf identityOperation) (map itemOf l)) _ .1 (
-            identity-test c l F .1 (identity-listed (form-listing c F) (A .holds-identity)),
-            rows-test c l (F .entries) .1 (λ f g m k.
-                let (a, n, x) = A .product (motionOf f) (motionOf g) (mem-map motionOf m) (mem-map motionOf k) in
-                let (h, o, e) = mem-of-map motionOf l n in
-                (h, o, subst (λ b. Alike c (compose (motionOf f) (motionOf g)) b) (sym e) x)),
-          ),
+        both-true (has (alikeItems c) (itemOf identityOperation) (map itemOf l)) _ .1 (
+          identity-test c l F .1 (identity-listed (form-listing c F) (A .holds-identity)),
+          all-true (memberAllowed c (map itemOf l)) (map itemOf l) .1 (λ i m.
+            let (f, k, e) = mem-of-map itemOf l m in
+            rw (← e) (member-test c l (F .entries) f k .1 (A .keeps (motionOf f) (mem-map motionOf k), products f k))),
         )
+      where
+        products : (f : Operation) → Mem f l → (g : Operation) → Mem g l → (h : Operation) × Mem h l × Alike c (compose (motionOf f) (motionOf g)) (motionOf h)
+        products f m g k =
+            let (a, n, x) = A .product (motionOf f) (motionOf g) (mem-map motionOf m) (mem-map motionOf k) in
+            let (h, o, e) = mem-of-map motionOf l n in
+            (h, o, subst (λ b. Alike c (compose (motionOf f) (motionOf g)) b) (sym e) x)
