@@ -1,22 +1,20 @@
 -- Which buffers are read and which are refused, each of 30 to 35 exactly when and in order: the rules of 01 as a relation between a buffer and its answer,
 -- and that the reading is this relation. The idea: a buffer of ten bytes or more is a front and a trailer, and each rule speaks of one of them.
 use mathlib.Core.Path.{_≡_, refl, sym, _∙_, ap, ap₂, subst}
-use mathlib.Core.Logic.{_⊎_, inl, inr, _↔_}
-use mathlib.Core.Bool.{Bool, true, false, cond, _&&_, true≢false}
-use mathlib.Core.List.{List, [], _∷_, _++_, map, append-assoc, List·Memᴰ as Mem, List·Memᴰ·head as here, List·Memᴰ·tail as there}
-use Prim.Native.Nat.{ℕ, zero, suc, _+_, _*_, _-_, _/_, _%_, _<_, _≤_}
+use mathlib.Core.Logic.{_↔_}
+use mathlib.Core.Bool.{Bool, true, false, cond, true≢false}
+use mathlib.Core.List.{List, [], _∷_, _++_, map, append-assoc}
+use Prim.Native.Nat.{ℕ, _+_, _*_, _-_, _/_, _%_, _<_, _≤_}
 use native.Mathlib.Omega.{arith}
 use native.Mathlib.Decide.{decLt}
-use lib.Dec.{ltb, leb, eqb}
+use lib.Dec.{leb, eqb}
 use borrow.Author.Tests.{lt-ltb, le-ltb, le-leb, leb-true, eq-eqb, ne-eqb, eqb-true, eqb-false}
-use lib.ListN.{length, getD, take, drop, length-append, length-drop, length-take, length-map, take-append-drop}
+use lib.ListN.{length, getD, take, drop, length-append, length-drop, length-map, take-append-drop}
 use lib.Seq.{getD-append-add, getD-drop, drop-drop, drop-at, length-take-le}
-use Rattle.laws.specs.Motion.{SpaceMotion}
 use Rattle.operation.specs.Meaning.{motionOf}
 use Rattle.operation.specs.declared.Operation.{Operation}
 use Rattle.centering.specs.Letters.{letters, byteOf, letterOf, letterAmong}
 use Rattle.centering.specs.LatticeLaws.{letter-by-byte}
-use Rattle.centering.specs.Lattices.{listed}
 use Rattle.centering.specs.declared.Centering.{Centering}
 use Rattle.centering.specs.declared.Letter.{Letter}
 use Rattle.centering.specs.declared.Letter.the-variants.{Is, None}
@@ -26,7 +24,7 @@ use Rattle.group_record.specs.Reading.{itemIn, operationOfItem, areItems
 use Rattle.group_record.specs.Groups.{Allowed, Form}
 use Rattle.group_record.specs.OneRecord.{item-wide, item-again, operationBytes}
 use Rattle.group_record.specs.ReadingTests.{both-true, GoodItems, items-test, items-of-operations, operations-of-items, good-form, form-good, allowed-test}
-use Rattle.group_record.specs.declared.Refusal.the-variants.{NoRoom, Short, WrongEdition, WrongLetter, WrongLength, WrongItem, NotAllowed}
+use Rattle.group_record.specs.declared.Refusal.the-variants.{Short, WrongEdition, WrongLetter, WrongLength, WrongItem, NotAllowed}
 use Rattle.group_record.specs.declared.RecordGroup.{RecordGroup}
 
 -- ---- the rules
@@ -104,7 +102,7 @@ some-letter b (d ∷ cs) c e = found (eqb b (byteOf d)) refl e (some-letter b cs
     found false q e rest = rest e
 
 -- ---- the length test
-length-test : (n stated size : ℕ) → (lengthFits n stated size ≡ true) ↔ Counted n stated size
+pub length-test : (n stated size : ℕ) → (lengthFits n stated size ≡ true) ↔ Counted n stated size
 unfolding lengthFits
 length-test n stated size = (
   (λ e.

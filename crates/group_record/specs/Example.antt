@@ -1,7 +1,6 @@
 -- The example of 01, "Group record": the record of `-P 1`, byte by byte. It holds the definitions of code, order and trailer against the paper.
 use mathlib.Core.Path.{_≡_, refl}
-use mathlib.Core.List.{List, [], _∷_}
-use Prim.Native.Nat.{ℕ}
+use mathlib.Core.List.{[], _∷_}
 use Rattle.laws.specs.Lattice.{smallest, leastRank, rank, unrank}
 use Rattle.laws.specs.Residue.{_⊕_}
 use Rattle.laws.specs.Sorted.{sort, insert}

@@ -1,30 +1,29 @@
 -- What a record holds is a group: with L added it is closed under products and inverses, and its pure translations are exactly L.
 -- The idea for inverses: to multiply the finitely many rotations by one of them is an injection, so it reaches the identity.
-use mathlib.Core.Path.{_≡_, refl, sym, _∙_, ap, ap₂}
+use mathlib.Core.Path.{_≡_, sym, _∙_, ap, ap₂}
 use mathlib.Core.Logic.{_↔_}
-use mathlib.Core.List.{List, [], _∷_, map, List·Memᴰ as Mem, Memᴰ·map as mem-map, Memᴰ·of-map as mem-of-map, Memᴰ·cast as mem-cast}
+use mathlib.Core.List.{List, map, List·Memᴰ as Mem, Memᴰ·map as mem-map, Memᴰ·of-map as mem-of-map, Memᴰ·cast as mem-cast}
 use Prim.Native.Nat.{ℕ}
 use lib.Dec.{T, eqb→eq, eqb-refl}
 use lib.IntN.{pos}
-use Rattle.laws.specs.Integer.{ring, nought}
-use Rattle.laws.specs.Matrix.{Matrix, Vector, times, act, plus, opposite, origin, unit, inverse, Unimodular, times-assoc, unit-times, act-times, act-unit, act-plus, act-opposite, plus-comm, plus-opposite, plus-origin, times-inverse, inverse-times}
-use Rattle.laws.specs.Motion.{Motion, SpaceMotion, compose, identity, product}
+use Rattle.laws.specs.Integer.{ring}
+use Rattle.laws.specs.Matrix.{Matrix, Vector, times, act, plus, opposite, unit, inverse, Unimodular, times-assoc, unit-times, act-times, act-unit, act-plus, act-opposite, plus-comm, plus-opposite, times-inverse, inverse-times}
+use Rattle.laws.specs.Motion.{SpaceMotion, compose, identity, product}
 use Rattle.laws.specs.Distinct.{has, has-member, has-respects, Mem→has, injection-onto}
-use Rattle.laws.specs.Lattice.{InLattice, Congruent, in-plus, in-opposite}
-use Rattle.laws.specs.LatticeMaps.{MapsInto, MapsOnto}
+use Rattle.laws.specs.Lattice.{InLattice, in-plus, in-opposite}
+use Rattle.laws.specs.LatticeMaps.{MapsInto}
 use Rattle.operation.specs.Code.{codeOf}
 use Rattle.operation.specs.Composed.{identity-motion}
 use Rattle.operation.specs.Entries.{Entries, digits-entries}
 use Rattle.operation.specs.Meaning.{matrixOf, vectorOf, motionOf, digitsOf}
 use Rattle.operation.specs.Product.{identityOperation, operationOf}
 use Rattle.operation.specs.declared.Operation.{Operation}
-use Rattle.operation.specs.declared.Rotation.{Rotation}
 use Rattle.operation.specs.declared.Translation.{Translation}
 use Rattle.centering.specs.Letters.{pointsOf}
 use Rattle.centering.specs.Lattices.{points}
 use Rattle.centering.specs.declared.Centering.{Centering}
 use Rattle.group_record.specs.Groups.{Alike, InSet, Allowed, sameCode, Listing}
-use Rattle.group_record.specs.ListedForm.{operation≡, digits-again, matrix-injective, code-matrix, code-equivalence, told-by-rotation, alike-reflexive, alike-symmetric, alike-transitive}
+use Rattle.group_record.specs.ListedForm.{operation≡, digits-again, matrix-injective, code-matrix, code-equivalence, told-by-rotation, alike-reflexive, alike-transitive}
 use Rattle.group_record.specs.OneRecord.{translationBy, pure-translations, from-origin}
 
 -- ---- products of motions that differ by translations of L

@@ -1,11 +1,11 @@
 -- What a record stands for: motions of space, by 01, "Group record". A list of operations, with L added, as a set of motions; and which lists are allowed.
-use mathlib.Core.Path.{_≡_, refl, sym, _∙_, ap}
+use mathlib.Core.Path.{_≡_}
 use mathlib.Core.Bool.{Bool}
-use mathlib.Core.List.{List, [], _∷_, map, List·Memᴰ as Mem}
-use Prim.Native.Nat.{ℕ, _≤_, _<_}
+use mathlib.Core.List.{List, List·Memᴰ as Mem}
+use Prim.Native.Nat.{_≤_, _<_}
 use lib.Dec.{eqb}
 use lib.ListN.{length}
-use Rattle.laws.specs.Matrix.{Matrix, Vector, Unimodular}
+use Rattle.laws.specs.Matrix.{Unimodular}
 use Rattle.laws.specs.Motion.{SpaceMotion, compose, identity}
 use Rattle.laws.specs.Distinct.{Distinct}
 use Rattle.laws.specs.Lattice.{Congruent}
@@ -13,7 +13,7 @@ use Rattle.laws.specs.LatticeMaps.{MapsOnto}
 use Rattle.laws.specs.Sorted.{Sorted}
 use Rattle.operation.specs.Code.{codeOf}
 use Rattle.operation.specs.Entries.{Entries}
-use Rattle.operation.specs.Meaning.{motionOf, matrixOf}
+use Rattle.operation.specs.Meaning.{matrixOf}
 use Rattle.operation.specs.declared.Operation.{Operation}
 use Rattle.centering.specs.Letters.{pointsOf}
 use Rattle.centering.specs.LatticeLaws.{Smallest}

@@ -1,11 +1,11 @@
 -- Items of a fixed width in a row of bytes, for any width and any kind of item: written one after the other, and read back.
 use mathlib.Core.Path.{_≡_, refl, sym, _∙_, ap, ap₂}
-use mathlib.Core.List.{List, [], _∷_, _++_, map, append-assoc, List·Memᴰ as Mem, List·Memᴰ·head as here, List·Memᴰ·tail as there}
+use mathlib.Core.List.{List, [], _∷_, _++_, append-assoc, List·Memᴰ as Mem, List·Memᴰ·head as here, List·Memᴰ·tail as there}
 use Prim.Native.Nat.{ℕ, zero, suc, _+_, _*_, _≤_, _<_}
 use native.Mathlib.Omega.{arith}
 use native.Mathlib.Nat.{mul-zero}
 use lib.ListN.{length, getD, take, drop, length-append, length-drop}
-use lib.Seq.{drop-drop, drop-at, take-add, getD-drop}
+use lib.Seq.{drop-drop, drop-at, take-add}
 
 -- ---- reading
 module _ {A : Type 0} (width : ℕ) (read : List ℕ → A) where

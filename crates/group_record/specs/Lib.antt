@@ -14,3 +14,4 @@ pub mod RoundTrips
 pub mod Example
 -- What the code does with items.
 pub mod Search
+pub mod Parts

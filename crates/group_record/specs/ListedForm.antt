@@ -1,28 +1,27 @@
 -- The form in which a record lists operations: every list of operations has one, it is the list itself where that is in the form, and the set of motions stays.
 -- The idea: a list in strict order is told by its members.
-use mathlib.Core.Path.{_≡_, refl, sym, _∙_, ap, ap₂}
-use mathlib.Core.Logic.{_⊎_, inl, inr, _↔_, ∥∥₁-elim}
+use mathlib.Core.Path.{_≡_, refl, sym, _∙_, ap}
+use mathlib.Core.Logic.{_↔_, ∥∥₁-elim}
 use mathlib.Core.HLevel.{⊥-prop}
-use mathlib.Core.Bool.{Bool, true, false, _||_}
-use mathlib.Core.List.{List, [], _∷_, map, List·Memᴰ as Mem, List·Memᴰ·head as here, List·Memᴰ·tail as there, Memᴰ·map as mem-map, Memᴰ·of-map as mem-of-map, Memᴰ·cast as mem-cast, Pairwise·nil, Pairwise·cons, List·Nodup as Nodup}
-use Prim.Native.Nat.{ℕ, zero, suc, _<_, _≤_}
+use mathlib.Core.Bool.{Bool, _||_}
+use mathlib.Core.List.{List, [], _∷_, map, List·Memᴰ as Mem, Memᴰ·map as mem-map, Memᴰ·of-map as mem-of-map, Memᴰ·cast as mem-cast, Pairwise·nil, Pairwise·cons, List·Nodup as Nodup}
+use Prim.Native.Nat.{ℕ, _<_}
 use native.Mathlib.Omega.{arith}
-use lib.Dec.{T, eqb, eqb→eq, eqb-refl, ltb}
+use lib.Dec.{eqb→eq, eqb-refl}
 use lib.ListN.{length, length-map}
-use Rattle.laws.specs.Matrix.{Matrix}
-use Rattle.laws.specs.Motion.{SpaceMotion, identity}
+use Rattle.laws.specs.Motion.{SpaceMotion}
 use Rattle.laws.specs.Distinct.{has, Distinct, nil, cons, Equivalence, has-member, Mem→has, distinct-equal, eqb-equivalence}
-use Rattle.laws.specs.Lattice.{Congruent, congruent-reflexive, congruent-symmetric, congruent-transitive}
-use Rattle.laws.specs.Sorted.{StrictOrder, Decides, Total, key-strict, key-decides, key-total, Sorted, sorted-nil, sorted-cons, unique, sort, sort-length, sort-member, member-sort, sort-sorted}
+use Rattle.laws.specs.Lattice.{congruent-reflexive, congruent-symmetric, congruent-transitive}
+use Rattle.laws.specs.Sorted.{key-strict, key-decides, key-total, Sorted, sorted-nil, sorted-cons, unique, sort-length, sort-member, member-sort, sort-sorted}
 use Rattle.operation.specs.Code.{codeOf, code-injective}
 use Rattle.operation.specs.Entries.{Entries, digits-entries, digit-again}
-use Rattle.operation.specs.Meaning.{Digits, digitsOf, matrixOf, vectorOf, motionOf, rotation≡, entryOf}
+use Rattle.operation.specs.Meaning.{Digits, digitsOf, matrixOf, motionOf, rotation≡}
 use Rattle.operation.specs.declared.Operation.{Operation}
 use Rattle.operation.specs.declared.Rotation.{Rotation}
 use Rattle.operation.specs.declared.Translation.{Translation}
 use Rattle.centering.specs.Letters.{pointsOf}
 use Rattle.centering.specs.Lattices.{points, smallestOf}
-use Rattle.centering.specs.LatticeLaws.{Smallest, smallest-is, smallest-same}
+use Rattle.centering.specs.LatticeLaws.{smallest-is, smallest-same}
 use Rattle.centering.specs.declared.Centering.{Centering}
 use Rattle.group_record.specs.Record.{smallestOperation, beforeByCode, listedForm}
 use Rattle.group_record.specs.Groups.{Alike, InSet, sameCode, Listing, Form}

@@ -2,35 +2,31 @@
 -- The idea: the set tells L, as its pure translations, so the letter; and it tells each listed operation in its smallest form, so the listed form.
 use mathlib.Core.Path.{_≡_, refl, sym, _∙_, ap, ap₂, subst}
 use mathlib.Core.Logic.{_↔_}
-use mathlib.Core.Bool.{Bool, true, false, cond}
-use mathlib.Core.List.{List, [], _∷_, _++_, map, List·Memᴰ as Mem, List·Memᴰ·head as here, List·Memᴰ·tail as there, Memᴰ·map as mem-map, Memᴰ·of-map as mem-of-map, Memᴰ·cast as mem-cast}
-use Prim.Native.Nat.{ℕ, zero, suc, _+_, _*_, _/_, _%_, _<_, _≤_}
+use mathlib.Core.List.{List, _++_, map, List·Memᴰ as Mem, Memᴰ·map as mem-map, Memᴰ·of-map as mem-of-map, Memᴰ·cast as mem-cast}
+use Prim.Native.Nat.{ℕ, _*_}
 use native.Mathlib.Omega.{arith}
-use lib.Dec.{ltb}
 use borrow.Author.Tests.{lt-ltb}
 use lib.ListN.{length, getD, length-append}
 use lib.Seq.{getD-at}
-use Rattle.laws.specs.Integer.{nought, ring}
+use Rattle.laws.specs.Integer.{ring}
 use Rattle.laws.specs.Matrix.{Vector, unit, origin, plus, opposite, plus-origin}
 use Rattle.laws.specs.Motion.{SpaceMotion, identity}
 use Rattle.laws.specs.Lattice.{InLattice, Congruent}
 use Rattle.laws.specs.Sorted.{key-strict, unique}
-use Rattle.operation.specs.Code.{codeOf, code-lt, rotation-code, rotationOf, decodedOf}
+use Rattle.operation.specs.Code.{codeOf, code-lt, rotation-code}
 use Rattle.operation.specs.Composed.{identity-motion}
 use Rattle.operation.specs.Entries.{Entries, digits-entries}
 use Rattle.operation.specs.Meaning.{matrixOf, motionOf}
 use Rattle.operation.specs.Product.{identityOperation}
 use Rattle.operation.specs.declared.Operation.{Operation}
-use Rattle.operation.specs.declared.Rotation.{Rotation}
-use Rattle.operation.specs.declared.code.Decoded.the-variants.{Inside, Outside}
 use Rattle.centering.specs.Letters.{byteOf, pointsOf}
 use Rattle.centering.specs.LatticeLaws.{byte-injective, lattice-injective}
 use Rattle.centering.specs.declared.Centering.{Centering}
 use Rattle.group_record.specs.Items.{itemsIn, bytesOf, bytes-length, read-written}
-use Rattle.group_record.specs.Record.{Item, item≡, itemOf, itemWidth, editionNumber, itemBytes, totalLength, trailer, written, smallestOperation, listedForm, recordOf}
-use Rattle.group_record.specs.Reading.{itemIn, operationOfItem, rotationOfDecoded}
-use Rattle.group_record.specs.Groups.{Alike, InSet, Listing, Form}
-use Rattle.group_record.specs.ListedForm.{operation≡, told-by-rotation, alike-reflexive, alike-smallest, matrix-injective, form-member, member-form, form-length, CodeBefore, codeKey, listed-form, form-listing, form-set}
+use Rattle.group_record.specs.Record.{Item, item≡, itemOf, itemWidth, editionNumber, itemBytes, totalLength, trailer, written, listedForm, recordOf}
+use Rattle.group_record.specs.Reading.{itemIn, operationOfItem}
+use Rattle.group_record.specs.Groups.{Alike, InSet, Listing}
+use Rattle.group_record.specs.ListedForm.{operation≡, told-by-rotation, alike-reflexive, alike-smallest, matrix-injective, form-member, member-form, CodeBefore, codeKey, listed-form, form-set}
 
 -- ---- the bytes of an operation
 abbrev pub operationBytes : Operation → List ℕ

@@ -1,40 +1,38 @@
 -- What the tests of the reading say of items, operations and motions: refusal 34 is given exactly where the items are not those of operations in the listed form,
 -- and refusal 35 exactly where these are not allowed.
 use mathlib.Core.Path.{_≡_, refl, sym, _∙_, ap, ap₂, subst}
-use mathlib.Core.Logic.{_⊎_, inl, inr, _↔_}
-use mathlib.Core.Bool.{Bool, true, false, cond, _&&_, true≢false}
+use mathlib.Core.Logic.{_↔_}
+use mathlib.Core.Bool.{Bool, true, false, _&&_, true≢false}
 use mathlib.Core.List.{List, [], _∷_, map, List·Memᴰ as Mem, List·Memᴰ·head as here, List·Memᴰ·tail as there, Memᴰ·map as mem-map, Memᴰ·of-map as mem-of-map, Memᴰ·cast as mem-cast}
-use Prim.Native.Nat.{ℕ, zero, suc, _+_, _*_, _<_, _≤_}
+use Prim.Native.Nat.{ℕ, _<_, _≤_}
 use native.Mathlib.Omega.{arith}
-use lib.Dec.{T, ltb, eqb, eqb→eq, eqb-refl}
+use lib.Dec.{T, ltb, eqb}
 use borrow.Author.Tests.{ltb-true, lt-ltb, eqb-true, eq-eqb}
 use lib.ListN.{length, length-map}
-use Rattle.laws.specs.Matrix.{Matrix, Vector, plus, opposite, Unimodular}
+use Rattle.laws.specs.Matrix.{Vector, opposite}
 use Rattle.laws.specs.Motion.{SpaceMotion, compose, identity}
-use Rattle.laws.specs.Residue.{Triple, Reduced, reduced, lifted, _⊕_, minus, reduced-plus, reduced-opposite}
+use Rattle.laws.specs.Residue.{reduced, _⊕_, reduced-plus}
 use Rattle.laws.specs.Distinct.{has, has-member, or-left, or-right}
-use Rattle.laws.specs.Lattice.{InLattice, Congruent, congruent-reflexive, rank, all, all-member, member-all, sameTriple, triple-decides, belowTwelve, zeroTriple}
+use Rattle.laws.specs.Lattice.{Congruent, congruent-reflexive, rank, all, all-member, member-all, sameTriple, triple-decides, belowTwelve, same-test, and-right}
 use Rattle.laws.specs.LatticeMaps.{MapsOnto, onto-unimodular}
-use Rattle.laws.specs.Sorted.{Sorted, sorted-nil, sorted-cons, ascending, key-strict, key-decides, ascending-sorted, sorted-ascending, head-first, tail-sorted, sorted-map}
-use Rattle.operation.specs.Code.{codeOf, decodedOf, rotationOf, rotation-digits, code-rotation, code-lt}
-use Rattle.operation.specs.Composed.{Reduces, operation-reduces, product-inside, product-outside, identity-motion}
+use Rattle.laws.specs.Sorted.{Sorted, sorted-nil, sorted-cons, key-strict, key-decides, ascending-sorted, sorted-ascending, head-first, tail-sorted, sorted-map}
+use Rattle.operation.specs.Code.{codeOf, rotationOf, rotation-digits, code-rotation, code-lt}
+use Rattle.operation.specs.Composed.{operation-reduces, product-inside, identity-motion}
 use Rattle.operation.specs.Entries.{Entries, digits-entries, all-entries}
-use Rattle.operation.specs.Meaning.{Digits, matrixOf, vectorOf, motionOf, digitsOf, allInside}
+use Rattle.operation.specs.Meaning.{Digits, matrixOf, vectorOf, motionOf}
 use Rattle.operation.specs.Product.{identityOperation, productOf, operationOf}
 use Rattle.operation.specs.declared.Operation.{Operation}
-use Rattle.operation.specs.declared.Translation.{Translation}
-use Rattle.operation.specs.declared.code.Decoded.the-variants.{Inside as CodeInside, Outside as CodeOutside}
 use Rattle.operation.specs.declared.product.Product.{Product}
 use Rattle.operation.specs.declared.product.Product.the-variants.{Inside, Outside}
 use Rattle.centering.specs.Letters.{pointsOf}
-use Rattle.centering.specs.Lattices.{points, tripleOf, translationOf, smallestOf, congruentOf}
+use Rattle.centering.specs.Lattices.{points, tripleOf, translationOf, smallestOf}
 use Rattle.centering.specs.LatticeLaws.{holds, Smallest, smallest-is, smallest-same, congruent-lattice}
 use Rattle.centering.specs.Keeps.{keepsOf, keeps-lattice}
 use Rattle.centering.specs.declared.Centering.{Centering}
 use Rattle.group_record.specs.Record.{Item, item≡, itemOf}
-use Rattle.group_record.specs.Reading.{operationOfItem, rotationOfDecoded, isItem, itemBefore, areItems, alikeItems, productListed, pairListed, keepsItem, memberAllowed, isAllowed}
-use Rattle.group_record.specs.Groups.{Alike, Allowed, Form, Listing}
-use Rattle.group_record.specs.ListedForm.{operation≡, digits-again, code-matrix, matrix-injective, CodeBefore, form-listing, form-smallest}
+use Rattle.group_record.specs.Reading.{operationOfItem, isItem, itemBefore, areItems, alikeItems, productListed, pairListed, keepsItem, memberAllowed, isAllowed}
+use Rattle.group_record.specs.Groups.{Alike, Allowed, Form}
+use Rattle.group_record.specs.ListedForm.{operation≡, code-matrix, matrix-injective, CodeBefore, form-listing}
 use Rattle.group_record.specs.OneRecord.{operation-of-item}
 use Rattle.group_record.specs.GroupLaws.{identity-listed}
 
@@ -83,6 +81,14 @@ item-test c i = (forth, back)
             rw same (holds .0 (triple-decides .reflexive (tripleOf (i .translation)))),
           ),
         )
+
+-- The smallest triple of a class is below 12, so the comparison with it decides.
+pub item-by-smallest : (c : Centering) (i : Item) → i .code < 19683 → sameTriple (tripleOf (smallestOf c (i .translation))) (tripleOf (i .translation)) ≡ isItem c i
+unfolding isItem
+item-by-smallest c i h =
+    same-test _ _
+    (λ t. holds .1 (item-test c i .1 (h, smallest-is c (i .translation) (i .translation) .1 (ap translationOf (sym (triple-decides .exact _ _ t))))))
+    (λ t. and-right (belowTwelve (tripleOf (i .translation))) _ (and-right (ltb (i .code) 19683) _ t))
 
 abbrev itemKey : Item → ℕ
 itemKey i = i .code
@@ -248,8 +254,8 @@ row-test c l entries f m = (
       product-test c l entries f g .0 (sym (pair-of-operations c (map itemOf l) f g (entries f m) (entries g k)) ∙ pair)),
   λ closed.
       all-true (pairListed c (map itemOf l) (itemOf f)) (map itemOf l) .1 (λ j k.
-        let (g, o, q) = mem-of-map itemOf l k in
-        rw (← q) (pair-of-operations c (map itemOf l) f g (entries f m) (entries g o) ∙ product-test c l entries f g .1 (closed g o))),
+      let (g, o, q) = mem-of-map itemOf l k in
+      rw (← q) (pair-of-operations c (map itemOf l) f g (entries f m) (entries g o) ∙ product-test c l entries f g .1 (closed g o))),
 )
 
 -- A member is allowed exactly if its rotation maps L onto L and its products are listed modulo L.
@@ -292,8 +298,8 @@ allowed-test c l F some few = (forth, back)
         both-true (has (alikeItems c) (itemOf identityOperation) (map itemOf l)) _ .1 (
           identity-test c l F .1 (identity-listed (form-listing c F) (A .holds-identity)),
           all-true (memberAllowed c (map itemOf l)) (map itemOf l) .1 (λ i m.
-            let (f, k, e) = mem-of-map itemOf l m in
-            rw (← e) (member-test c l (F .entries) f k .1 (A .keeps (motionOf f) (mem-map motionOf k), products f k))),
+              let (f, k, e) = mem-of-map itemOf l m in
+              rw (← e) (member-test c l (F .entries) f k .1 (A .keeps (motionOf f) (mem-map motionOf k), products f k))),
         )
       where
         products : (f : Operation) → Mem f l → (g : Operation) → Mem g l → (h : Operation) × Mem h l × Alike c (compose (motionOf f) (motionOf g)) (motionOf h)

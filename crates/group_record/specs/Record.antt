@@ -1,13 +1,12 @@
 -- The bytes of a record, by 01, "Group record": five bytes an operation, ascending by code, each translation the smallest of its class; then the trailer.
-use mathlib.Core.Path.{_≡_, refl}
-use mathlib.Core.Bool.{Bool, _&&_}
+use mathlib.Core.Path.{_≡_}
+use mathlib.Core.Bool.{Bool}
 use mathlib.Core.List.{List, [], _∷_, _++_, map}
 use Prim.Native.Nat.{ℕ, _+_, _*_, _/_, _%_}
-use lib.Dec.{ltb, eqb}
-use lib.ListN.{length, getD}
+use lib.Dec.{ltb}
+use lib.ListN.{length}
 use Rattle.laws.specs.Sorted.{sort}
 use Rattle.operation.specs.Code.{codeOf}
-use Rattle.operation.specs.Product.{identityOperation}
 use Rattle.operation.specs.declared.Operation.{Operation}
 use Rattle.operation.specs.declared.Translation.{Translation}
 use Rattle.centering.specs.Letters.{byteOf}

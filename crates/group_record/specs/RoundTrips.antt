@@ -1,28 +1,25 @@
 -- What was written reads back as the same group, and what was read is written as the same bytes. Both follow from the rules of the reading and from the listed form.
-use mathlib.Core.Path.{_≡_, refl, sym, _∙_, ap, ap₂, subst}
-use mathlib.Core.Logic.{_↔_}
-use mathlib.Core.Bool.{Bool, true, false}
-use mathlib.Core.List.{List, [], _∷_, _++_, map, List·Memᴰ as Mem, Memᴰ·map as mem-map, Memᴰ·of-map as mem-of-map, Memᴰ·cast as mem-cast}
-use Prim.Native.Nat.{ℕ, _+_, _-_, _≤_}
+use mathlib.Core.Path.{_≡_, refl, sym, _∙_, ap, subst}
+use mathlib.Core.List.{List, _++_, map, List·Memᴰ as Mem, Memᴰ·map as mem-map, Memᴰ·of-map as mem-of-map, Memᴰ·cast as mem-cast}
+use Prim.Native.Nat.{ℕ, _-_, _≤_}
 use native.Mathlib.Omega.{arith}
-use lib.ListN.{length, take, length-append, length-map, length-replicate, replicate}
+use lib.ListN.{length, take, length-map, replicate}
 use lib.Seq.{take-at}
-use Rattle.laws.specs.Motion.{SpaceMotion, compose, identity}
-use Rattle.operation.specs.Answer.{given, refused, Nothing}
+use Rattle.laws.specs.Motion.{SpaceMotion, compose}
+use Rattle.operation.specs.Answer.{given}
 use Rattle.operation.specs.Composed.{identity-motion}
 use Rattle.operation.specs.Meaning.{motionOf}
 use Rattle.operation.specs.Product.{identityOperation}
 use Rattle.operation.specs.declared.Operation.{Operation}
-use Rattle.centering.specs.Lattices.{smallestOf}
 use Rattle.centering.specs.declared.Centering.{Centering}
 use Rattle.group_record.specs.Record.{smallestOperation, listedForm, written, recordOf}
 use Rattle.group_record.specs.Reading.{readOf, acceptedGroup, refusedGroup, slots, groupAnswer}
 use Rattle.group_record.specs.Groups.{Alike, InSet, Allowed, Listing, Form}
-use Rattle.group_record.specs.ListedForm.{form-member, member-form, form-length, listed-form, form-listing, form-again, form-set, alike-symmetric, alike-transitive, smallest-alike}
+use Rattle.group_record.specs.ListedForm.{form-member, member-form, form-length, listed-form, form-listing, form-again, alike-symmetric, alike-transitive, smallest-alike}
 use Rattle.group_record.specs.GroupLaws.{SpaceGroup, allowed-group, compose-alike, identity-listed}
 use Rattle.group_record.specs.ReadingTests.{origin-smallest}
 use Rattle.group_record.specs.Acceptance.{Bytes, Outcome, too-short, wrong-edition, wrong-letter, wrong-length, wrong-item, not-allowed, accepted, read-outcome, outcome-read}
-use Rattle.group_record.specs.declared.Reading.the-variants.{Accepted, Refused}
+use Rattle.group_record.specs.declared.Reading.the-variants.{Accepted}
 use Rattle.group_record.specs.declared.RecordGroup.{RecordGroup}
 
 -- ---- the answer says the letter and the operations
