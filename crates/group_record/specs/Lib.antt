@@ -4,6 +4,7 @@ pub mod Items
 pub mod Record
 pub mod Reading
 pub mod Groups
+pub mod Copying
 -- Their laws.
 pub mod ListedForm
 pub mod OneRecord
@@ -15,3 +16,5 @@ pub mod Example
 -- What the code does with items.
 pub mod Search
 pub mod Parts
+pub mod Selection
+pub mod Writing

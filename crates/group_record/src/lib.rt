@@ -1,5 +1,6 @@
 // The group record: the byte form of a group of operations, written and read. New in the port: the Rust has no such form.
 pub mod reader;
+pub mod writer;
 
 use centering::Centering;
 use operation::Operation;
@@ -32,4 +33,10 @@ pub struct RecordGroup {
 pub enum Copied {
     Written(usize),
     Refused(Refusal),
+}
+
+// The best of the operations looked at so far: its index and its code.
+pub struct Best {
+    pub index: usize,
+    pub code: u32,
 }
