@@ -1,5 +1,5 @@
 -- A record from a stated place of a lent buffer, by 01, "Group record" and refusal 20; and the copy of a record: read, then written there.
-use mathlib.Core.Path.{_≡_, refl}
+use mathlib.Core.Path.{_≡_, sym, _∙_, ap}
 use mathlib.Core.Bool.{Bool, true, false, cond, _&&_}
 use mathlib.Core.List.{List, _++_}
 use Prim.Native.Nat.{ℕ, _+_, _-_, _<_, _≤_}
@@ -68,3 +68,15 @@ module _ (out : List ℕ) (start n : ℕ) (bytes : List ℕ) where
   pub all-placed : roomFor start n (length out) ≡ true → placedIn out start n bytes ≡ take start out ++ (bytes ++ drop (start + totalLength itemWidth n) out)
   unfolding placedIn
   all-placed e = rw e
+
+-- ---- a copy, by what was read
+module _ (bytes out : List ℕ) (start : ℕ) (g : RecordGroup) (e : g ≡ readOf bytes) where
+  pub copied-by : (a : Reading) → g .answer ≡ a → copiedBy a (g .count) start (length out) ≡ copiedOf bytes out start
+  unfolding copiedOf
+  copied-by a p = ap (λ (b : Reading). copiedBy b (g .count) start (length out)) (sym p) ∙ ap (λ (h : RecordGroup). copiedBy (h .answer) (h .count) start (length out)) e
+
+  pub buffer-by : (a : Reading) → g .answer ≡ a → bufferBy a out start (g .count) (recordOf (g .centering) (take (g .count) (g .operations))) ≡ bufferOf bytes out start
+  unfolding bufferOf
+  buffer-by a p =
+      ap (λ (b : Reading). bufferBy b out start (g .count) (recordOf (g .centering) (take (g .count) (g .operations)))) (sym p)
+      ∙ ap (λ (h : RecordGroup). bufferBy (h .answer) out start (h .count) (recordOf (h .centering) (take (h .count) (h .operations)))) e

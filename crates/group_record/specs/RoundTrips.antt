@@ -3,7 +3,7 @@ use mathlib.Core.Path.{_≡_, refl, sym, _∙_, ap, subst}
 use mathlib.Core.List.{List, _++_, map, List·Memᴰ as Mem, Memᴰ·map as mem-map, Memᴰ·of-map as mem-of-map, Memᴰ·cast as mem-cast}
 use Prim.Native.Nat.{ℕ, _-_, _≤_}
 use native.Mathlib.Omega.{arith}
-use lib.ListN.{length, take, length-map, replicate}
+use lib.ListN.{length, take, length-map, length-append, replicate}
 use lib.Seq.{take-at}
 use Rattle.laws.specs.Motion.{SpaceMotion, compose}
 use Rattle.operation.specs.Answer.{given}
@@ -96,3 +96,30 @@ reads-accepted bytes g (accepted front c l p F A) e =
 
 pub written-again : (bytes : List ℕ) → Bytes bytes → readOf bytes .answer ≡ Accepted → Reads bytes (readOf bytes .centering) (take (readOf bytes .count) (readOf bytes .operations))
 written-again bytes g e = reads-accepted bytes (readOf bytes) (read-outcome bytes g) e
+
+-- ---- what the writer is asked
+-- Operations that may be written: at most 48, there, and a listing.
+pub record Writable (g : RecordGroup) : Type 0 where
+  pub few : g .count ≤ 48
+  pub there : g .count ≤ length (g .operations)
+  pub listing : Listing (take (g .count) (g .operations))
+
+-- What was read may be written.
+outcome-writable : (bytes : List ℕ) (g : RecordGroup) → Outcome bytes g → g .answer ≡ Accepted → Writable g
+unfolding refusedGroup acceptedGroup slots
+outcome-writable bytes g (too-short h) e = let z : _≡_ {A = ℕ} 0 1 = cc in absurd (omega arith)
+outcome-writable bytes g (wrong-edition front letter edition n high low h p q) e = let z : _≡_ {A = ℕ} 0 1 = cc in absurd (omega arith)
+outcome-writable bytes g (wrong-letter front letter n high low h p q) e = let z : _≡_ {A = ℕ} 0 1 = cc in absurd (omega arith)
+outcome-writable bytes g (wrong-length front c n high low h p q) e = let z : _≡_ {A = ℕ} 0 1 = cc in absurd (omega arith)
+outcome-writable bytes g (wrong-item front c items some few p q) e = let z : _≡_ {A = ℕ} 0 1 = cc in absurd (omega arith)
+outcome-writable bytes g (not-allowed front c l some few p F q) e = let z : _≡_ {A = ℕ} 0 1 = cc in absurd (omega arith)
+outcome-writable bytes g (accepted front c l p F A) e =
+    let size = length-append l (replicate (48 - length l) identityOperation) in
+    record {
+      few = rw (length-map l motionOf) at (A .count .1);
+      there = omega (arith, size);
+      listing = rw (take-at l (replicate (48 - length l) identityOperation) (length l) refl) (form-listing c F);
+    }
+
+pub read-writable : (bytes : List ℕ) (g : RecordGroup) → Bytes bytes → g ≡ readOf bytes → g .answer ≡ Accepted → Writable g
+read-writable bytes g b e a = outcome-writable bytes g (subst (Outcome bytes) (sym e) (read-outcome bytes b)) a
