@@ -13,5 +13,6 @@ pub mod Slots
 pub mod Acceptance
 -- What an accepted symbol's list is: its members, its order, its group, and the set of motions:
 pub mod Members
+pub mod Steps
 pub mod WordOrder
 pub mod SetOfMotions

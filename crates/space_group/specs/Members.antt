@@ -158,13 +158,13 @@ module _ (c : Centering) (gens operations : List Operation) (steps : List ℕ) (
   generated-product f g r t = reached-product (Keeps (pointsOf c)) compose identity (motions-monoid (pointsOf c) (points c)) (motions gens) (motions-keep c gens list (A .listed) (A .keep)) r t
 
   -- Products of alike motions, where the left ones keep L.
-  alike-product : (f g h k : SpaceMotion) → Keeps (pointsOf c) f → Keeps (pointsOf c) g → Keeps (pointsOf c) h → Keeps (pointsOf c) k → Alike (pointsOf c) f h → Alike (pointsOf c) g k → Alike (pointsOf c) (compose f g) (compose h k)
+  pub alike-product : (f g h k : SpaceMotion) → Keeps (pointsOf c) f → Keeps (pointsOf c) g → Keeps (pointsOf c) h → Keeps (pointsOf c) k → Alike (pointsOf c) f h → Alike (pointsOf c) g k → Alike (pointsOf c) (compose f g) (compose h k)
   alike-product f g h k keep-f keep-g keep-h keep-k p q =
       let M = motions-keyed (pointsOf c) (points c) in
       M .alike-transitive (compose f g) (compose f k) (compose h k) (M .alike-left f g k keep-f keep-g keep-k q) (M .alike-right f h k keep-f keep-h keep-k p)
 
   -- A motion alike to one that keeps L keeps L.
-  alike-keeps : (f g : SpaceMotion) → Alike (pointsOf c) f g → Keeps (pointsOf c) f → Keeps (pointsOf c) g
+  pub alike-keeps : (f g : SpaceMotion) → Alike (pointsOf c) f g → Keeps (pointsOf c) f → Keeps (pointsOf c) g
   alike-keeps f g near keep = rw (near .0) at keep
 
   -- Any product of two members is, modulo L, a member.

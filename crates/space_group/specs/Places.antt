@@ -1,4 +1,4 @@
--- The search for a code, step by step; and the place of an operation among others as the place of its code.
+-- The search for a code, step by step; the place of an operation among others as the place of its code; and equal translations.
 use mathlib.Core.Path.{_≡_, refl, sym, _∙_, ap}
 use mathlib.Core.Bool.{Bool, true, false, cond}
 use mathlib.Core.List.{List, [], _∷_, _++_, map}
@@ -9,7 +9,15 @@ use lib.Dec.{eqb}
 use lib.ListN.{length, getD, drop}
 use lib.Seq.{drop-cons, drop-length}
 use borrow.Author.Tests.{eq-eqb, ne-eqb}
+use Rattle.laws.specs.Distinct.{Mem→has, equality-equivalence}
+use Rattle.laws.specs.Lattice.{sameTriple, triple-decides, congruent-reflexive}
 use Rattle.laws.specs.Growth.{place}
+use Rattle.laws.specs.GrowthClosure.{T-true, true-T}
+use Rattle.operation.specs.Meaning.{vectorOf}
+use Rattle.operation.specs.declared.Translation.{Translation}
+use Rattle.centering.specs.Letters.{pointsOf}
+use Rattle.centering.specs.Lattices.{points, tripleOf, translationOf, congruentOf}
+use Rattle.centering.specs.declared.Centering.{Centering}
 
 -- The code sought is found,
 pub place-hit : (x : ℕ) (l : List ℕ) (i : ℕ) → i < length l → getD l i 0 ≡ x → place eqb x (drop i l) ≡ 0
@@ -31,3 +39,10 @@ pub place-key : {A : Type 0} (key : A → ℕ) (x : A) (l : List A) → place (�
 unfolding place
 place-key key x [] = refl
 place-key key x (y ∷ l) = rw (place-key key x l)
+
+-- Equal translations are in one class modulo L.
+pub same-class : (c : Centering) (s t : Translation) → sameTriple (tripleOf s) (tripleOf t) ≡ true → congruentOf c s t ≡ true
+unfolding congruentOf
+same-class c s t e =
+    let equal : s ≡ t = ap translationOf (triple-decides .exact (tripleOf s) (tripleOf t) (true-T e)) in
+    rw equal (T-true (Mem→has sameTriple (equality-equivalence sameTriple triple-decides) (congruent-reflexive (pointsOf c) (points c) (vectorOf t))))

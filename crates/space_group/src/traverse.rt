@@ -7,7 +7,8 @@ ghost use Prim.Native.Nat.{_≤_};
 ghost use lib.Dec.{eqb};
 ghost use lib.ListN.{length, take};
 ghost use Rattle.laws.specs.Growth.{place};
-ghost use Rattle.centering.specs.Lattices.{congruentOf};
+ghost use Rattle.laws.specs.Lattice.{sameTriple};
+ghost use Rattle.centering.specs.Lattices.{tripleOf, congruentOf};
 ghost use Rattle.space_group.specs.Traversal.{growth, grownOf, overgrownAnswer};
 use centering::Centering;
 use operation::Operation;
@@ -46,11 +47,27 @@ fn place_of(codes: &[u32], count: usize, code: u32) -> usize
     at
 }
 
+fn same(s: Translation, t: Translation) -> bool
+    ensures { λ r. ⌜ r ≡ sameTriple (tripleOf s) (tripleOf t) ⌝ }
+{
+    if s.x != t.x {
+        return false;
+    }
+    if s.y != t.y {
+        return false;
+    }
+    s.z == t.z
+}
+
+// Equal translations, the common case, need no look at the lattice.
 fn agrees(c: Centering, steady: bool, t: Translation, listed: Translation) -> bool
     ensures { λ r. ⌜ r ≡ steady && congruentOf c t listed ⌝ }
 {
     if !steady {
         return false;
+    }
+    if same(t, listed) {
+        return true;
     }
     c.congruent(t, listed)
 }
