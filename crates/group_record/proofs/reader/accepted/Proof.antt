@@ -1,3 +1,4 @@
+-- The loop's invariant: the first slots hold the operations read so far, the others the identity. The measure is what is left.
 use mathlib.Core.List.{map}
 use Rattle.group_record.specs.declared.Reading.the-variants.{Accepted}
 use lib.ListN.{length-map, length}

@@ -1,3 +1,4 @@
+-- The codes decide, then the classes of the translations.
 use borrow.Author.Tests.{eq-eqb, ne-eqb}
 use Rattle.group_record.specs.Reading.{alikeItems}
 use borrow.Author.Needs.{needs}

@@ -1,3 +1,4 @@
+-- A conjunction: the first test, or the second where the first holds.
 use borrow.Author.Tests.{not-true, not-false}
 use Rattle.group_record.specs.Reading.{areItems}
 use borrow.Author.Needs.{needs}

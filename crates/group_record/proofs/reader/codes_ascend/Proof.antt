@@ -1,3 +1,4 @@
+-- The loop's invariant: the neighbours passed ascend, so what is left decides. The measure is what is left.
 use Rattle.group_record.specs.Search.{itemAt, itemsOf, ascending-next, ascending-stop, ascending-end}
 use mathlib.Core.Path.{_≡_, refl, sym, _∙_}
 use Prim.Native.Nat.{_+_, _-_, _<_}

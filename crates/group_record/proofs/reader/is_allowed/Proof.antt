@@ -1,3 +1,4 @@
+-- A conjunction: the identity's test, or that of the members where the first holds.
 use mathlib.Core.Path.{sym, _∙_, ap}
 use borrow.Author.Tests.{not-true, not-false}
 use Rattle.group_record.specs.Record.{itemOf}

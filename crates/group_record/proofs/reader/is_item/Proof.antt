@@ -1,3 +1,4 @@
+-- Where the code fits, the comparison with the smallest triple decides.
 use mathlib.Core.Path.{_∙_}
 use borrow.Author.Tests.{le-ltb}
 use native.Mathlib.Omega.{arith}

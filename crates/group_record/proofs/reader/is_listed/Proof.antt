@@ -1,3 +1,4 @@
+-- The loop's invariant: none of the items passed is alike, so what is left decides. The measure is what is left.
 use mathlib.Core.Path.{_≡_, refl, sym, _∙_}
 use Prim.Native.Nat.{_-_, _≤_}
 use native.Mathlib.Omega.{arith}

@@ -1,3 +1,4 @@
+-- Two bytes, each below 256, make the code.
 use Prim.Native.Nat.{_+_, _*_}
 use native.Mathlib.Omega.{arith}
 use Rattle.group_record.specs.Search.{item-code-bytes}

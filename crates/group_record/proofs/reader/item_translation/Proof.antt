@@ -1,3 +1,4 @@
+-- Three bytes of the item, by their places.
 use Rattle.group_record.specs.Search.{item-translation-bytes}
 use borrow.Author.Needs.{needs}
 use Rattle.group_record.proofs.reader.item_translation.Statement.{statement}

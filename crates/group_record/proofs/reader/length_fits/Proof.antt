@@ -1,3 +1,4 @@
+-- The four tests in turn.
 use borrow.Author.Tests.{eq-eqb, ne-eqb, le-leb, lt-leb}
 use native.Mathlib.Omega.{arith}
 use Rattle.group_record.specs.Reading.{lengthFits}

@@ -1,3 +1,4 @@
+-- First the lattice, then the loop: the products passed are listed, so what is left decides. The measure is what is left.
 use Rattle.group_record.specs.Search.{kept-item, listed-pair, member-kept, member-lost, itemsOf, itemAt, all-next, all-stop, all-end}
 use mathlib.Core.Path.{_≡_, sym, _∙_}
 use Prim.Native.Nat.{_-_, _≤_}

@@ -1,3 +1,4 @@
+-- The code decides between a rotation and none; the answer follows it.
 use mathlib.Core.Path.{sym, _∙_, ap}
 use Rattle.group_record.specs.Reading.{operationOfItem, rotationOfDecoded}
 use Rattle.group_record.specs.ListedForm.{operation≡}

@@ -1,3 +1,4 @@
+-- By cases of the product.
 use mathlib.Core.Path.{sym, _∙_, ap}
 use Rattle.group_record.specs.Reading.{productListed}
 use Rattle.group_record.specs.Search.{itemsOf}

@@ -1,3 +1,4 @@
+-- The two tests of the rules, then the operations.
 use borrow.Author.Tests.{not-true, not-false}
 use Rattle.group_record.specs.Reading.{readItems}
 use borrow.Author.Needs.{needs}

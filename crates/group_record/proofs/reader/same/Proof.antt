@@ -1,3 +1,4 @@
+-- The three tests in turn.
 use borrow.Author.Tests.{eq-eqb, ne-eqb}
 use Rattle.laws.specs.Lattice.{sameTriple}
 use Rattle.centering.specs.PointSearch.{same-by-last}
