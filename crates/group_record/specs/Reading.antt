@@ -116,7 +116,7 @@ keepsItem c i = keepsOf c (operationOfItem i .rotation)
 unfoldable pub memberAllowed : Centering → List Item → Item → Bool
 memberAllowed c items i = keepsItem c i && all (pairListed c items i) items
 
--- Refusal 35 is given unless the identity is listed and each member is so.
+-- Refusal 35 is given unless the identity is listed and each member is so. Triples being the smallest of their classes here, the identity's is (0,0,0).
 unfoldable pub isAllowed : Centering → List Item → Bool
 isAllowed c items = has (alikeItems c) (itemOf identityOperation) items && all (memberAllowed c items) items
 

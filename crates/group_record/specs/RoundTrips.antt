@@ -4,8 +4,9 @@ use mathlib.Core.Logic.{_↔_}
 use mathlib.Core.List.{List, _++_, map, List·Memᴰ as Mem, Memᴰ·map as mem-map, Memᴰ·of-map as mem-of-map, Memᴰ·cast as mem-cast}
 use Prim.Native.Nat.{ℕ, _-_, _≤_}
 use native.Mathlib.Omega.{arith}
-use lib.ListN.{length, take, length-map, length-append, replicate}
-use lib.Seq.{take-at}
+use lib.ListN.{length, take, length-map, length-append, replicate, drop}
+use lib.Seq.{take-at, drop-at, length-take-le}
+use Rattle.group_record.specs.OneRecord.{written-length}
 use Rattle.laws.specs.Motion.{SpaceMotion, compose}
 use Rattle.operation.specs.Answer.{given}
 use Rattle.operation.specs.Composed.{identity-motion}
@@ -13,7 +14,7 @@ use Rattle.operation.specs.Meaning.{motionOf}
 use Rattle.operation.specs.Product.{identityOperation}
 use Rattle.operation.specs.declared.Operation.{Operation}
 use Rattle.centering.specs.declared.Centering.{Centering}
-use Rattle.group_record.specs.Record.{smallestOperation, listedForm, written, recordOf}
+use Rattle.group_record.specs.Record.{smallestOperation, listedForm, written, recordOf, itemWidth, totalLength}
 use Rattle.group_record.specs.Reading.{readOf, acceptedGroup, refusedGroup, slots, groupAnswer}
 use Rattle.group_record.specs.Groups.{Alike, InSet, Allowed, Listing, Form}
 use Rattle.group_record.specs.ListedForm.{form-member, member-form, form-length, listed-form, form-listing, form-again, alike-symmetric, alike-transitive, smallest-alike}
@@ -27,9 +28,9 @@ use Rattle.group_record.specs.declared.Refusal.the-variants.{Short, Wron
 use Rattle.group_record.specs.declared.RecordGroup.{RecordGroup}
 
 -- ---- the answer says the letter and the operations
-pub accepted-answer : (c : Centering) (l : List Operation) → length l ≤ 48 → groupAnswer (acceptedGroup c l) ≡ given (c, l)
+pub accepted-answer : (c : Centering) (l : List Operation) → groupAnswer (acceptedGroup c l) ≡ given (c, l)
 unfolding acceptedGroup slots
-accepted-answer c l few = ap (λ (k : List Operation). given (c, k)) (take-at l (replicate (48 - length l) identityOperation) (length l) refl)
+accepted-answer c l = ap (λ (k : List Operation). given (c, k)) (take-at l (replicate (48 - length l) identityOperation) (length l) refl)
 
 -- ---- allowed operations stay allowed in the listed form
 module _ (c : Centering) {l : List Operation} (L : Listing l) (A : Allowed c (map motionOf l)) where
@@ -71,6 +72,11 @@ module _ (c : Centering) {l : List Operation} (L : Listing l) (A : Allowed c (ma
   pub reads-back : (front : List ℕ) → readOf (front ++ recordOf c l) ≡ acceptedGroup c (listedForm c l)
   unfolding recordOf
   reads-back front = outcome-read (front ++ written c (listedForm c l)) _ (accepted front c (listedForm c l) refl (listed-form c L) form-allowed)
+
+-- A record's length.
+record-length : (c : Centering) (l : List Operation) → length (recordOf c l) ≡ totalLength itemWidth (length l)
+unfolding recordOf
+record-length c l = written-length c (listedForm c l) ∙ ap (totalLength itemWidth) (form-length c l)
 
 -- ---- what was read
 -- What is read is the record of a group, and is written as the bytes it was read from.
@@ -164,3 +170,15 @@ accepted-exactly bytes g c l = (
   (λ e. accepted-outcome bytes (readOf bytes) c l (read-outcome bytes g) e),
   λ (front, e, F, A). outcome-read bytes (acceptedGroup c l) (accepted front c l e F A),
 )
+
+-- A copy's bytes are those that were read: the last ones of the buffer.
+pub copied-bytes : (bytes : List ℕ) → Bytes bytes → readOf bytes .answer ≡ Accepted → recordOf (readOf bytes .centering) (take (readOf bytes .count) (readOf bytes .operations)) ≡ drop (length bytes - totalLength itemWidth (readOf bytes .count)) bytes
+copied-bytes bytes g e =
+    let c = readOf bytes .centering in
+    let n = readOf bytes .count in
+    let l = take n (readOf bytes .operations) in
+    let r = written-again bytes g e in
+    let few = length-take-le n (readOf bytes .operations) (read-writable bytes (readOf bytes) g refl e .there) in
+    let size : length (recordOf c l) ≡ totalLength itemWidth n = record-length c l ∙ ap (totalLength itemWidth) few in
+    let place : length (r .front) ≡ length bytes - totalLength itemWidth n = omega (arith, size, length-append (r .front) (recordOf c l), ap length (r .same-bytes)) in
+    sym (ap (drop (length bytes - totalLength itemWidth n)) (r .same-bytes) ∙ drop-at (r .front) (recordOf c l) (length bytes - totalLength itemWidth n) place)
