@@ -57,6 +57,7 @@ pub data Outcome (bytes : List ℕ) : RecordGroup → Type 0 where
   accepted : (front : List ℕ) (c : Centering) (l : List Operation) → bytes ≡ front ++ written c l → Form c l → Allowed c (map motionOf l) → Outcome bytes (acceptedGroup c l)
 
 -- ---- what the reading finds at the end of a buffer
+-- The byte k places before the end of a list that ends with the rest.
 from-end : (front rest : List ℕ) (k j : ℕ) → length rest ≡ j + k → 1 ≤ k → fromEnd (front ++ rest) k ≡ getD rest j 0
 unfolding fromEnd
 from-end front rest k j h one =
@@ -67,6 +68,7 @@ module _ (front : List ℕ) (letter edition n high low : ℕ) where
   abbrev whole : List ℕ
   whole = front ++ lastFive letter edition n high low
 
+  -- The edition, then the letter, decide.
   read-edition : 5 ≤ length front → readOf whole ≡ cond (eqb edition editionNumber) (readLettered (letterOf letter) whole) (refusedGroup WrongEdition)
   unfolding readOf
   read-edition h =
@@ -77,6 +79,7 @@ module _ (front : List ℕ) (letter edition n high low : ℕ) where
         from-end front (lastFive letter edition n high low) 5 0 refl (omega arith),
       )
 
+  -- With a letter, count and length decide.
   read-length : (c : Centering) → readLettered (Is c) whole ≡ cond (lengthFits n (high * 256 + low) (length whole)) (readItems c (itemsIn itemWidth itemIn n (drop (length whole - totalLength itemWidth n) whole))) (refusedGroup WrongLength)
   unfolding readLettered readCounted
   read-length c =
@@ -87,11 +90,13 @@ module _ (front : List ℕ) (letter edition n high low : ℕ) where
       )
 
 -- ---- letters
+-- A byte that is no letter's spells none.
 no-letter : (b : ℕ) (cs : List Centering) → ((c : Centering) → ¬ (b ≡ byteOf c)) → letterAmong b cs ≡ None
 unfolding letterAmong
 no-letter b [] none = refl
 no-letter b (c ∷ cs) none = rw (ne-eqb b (byteOf c) (none c)) (no-letter b cs none)
 
+-- A byte that spells a letter is its byte.
 some-letter : (b : ℕ) (cs : List Centering) (c : Centering) → letterAmong b cs ≡ Is c → b ≡ byteOf c
 unfolding letterAmong
 some-letter b [] c e = let h : _≡_ {A = ℕ} 0 1 = cc in absurd (omega arith)
@@ -123,6 +128,7 @@ failed : {P : Type 0} (b : Bool) → ((b ≡ true) ↔ P) → b ≡ false → ¬
 failed b h e p = true≢false (sym (h .1 p) ∙ e)
 
 -- ---- a buffer that ends with items and their trailer
+-- Such a buffer is read as its items.
 read-itemised : (front : List ℕ) (c : Centering) (items : List Item) → 1 ≤ length items → length items ≤ 48 → readOf (front ++ (bytesOf itemBytes items ++ trailer itemWidth editionNumber c (length items))) ≡ readItems c items
 unfolding trailer
 read-itemised front c items some few =
@@ -157,17 +163,20 @@ unfolding bytesOf
 items-bytes [] = refl
 items-bytes (f ∷ l) = ap (λ r. operationBytes f ++ r) (items-bytes l)
 
+-- A record is its items and their trailer.
 written-items : (c : Centering) (l : List Operation) → written c l ≡ bytesOf itemBytes (map itemOf l) ++ trailer itemWidth editionNumber c (length (map itemOf l))
 unfolding written
 written-items c l =
     ap₂ (λ (b : List ℕ) (n : ℕ). b ++ trailer itemWidth editionNumber c n) (sym (items-bytes l)) (sym (length-map l itemOf))
 
+-- A record of operations in the listed form is refused at most for the group.
 read-written-record : (front : List ℕ) (c : Centering) (l : List Operation) → Form c l → 1 ≤ length l → length l ≤ 48 → readOf (front ++ written c l) ≡ cond (isAllowed c (map itemOf l)) (acceptedGroup c l) (refusedGroup NotAllowed)
 unfolding readItems
 read-written-record front c l F some few =
     ap (λ b. readOf (front ++ b)) (written-items c l) ∙ read-itemised front c (map itemOf l) (rw (length-map l itemOf) some) (rw (length-map l itemOf) few) ∙ rw (items-test c (map itemOf l) .1 (form-good c l F), operations-of-items l (F .entries))
 
 -- ---- the rules give the reading
+-- What the rules say of a buffer is how it is read.
 pub outcome-read : (bytes : List ℕ) (g : RecordGroup) → Outcome bytes g → readOf bytes ≡ g
 unfolding readOf letterOf readLettered readItems
 outcome-read bytes g (too-short h) = rw (lt-ltb (length bytes) 10 h)
@@ -201,9 +210,11 @@ item-bytes-again (p ∷ q ∷ r ∷ s ∷ t ∷ b) g h =
     let low : (p * 256 + q) % 256 ≡ q = omega arith in
     ap₂ (λ (a e : ℕ). a ∷ e ∷ r ∷ s ∷ t ∷ []) high low
 
+-- What is left of bytes is bytes.
 bytes-on : (b : List ℕ) → Bytes b → Bytes (drop itemWidth b)
 bytes-on b g i = rw (getD-drop itemWidth b i 0) (g (itemWidth + i))
 
+-- Five bytes are the five at their places.
 five-of : (b : List ℕ) → length b ≡ 5 → b ≡ lastFive (getD b 0 0) (getD b 1 0) (getD b 2 0) (getD b 3 0) (getD b 4 0)
 five-of [] h = absurd (omega arith)
 five-of (p ∷ []) h = absurd (omega arith)
@@ -225,25 +236,31 @@ module _ (front : List ℕ) (c : Centering) (n high low : ℕ) (bytes : Bytes (f
   abbrev itemsThere : List Item
   itemsThere = itemsIn itemWidth itemIn n (drop start buffer)
 
+  -- There are as many items as the trailer says.
   items-count : length itemsThere ≡ n
   items-count = items-length itemWidth itemIn n (drop start buffer)
 
+  -- The buffer from the record on is bytes.
   bytes-from : Bytes (drop start buffer)
   bytes-from i = rw (getD-drop start buffer i 0) (bytes (start + i))
 
+  -- The first part of the record is the items' bytes,
   first-part : bytesOf itemBytes itemsThere ≡ take (itemWidth * n) (drop start buffer)
   first-part =
       written-read itemWidth itemBytes item-wide itemIn Bytes bytes-on n (drop start buffer) bytes-from item-bytes-again (rw (length-drop start buffer) (omega (arith, counted)))
 
+  -- the last part the last five bytes of the buffer,
   last-part : drop (itemWidth * n) (drop start buffer) ≡ lastFive (byteOf c) editionNumber n high low
   last-part =
       let size = length-append front (lastFive (byteOf c) editionNumber n high low) in
       let place : length front ≡ start + itemWidth * n = omega (arith, size, counted) in
       drop-drop (itemWidth * n) start buffer ∙ drop-at front (lastFive (byteOf c) editionNumber n high low) (start + itemWidth * n) place
 
+  -- The last byte is a byte.
   low-byte : low < 256
   low-byte = subst (λ (k : ℕ). k < 256) (getD-append-add front (lastFive (byteOf c) editionNumber n high low) 4 0) (bytes (length front + 4))
 
+  -- which are the items' trailer.
   trailer-is : lastFive (byteOf c) editionNumber n high low ≡ trailer itemWidth editionNumber c (length itemsThere)
   unfolding trailer
   trailer-is =
@@ -251,6 +268,7 @@ module _ (front : List ℕ) (c : Centering) (n high low : ℕ) (bytes : Bytes (f
       let low-is : low ≡ totalLength itemWidth n % 256 = omega (arith, low-byte, counted) in
       ap₂ (λ (h w : ℕ). lastFive (byteOf c) editionNumber n h w) high-is low-is ∙ ap (λ (k : ℕ). trailer itemWidth editionNumber c k) (sym items-count)
 
+  -- So the buffer ends with the items and their trailer.
   buffer-is : buffer ≡ take start buffer ++ (bytesOf itemBytes itemsThere ++ trailer itemWidth editionNumber c (length itemsThere))
   buffer-is =
       sym (take-append-drop start buffer)
@@ -318,6 +336,7 @@ outcome-trailer front letter edition n high low h bytes =
     by-edition true e = by-letter (letterOf letter) refl (eqb-true edition editionNumber e)
     by-edition false e = wrong-edition front letter edition n high low h refl (eqb-false edition editionNumber e)
 
+-- Every buffer is read as the rules say.
 pub read-outcome : (bytes : List ℕ) → Bytes bytes → Outcome bytes (readOf bytes)
 unfolding readOf
 read-outcome bytes g = elim (decLt (length bytes) 10) [

@@ -31,10 +31,12 @@ abbrev pub copyAnswer : Copied → Answer ℕ Nothing
 copyAnswer (Written n) = given n
 copyAnswer (NotCopied r) = refused (refusalNumber r) 0 tt
 
+-- By what was read.
 abbrev pub copiedBy : Reading → ℕ → ℕ → ℕ → Copied
 copiedBy Accepted n start size = cond (roomFor start n size) (Written n) (NotCopied NoRoom)
 copiedBy (Refused r) n start size = NotCopied r
 
+-- The copy of what the bytes hold.
 unfoldable pub copiedOf : List ℕ → List ℕ → ℕ → Copied
 copiedOf bytes out start = copiedBy (readOf bytes .answer) (readOf bytes .count) start (length out)
 
@@ -43,38 +45,46 @@ abbrev pub bufferBy : Reading → List ℕ → ℕ → ℕ → List ℕ → List
 bufferBy Accepted out start n bytes = placedIn out start n bytes
 bufferBy (Refused r) out start n bytes = out
 
+-- The buffer after the copy.
 unfoldable pub bufferOf : List ℕ → List ℕ → ℕ → List ℕ
 bufferOf bytes out start =
     bufferBy (readOf bytes .answer) out start (readOf bytes .count) (recordOf (readOf bytes .centering) (take (readOf bytes .count) (readOf bytes .operations)))
 
 -- ---- the two tests for room, and what they leave of the buffer
+-- The place is beyond the buffer.
 pub start-beyond : (start n size : ℕ) → size < start → roomFor start n size ≡ false
 unfolding roomFor
 start-beyond start n size h = rw (lt-leb start size h)
 
+-- The record does not fit from the place on.
 pub too-near-end : (start n size : ℕ) → start ≤ size → size - start < totalLength itemWidth n → roomFor start n size ≡ false
 unfolding roomFor
 too-near-end start n size h k = rw (le-leb start size h, lt-leb (totalLength itemWidth n) (size - start) k)
 
+-- It fits.
 pub room-there : (start n size : ℕ) → start ≤ size → totalLength itemWidth n ≤ size - start → roomFor start n size ≡ true
 unfolding roomFor
 room-there start n size h k = rw (le-leb start size h, le-leb (totalLength itemWidth n) (size - start) k)
 
 module _ (out : List ℕ) (start n : ℕ) (bytes : List ℕ) where
+  -- Without room the buffer stays.
   pub nothing-placed : roomFor start n (length out) ≡ false → placedIn out start n bytes ≡ out
   unfolding placedIn
   nothing-placed e = rw e
 
+  -- With room the record stands there.
   pub all-placed : roomFor start n (length out) ≡ true → placedIn out start n bytes ≡ take start out ++ (bytes ++ drop (start + totalLength itemWidth n) out)
   unfolding placedIn
   all-placed e = rw e
 
 -- ---- a copy, by what was read
 module _ (bytes out : List ℕ) (start : ℕ) (g : RecordGroup) (e : g ≡ readOf bytes) where
+  -- The answer, by what was read.
   pub copied-by : (a : Reading) → g .answer ≡ a → copiedBy a (g .count) start (length out) ≡ copiedOf bytes out start
   unfolding copiedOf
   copied-by a p = ap (λ (b : Reading). copiedBy b (g .count) start (length out)) (sym p) ∙ ap (λ (h : RecordGroup). copiedBy (h .answer) (h .count) start (length out)) e
 
+  -- The buffer, by what was read.
   pub buffer-by : (a : Reading) → g .answer ≡ a → bufferBy a out start (g .count) (recordOf (g .centering) (take (g .count) (g .operations))) ≡ bufferOf bytes out start
   unfolding bufferOf
   buffer-by a p =

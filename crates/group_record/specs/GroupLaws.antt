@@ -27,10 +27,12 @@ use Rattle.group_record.specs.ListedForm.{operation≡, digits-again, ma
 use Rattle.group_record.specs.OneRecord.{translationBy, pure-translations, from-origin}
 
 -- ---- products of motions that differ by translations of L
+-- The difference of two products' translations.
 difference-moved : (R : Matrix) (u v s t : Vector) → plus (plus (act R u) s) (opposite (plus (act R v) t)) ≡ plus (act R (plus u (opposite v))) (plus s (opposite t))
 unfolding plus opposite act
 difference-moved R u v s t = simp ring
 
+-- Products of alike motions are alike, where the left factor keeps L.
 pub compose-alike : (c : Centering) (f g h k : SpaceMotion) → MapsInto (pointsOf c) (f .rotation) → Alike c f g → Alike c h k → Alike c (compose f h) (compose g k)
 unfolding product
 compose-alike c f g h k into (p, q) (r, s) = (ap₂ times p r, rw (← p, difference-moved (f .rotation) (h .translation) (k .translation) (f .translation) (g .translation)) both)
@@ -42,9 +44,11 @@ compose-alike c f g h k into (p, q) (r, s) = (ap₂ times p r, rw (← p, differ
 unfoldable pub inverseMotion : SpaceMotion → SpaceMotion
 inverseMotion f = record { rotation = inverse (f .rotation); translation = opposite (act (inverse (f .rotation)) (f .translation)) }
 
+-- Motions are equal where their parts are.
 motion≡ : {f g : SpaceMotion} → f .rotation ≡ g .rotation → f .translation ≡ g .translation → f ≡ g
 motion≡ p q = λ i. record { rotation = p i; translation = q i }
 
+-- The inverse is one on the right,
 pub compose-inverse : (f : SpaceMotion) → Unimodular (f .rotation) → compose f (inverseMotion f) ≡ identity
 unfolding product inverseMotion
 compose-inverse f u =
@@ -53,6 +57,7 @@ compose-inverse f u =
     (act-opposite (f .rotation) _ ∙ ap opposite (sym (act-times (f .rotation) (inverse (f .rotation)) (f .translation)) ∙ ap (λ A. act A (f .translation)) (times-inverse (f .rotation) u) ∙ act-unit (f .translation)))
     ∙ plus-comm (opposite (f .translation)) (f .translation) ∙ plus-opposite (f .translation))
 
+-- and on the left.
 pub inverse-compose : (f : SpaceMotion) → Unimodular (f .rotation) → compose (inverseMotion f) f ≡ identity
 unfolding product inverseMotion
 inverse-compose f u = motion≡ (inverse-times (f .rotation) u) (plus-opposite (act (inverse (f .rotation)) (f .translation)))
@@ -64,9 +69,11 @@ times-cancel A X Y u e = sym (back X) ∙ ap (times (inverse A)) e ∙ back Y
     back : (Z : Matrix) → times (inverse A) (times A Z) ≡ Z
     back Z = sym (times-assoc (inverse A) A Z) ∙ ap (λ B. times B Z) (inverse-times A u) ∙ unit-times Z
 
+-- A right inverse of a rotation is its inverse.
 inverse-unique : (A X : Matrix) → Unimodular A → times A X ≡ unit → inverse A ≡ X
 inverse-unique A X u e = times-cancel A (inverse A) X u (times-inverse A u ∙ sym e)
 
+-- How the inverse's translation differs from that of a right inverse.
 inverse-sum : (B A : Matrix) (u t : Vector) → times B A ≡ unit → plus (opposite (act B t)) (opposite u) ≡ opposite (act B (plus (act A u) t))
 unfolding plus opposite
 inverse-sum B A u t e =
@@ -76,17 +83,21 @@ inverse-sum B A u t e =
     swap v w = simp ring
 
 -- ---- the identity's operation
+-- A natural is told by its integer.
 pos-injective : (a b : ℕ) → pos a ≡ pos b → a ≡ b
 pos-injective a b e = cc
 
+-- Translations are equal where their coordinates are.
 translation≡ : {s t : Translation} → s .x ≡ t .x → s .y ≡ t .y → s .z ≡ t .z → s ≡ t
 translation≡ p q r = λ i. record { x = p i; y = q i; z = r i }
 
+-- A translation is told by its vector.
 vector-injective : (s t : Translation) → vectorOf s ≡ vectorOf t → s ≡ t
 unfolding vectorOf
 vector-injective s t e =
     translation≡ (pos-injective _ _ (ap (λ (v : Vector). v .x) e)) (pos-injective _ _ (ap (λ (v : Vector). v .y) e)) (pos-injective _ _ (ap (λ (v : Vector). v .z) e))
 
+-- The identity operation's matrix.
 unit-matrix : matrixOf (identityOperation .rotation) ≡ unit
 unfolding motionOf
 unit-matrix = ap (λ (f : SpaceMotion). f .rotation) identity-motion
@@ -99,11 +110,13 @@ motion-injective f g d e =
     operation≡ (matrix-injective (f .rotation) (g .rotation) d (rw same at d) same)
     (vector-injective (f .translation) (g .translation) (ap (λ (m : SpaceMotion). m .translation) e))
 
+-- A listing with the identity motion holds the identity operation.
 pub identity-listed : {l : List Operation} → Listing l → Mem identity (map motionOf l) → Mem identityOperation l
 identity-listed {l} L m =
     let (f, k, e) = mem-of-map motionOf l m in
     mem-cast (sym (motion-injective f identityOperation (L .entries f k) (e ∙ sym identity-motion))) k
 
+-- One rotation has one code.
 same-code : (f g : Operation) → f .rotation ≡ g .rotation → T (sameCode f g)
 same-code f g e = rw e (eqb-refl (codeOf (g .rotation)))
 
@@ -133,18 +146,22 @@ module _ (c : Centering) {l : List Operation} (L : Listing l) (A : Allowed c (ma
   multiplied : Operation → Operation → Operation
   multiplied f x = operationOf (compose (motionOf f) (motionOf x))
 
+  -- It is that of the listed product.
   multiplied-rotation : (f x h : Operation) → Mem h l → Alike c (compose (motionOf f) (motionOf x)) (motionOf h) → multiplied f x .rotation ≡ h .rotation
   unfolding multiplied operationOf motionOf
   multiplied-rotation f x h m a = ap digitsOf (a .0) ∙ digits-again (h .rotation) (digits-entries (h .rotation) .1 (L .entries h m))
 
+  -- Listed rotations have determinant 1 or −1,
   unimodular : (f : Operation) → Mem f l → Unimodular (matrixOf (f .rotation))
   unfolding motionOf
   unimodular f m = A .determinant (motionOf f) (mem-map motionOf m)
 
+  -- and map L into L.
   into : (f : Operation) → Mem f l → MapsInto (pointsOf c) (matrixOf (f .rotation))
   unfolding motionOf
   into f m = A .keeps (motionOf f) (mem-map motionOf m) .0
 
+  -- Two listed right factors with one product have one rotation.
   rotations-cancel : (f x y g h : Operation) → Mem f l → Mem x l → Mem y l → Alike c (compose (motionOf f) (motionOf x)) (motionOf g) → Alike c (compose (motionOf f) (motionOf y)) (motionOf h) → g .rotation ≡ h .rotation → x .rotation ≡ y .rotation
   unfolding motionOf product
   rotations-cancel f x y g h m k n p q e =

@@ -35,10 +35,11 @@ pub record Allowed (c : Centering) (l : List SpaceMotion) : Type 0 where
   pub holds-identity : Mem identity l
   pub product : (f g : SpaceMotion) → Mem f l → Mem g l → (h : SpaceMotion) × Mem h l × Alike c (compose f g) h
 
--- Operations with entries in −1..1 and each rotation once.
+-- Two operations have one rotation, told by its code.
 abbrev pub sameCode : Operation → Operation → Bool
 sameCode f g = eqb (codeOf (f .rotation)) (codeOf (g .rotation))
 
+-- Operations with entries in −1..1 and each rotation once.
 pub record Listing (l : List Operation) : Type 0 where
   pub entries : (f : Operation) → Mem f l → Entries (matrixOf (f .rotation))
   pub distinct : Distinct sameCode l

@@ -14,6 +14,7 @@ module _ {A : Type 0} (width : ℕ) (read : List ℕ → A) where
   itemsIn zero bytes = []
   itemsIn (suc n) bytes = read bytes ∷ itemsIn n (drop width bytes)
 
+  -- There are n of them.
   pub items-length : (n : ℕ) (bytes : List ℕ) → length (itemsIn n bytes) ≡ n
   unfolding itemsIn
   items-length zero bytes = refl
@@ -30,10 +31,12 @@ module _ {A : Type 0} (width : ℕ) (read : List ℕ → A) where
 
 -- ---- writing
 module _ {A : Type 0} (write : A → List ℕ) where
+  -- The bytes of items, one after the other.
   unfoldable pub bytesOf : List A → List ℕ
   bytesOf [] = []
   bytesOf (a ∷ l) = write a ++ bytesOf l
 
+  -- The bytes of two lists in a row.
   pub bytes-append : (l m : List A) → bytesOf (l ++ m) ≡ bytesOf l ++ bytesOf m
   unfolding bytesOf
   bytes-append [] m = refl
@@ -41,6 +44,7 @@ module _ {A : Type 0} (write : A → List ℕ) where
 
 -- ---- there and back
 module _ {A : Type 0} (width : ℕ) (write : A → List ℕ) (wide : (a : A) → length (write a) ≡ width) where
+  -- Each item takes its width.
   pub bytes-length : (l : List A) → length (bytesOf write l) ≡ width * length l
   unfolding bytesOf
   bytes-length [] = sym (mul-zero width)

@@ -27,6 +27,7 @@ use Rattle.group_record.specs.Record.{smallestOperation, beforeByCode, l
 use Rattle.group_record.specs.Groups.{Alike, InSet, sameCode, Listing, Form}
 
 -- ---- operations, their codes and their matrices
+-- Operations are equal where their parts are.
 pub operation≡ : {f g : Operation} → f .rotation ≡ g .rotation → f .translation ≡ g .translation → f ≡ g
 operation≡ p q = λ i. record { rotation = p i; translation = q i }
 
@@ -49,6 +50,7 @@ digits-again r d =
 pub matrix-injective : (r s : Rotation) → Entries (matrixOf r) → Entries (matrixOf s) → matrixOf r ≡ matrixOf s → r ≡ s
 matrix-injective r s d e p = sym (digits-again r (digits-entries r .1 d)) ∙ ap digitsOf p ∙ digits-again s (digits-entries s .1 e)
 
+-- Such rotations with one code are one rotation.
 pub code-matrix : (r s : Rotation) → Entries (matrixOf r) → Entries (matrixOf s) → codeOf r ≡ codeOf s → r ≡ s
 code-matrix r s d e p = code-injective r s (digits-entries r .1 d) (digits-entries s .1 e) p
 
@@ -67,6 +69,7 @@ told-by-rotation {l} L {f} {g} m k e = distinct-equal sameCode code-equivalence 
 
 -- ---- motions that differ by a translation of L
 module _ (c : Centering) where
+  -- To be alike is an equivalence.
   pub alike-reflexive : (f : SpaceMotion) → Alike c f f
   alike-reflexive f = (refl, congruent-reflexive (pointsOf c) (points c) (f .translation))
 
@@ -76,10 +79,12 @@ module _ (c : Centering) where
   pub alike-transitive : (f g h : SpaceMotion) → Alike c f g → Alike c g h → Alike c f h
   alike-transitive f g h (p, q) (r, s) = (p ∙ r, congruent-transitive (pointsOf c) (points c) (f .translation) (g .translation) (h .translation) q s)
 
+  -- An operation and its smallest form are alike.
   pub smallest-alike : (f : Operation) → Alike c (motionOf (smallestOperation c f)) (motionOf f)
   unfolding smallestOperation motionOf
   smallest-alike f = (refl, smallest-is c (f .translation) (smallestOf c (f .translation)) .1 refl .class)
 
+  -- The smallest triple of a class is its own smallest.
   smallest-again : (t : Translation) → smallestOf c (smallestOf c t) ≡ smallestOf c t
   smallest-again t = smallest-same c (smallestOf c t) t .0 (smallest-is c t (smallestOf c t) .1 refl .class)
 
@@ -90,14 +95,17 @@ module _ (c : Centering) where
       operation≡ (matrix-injective (f .rotation) (g .rotation) d e p) (smallest-same c (f .translation) (g .translation) .0 q)
 
   -- ---- what stands in the form, and its order
+  -- Each of the form is the smallest form of a listed operation,
   pub form-member : (l : List Operation) {f : Operation} → Mem f (listedForm c l) → (g : Operation) × Mem g l × (smallestOperation c g ≡ f)
   unfolding listedForm
   form-member l m = mem-of-map (smallestOperation c) l (sort-member beforeByCode (map (smallestOperation c) l) m)
 
+  -- and each listed operation's smallest form is there.
   pub member-form : (l : List Operation) {g : Operation} → Mem g l → Mem (smallestOperation c g) (listedForm c l)
   unfolding listedForm
   member-form l m = member-sort beforeByCode (map (smallestOperation c) l) (mem-map (smallestOperation c) m)
 
+  -- The form has as many operations.
   pub form-length : (l : List Operation) → length (listedForm c l) ≡ length l
   unfolding listedForm
   form-length l = sort-length beforeByCode (map (smallestOperation c) l) ∙ length-map l (smallestOperation c)
@@ -108,6 +116,7 @@ module _ (c : Centering) where
   has-smallest f [] = refl
   has-smallest f (g ∷ l) = ap (λ (b : Bool). sameCode f g || b) (has-smallest f l)
 
+  -- So codes stay different.
   distinct-smallest : {l : List Operation} → Distinct sameCode l → Distinct sameCode (map (smallestOperation c) l)
   distinct-smallest nil = nil
   distinct-smallest (cons {x} {l} new d) = cons {x = smallestOperation c x} {l = map (smallestOperation c) l} (λ t. new (rw (has-smallest x l) at t)) (distinct-smallest d)
@@ -118,9 +127,11 @@ distinct-nodup nil = Pairwise·nil
 distinct-nodup (cons {x} {l} new d) =
     Pairwise·cons (λ y m e. ∥∥₁-elim m ⊥-prop (λ k. new (Mem→has sameCode code-equivalence (mem-cast e k)))) (distinct-nodup d)
 
+-- The order of codes.
 abbrev pub CodeBefore : Operation → Operation → Type 0
 CodeBefore f g = codeOf (f .rotation) < codeOf (g .rotation)
 
+-- The key of the order.
 abbrev pub codeKey : Operation → ℕ
 codeKey f = codeOf (f .rotation)
 
@@ -148,6 +159,7 @@ module _ (c : Centering) where
   ascending-distinct (sorted-cons {x} {l} first s) =
       cons (λ t. let (y, m, e) = has-member sameCode x l t in absurd (omega (arith, first y m, eqb→eq (codeOf (x .rotation)) (codeOf (y .rotation)) e))) (ascending-distinct s)
 
+  -- So what is in the form is a listing.
   pub form-listing : {l : List Operation} → Form c l → Listing l
   form-listing F = record { entries = F .entries; distinct = ascending-distinct (F .ascend) }
 
@@ -156,6 +168,7 @@ module _ (c : Centering) where
   unfolding smallestOperation
   form-smallest F f m = operation≡ refl (sym (smallest-is c (f .translation) (f .translation) .0 (F .smallest f m)))
 
+  -- The list is its own listed form.
   pub form-again : {l : List Operation} → Form c l → listedForm c l ≡ l
   form-again {l} F =
       unique CodeBefore (key-strict codeKey) (listed-form (form-listing F) .ascend) (F .ascend)
@@ -163,6 +176,7 @@ module _ (c : Centering) where
       (λ f m. mem-cast (sym (form-smallest F f m)) (member-form c l m))
 
   -- ---- the set of motions of the form is that of the list
+  -- A motion is in the one set exactly if it is in the other.
   pub form-set : (l : List Operation) (m : SpaceMotion) → InSet c (map motionOf (listedForm c l)) m ↔ InSet c (map motionOf l) m
   form-set l m = (forth, back)
     where

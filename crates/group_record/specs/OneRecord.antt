@@ -36,10 +36,12 @@ operationBytes f = itemBytes (itemOf f)
 abbrev pub operationIn : List ℕ → Operation
 operationIn bytes = operationOfItem (itemIn bytes)
 
+-- An item takes five bytes,
 pub item-wide : (i : Item) → length (itemBytes i) ≡ itemWidth
 unfolding itemBytes
 item-wide i = refl
 
+-- and so does an operation.
 pub operation-wide : (f : Operation) → length (operationBytes f) ≡ itemWidth
 operation-wide f = item-wide (itemOf f)
 
@@ -56,10 +58,12 @@ operation-of-item f e =
     (rw (lt-ltb (codeOf (f .rotation)) 19683 (code-lt (f .rotation) (digits-entries (f .rotation) .1 e))) (rotation-code (f .rotation) (digits-entries (f .rotation) .1 e)))
     refl
 
+-- An operation's bytes say the operation.
 pub operation-again : (f : Operation) (more : List ℕ) → Entries (matrixOf (f .rotation)) → operationIn (operationBytes f ++ more) ≡ f
 operation-again f more e = ap operationOfItem (item-again (itemOf f) more) ∙ operation-of-item f e
 
 -- ---- the bytes of a list
+-- A record's length.
 pub written-length : (c : Centering) (l : List Operation) → length (written c l) ≡ totalLength itemWidth (length l)
 unfolding written trailer
 written-length c l = rw (length-append, bytes-length itemWidth operationBytes operation-wide l) refl
@@ -86,13 +90,16 @@ written-injective c d l k p q e = (
     same = omega (arith, ap length e, written-length c l, written-length d k)
 
 -- ---- what a set of motions tells
+-- The origin is its own opposite.
 opposite-origin : opposite origin ≡ origin
 unfolding opposite origin
 opposite-origin = simp ring
 
+-- The difference from the origin is the vector.
 pub from-origin : (v : Vector) → plus v (opposite origin) ≡ v
 from-origin v = ap (plus v) opposite-origin ∙ plus-origin v
 
+-- A pure translation.
 abbrev pub translationBy : Vector → SpaceMotion
 translationBy v = record { rotation = unit; translation = v }
 
@@ -130,6 +137,7 @@ same-forms c {l} {k} L K into f m =
     cast : (g : Operation) (a : SpaceMotion) (b : Operation) → motionOf b ≡ a → Alike c (motionOf g) a → Alike c (motionOf g) (motionOf b)
     cast g a b q near = rw q near
 
+-- Equal letters and lists have one set.
 set-cast : (c d : Centering) (l k : List Operation) (m : SpaceMotion) → c ≡ d → l ≡ k → InSet c (map motionOf l) m → InSet d (map motionOf k) m
 set-cast c d l k m p q h = subst (λ e. InSet e (map motionOf k) m) p (subst (λ a. InSet c (map motionOf a) m) q h)
 

@@ -47,6 +47,7 @@ abbrev pub readingAnswer : Reading → Centering → List Operation → Answer (
 readingAnswer Accepted c l = given (c, l)
 readingAnswer (Refused r) c l = refused (refusalNumber r) 0 tt
 
+-- What a reader's answer says.
 abbrev pub groupAnswer : RecordGroup → Answer (Centering × List Operation) Nothing
 groupAnswer g = readingAnswer (g .answer) (g .centering) (take (g .count) (g .operations))
 
@@ -54,13 +55,16 @@ groupAnswer g = readingAnswer (g .answer) (g .centering) (take (g .count) (g .op
 unfoldable pub slots : List Operation → List Operation
 slots l = l ++ replicate (48 - length l) identityOperation
 
+-- The answer for a record that is read,
 unfoldable pub acceptedGroup : Centering → List Operation → RecordGroup
 acceptedGroup c l = record { answer = Accepted; centering = c; count = length l; operations = slots l }
 
+-- and for one that is refused.
 unfoldable pub refusedGroup : Refusal → RecordGroup
 refusedGroup r = record { answer = Refused r; centering = P; count = 0; operations = replicate 48 identityOperation }
 
 -- ---- items
+-- The item of the first five bytes.
 unfoldable pub itemIn : List ℕ → Item
 itemIn bytes =
     record {
@@ -73,6 +77,7 @@ abbrev pub rotationOfDecoded : Decoded → Rotation
 rotationOfDecoded (CodeInside r) = r
 rotationOfDecoded CodeOutside = identityOperation .rotation
 
+-- The operation that an item stands for.
 unfoldable pub operationOfItem : Item → Operation
 operationOfItem i = record { rotation = rotationOfDecoded (decodedOf (i .code)); translation = i .translation }
 
@@ -81,9 +86,11 @@ unfoldable pub isItem : Centering → Item → Bool
 isItem c i =
     ltb (i .code) 19683 && (belowTwelve (tripleOf (i .translation)) && sameTriple (tripleOf (smallestOf c (i .translation))) (tripleOf (i .translation)))
 
+-- Codes ascend strictly.
 abbrev pub itemBefore : Item → Item → Bool
 itemBefore i j = ltb (i .code) (j .code)
 
+-- All of 34.
 unfoldable pub areItems : Centering → List Item → Bool
 areItems c items = all (isItem c) items && ascending itemBefore items
 
@@ -97,9 +104,11 @@ abbrev pub productListed : Centering → List Item → Product → Bool
 productListed c items (Inside h) = has (alikeItems c) (itemOf h) items
 productListed c items Outside = false
 
+-- The product of two items is listed.
 unfoldable pub pairListed : Centering → List Item → Item → Item → Bool
 pairListed c items i j = productListed c items (productOf (operationOfItem i) (operationOfItem j))
 
+-- An item's rotation maps L onto L.
 unfoldable pub keepsItem : Centering → Item → Bool
 keepsItem c i = keepsOf c (operationOfItem i .rotation)
 
@@ -107,11 +116,12 @@ keepsItem c i = keepsOf c (operationOfItem i .rotation)
 unfoldable pub memberAllowed : Centering → List Item → Item → Bool
 memberAllowed c items i = keepsItem c i && all (pairListed c items i) items
 
--- Refusal 35 is given unless the identity is listed and each member is so.
+-- Refusal 35 is given unless the identity is listed and each member is so. Triples being the smallest of their classes here, the identity's is (0,0,0).
 unfoldable pub isAllowed : Centering → List Item → Bool
 isAllowed c items = has (alikeItems c) (itemOf identityOperation) items && all (memberAllowed c items) items
 
 -- ---- the reading, refusal by refusal
+-- 34, then 35.
 unfoldable pub readItems : Centering → List Item → RecordGroup
 readItems c items =
     cond (areItems c items)
@@ -127,16 +137,19 @@ unfoldable pub lengthFits : ℕ → ℕ → ℕ → Bool
 lengthFits n stated size =
     leb 1 n && (leb n 48 && (eqb stated (totalLength itemWidth n) && leb (totalLength itemWidth n) size))
 
+-- 33, then the items.
 unfoldable pub readCounted : Centering → ℕ → List ℕ → RecordGroup
 readCounted c n bytes =
     cond (lengthFits n (fromEnd bytes 2 * 256 + fromEnd bytes 1) (length bytes))
     (readItems c (itemsIn itemWidth itemIn n (drop (length bytes - totalLength itemWidth n) bytes)))
     (refusedGroup WrongLength)
 
+-- 32, then count and length.
 unfoldable pub readLettered : Letter → List ℕ → RecordGroup
 readLettered (Is c) bytes = readCounted c (fromEnd bytes 3) bytes
 readLettered None bytes = refusedGroup WrongLetter
 
+-- 30, then 31, then the letter.
 unfoldable pub readOf : List ℕ → RecordGroup
 readOf bytes =
     cond (ltb (length bytes) 10) (refusedGroup Short)

@@ -19,9 +19,11 @@ pub record Item : Type 0 where
   pub code : ℕ
   pub translation : Translation
 
+-- Items are equal where their parts are.
 pub item≡ : {i j : Item} → i .code ≡ j .code → i .translation ≡ j .translation → i ≡ j
 item≡ p q = λ k. record { code = p k; translation = q k }
 
+-- The item of an operation.
 abbrev pub itemOf : Operation → Item
 itemOf f = record { code = codeOf (f .rotation); translation = f .translation }
 
@@ -29,6 +31,7 @@ itemOf f = record { code = codeOf (f .rotation); translation = f .translation }
 abbrev pub itemWidth : ℕ
 itemWidth = 5
 
+-- The edition.
 abbrev pub editionNumber : ℕ
 editionNumber = 1
 
@@ -40,6 +43,7 @@ itemBytes i = i .code / 256 ∷ i .code % 256 ∷ i .translation .x ∷ i .trans
 abbrev pub totalLength : ℕ → ℕ → ℕ
 totalLength width n = width * n + 5
 
+-- The trailer's five bytes.
 unfoldable pub trailer : ℕ → ℕ → Centering → ℕ → List ℕ
 trailer width edition c n = byteOf c ∷ edition ∷ n ∷ totalLength width n / 256 ∷ totalLength width n % 256 ∷ []
 

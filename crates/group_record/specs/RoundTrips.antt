@@ -1,10 +1,12 @@
 -- What was written reads back as the same group, and what was read is written as the same bytes. Both follow from the rules of the reading and from the listed form.
-use mathlib.Core.Path.{_≡_, refl, sym, _∙_, ap, subst}
+use mathlib.Core.Path.{_≡_, refl, sym, _∙_, ap, subst, ap₂}
+use mathlib.Core.Logic.{_↔_}
 use mathlib.Core.List.{List, _++_, map, List·Memᴰ as Mem, Memᴰ·map as mem-map, Memᴰ·of-map as mem-of-map, Memᴰ·cast as mem-cast}
 use Prim.Native.Nat.{ℕ, _-_, _≤_}
 use native.Mathlib.Omega.{arith}
-use lib.ListN.{length, take, length-map, length-append, replicate}
-use lib.Seq.{take-at}
+use lib.ListN.{length, take, length-map, length-append, replicate, drop}
+use lib.Seq.{take-at, drop-at, length-take-le}
+use Rattle.group_record.specs.OneRecord.{written-length}
 use Rattle.laws.specs.Motion.{SpaceMotion, compose}
 use Rattle.operation.specs.Answer.{given}
 use Rattle.operation.specs.Composed.{identity-motion}
@@ -12,7 +14,7 @@ use Rattle.operation.specs.Meaning.{motionOf}
 use Rattle.operation.specs.Product.{identityOperation}
 use Rattle.operation.specs.declared.Operation.{Operation}
 use Rattle.centering.specs.declared.Centering.{Centering}
-use Rattle.group_record.specs.Record.{smallestOperation, listedForm, written, recordOf}
+use Rattle.group_record.specs.Record.{smallestOperation, listedForm, written, recordOf, itemWidth, totalLength}
 use Rattle.group_record.specs.Reading.{readOf, acceptedGroup, refusedGroup, slots, groupAnswer}
 use Rattle.group_record.specs.Groups.{Alike, InSet, Allowed, Listing, Form}
 use Rattle.group_record.specs.ListedForm.{form-member, member-form, form-length, listed-form, form-listing, form-again, alike-symmetric, alike-transitive, smallest-alike}
@@ -20,12 +22,15 @@ use Rattle.group_record.specs.GroupLaws.{SpaceGroup, allowed-group, comp
 use Rattle.group_record.specs.ReadingTests.{origin-smallest}
 use Rattle.group_record.specs.Acceptance.{Bytes, Outcome, too-short, wrong-edition, wrong-letter, wrong-length, wrong-item, not-allowed, accepted, read-outcome, outcome-read}
 use Rattle.group_record.specs.declared.Reading.the-variants.{Accepted}
+use Rattle.group_record.specs.declared.Reading.the-variants.{Refused}
+use Rattle.group_record.specs.declared.Refusal.{Refusal}
+use Rattle.group_record.specs.declared.Refusal.the-variants.{Short, WrongEdition, WrongLetter, WrongLength, WrongItem, NotAllowed}
 use Rattle.group_record.specs.declared.RecordGroup.{RecordGroup}
 
 -- ---- the answer says the letter and the operations
-pub accepted-answer : (c : Centering) (l : List Operation) → length l ≤ 48 → groupAnswer (acceptedGroup c l) ≡ given (c, l)
+pub accepted-answer : (c : Centering) (l : List Operation) → groupAnswer (acceptedGroup c l) ≡ given (c, l)
 unfolding acceptedGroup slots
-accepted-answer c l few = ap (λ (k : List Operation). given (c, k)) (take-at l (replicate (48 - length l) identityOperation) (length l) refl)
+accepted-answer c l = ap (λ (k : List Operation). given (c, k)) (take-at l (replicate (48 - length l) identityOperation) (length l) refl)
 
 -- ---- allowed operations stay allowed in the listed form
 module _ (c : Centering) {l : List Operation} (L : Listing l) (A : Allowed c (map motionOf l)) where
@@ -67,6 +72,11 @@ module _ (c : Centering) {l : List Operation} (L : Listing l) (A : Allowed c (ma
   pub reads-back : (front : List ℕ) → readOf (front ++ recordOf c l) ≡ acceptedGroup c (listedForm c l)
   unfolding recordOf
   reads-back front = outcome-read (front ++ written c (listedForm c l)) _ (accepted front c (listedForm c l) refl (listed-form c L) form-allowed)
+
+-- A record's length.
+record-length : (c : Centering) (l : List Operation) → length (recordOf c l) ≡ totalLength itemWidth (length l)
+unfolding recordOf
+record-length c l = written-length c (listedForm c l) ∙ ap (totalLength itemWidth) (form-length c l)
 
 -- ---- what was read
 -- What is read is the record of a group, and is written as the bytes it was read from.
@@ -123,3 +133,52 @@ outcome-writable bytes g (accepted front c l p F A) e =
 
 pub read-writable : (bytes : List ℕ) (g : RecordGroup) → Bytes bytes → g ≡ readOf bytes → g .answer ≡ Accepted → Writable g
 read-writable bytes g b e a = outcome-writable bytes g (subst (Outcome bytes) (sym e) (read-outcome bytes b)) a
+
+-- ---- acceptance
+-- The answer says its letter and its list: two accepted answers that are equal hold the same.
+accepted-injective : (c d : Centering) (l k : List Operation) → acceptedGroup c l ≡ acceptedGroup d k → (c ≡ d) × (l ≡ k)
+unfolding acceptedGroup slots
+accepted-injective c d l k e = (
+  ap (λ (g : RecordGroup). g .centering) e,
+  sym (take-at l (replicate (48 - length l) identityOperation) (length l) refl)
+      ∙ ap (λ (g : RecordGroup). take (g .count) (g .operations)) e
+      ∙ take-at k (replicate (48 - length k) identityOperation) (length k) refl,
+)
+
+refused-accepted : (r : Refusal) (c : Centering) (l : List Operation) → refusedGroup r ≡ acceptedGroup c l → ⊥
+unfolding acceptedGroup refusedGroup
+refused-accepted r c l e =
+    let clash : Refused r ≡ Accepted = ap (λ (g : RecordGroup). g .answer) e in
+    let z : _≡_ {A = ℕ} 0 1 = cc in
+    absurd (omega arith)
+
+accepted-outcome : (bytes : List ℕ) (g : RecordGroup) (c : Centering) (l : List Operation) → Outcome bytes g → g ≡ acceptedGroup c l → (front : List ℕ) × (bytes ≡ front ++ written c l) × Form c l × Allowed c (map motionOf l)
+unfolding acceptedGroup refusedGroup
+accepted-outcome bytes g c l (too-short h) e = absurd (refused-accepted Short c l e)
+accepted-outcome bytes g c l (wrong-edition front letter edition n high low h p q) e = absurd (refused-accepted WrongEdition c l e)
+accepted-outcome bytes g c l (wrong-letter front letter n high low h p q) e = absurd (refused-accepted WrongLetter c l e)
+accepted-outcome bytes g c l (wrong-length front d n high low h p q) e = absurd (refused-accepted WrongLength c l e)
+accepted-outcome bytes g c l (wrong-item front d items some few p q) e = absurd (refused-accepted WrongItem c l e)
+accepted-outcome bytes g c l (not-allowed front d k some few p F q) e = absurd (refused-accepted NotAllowed c l e)
+accepted-outcome bytes g c l (accepted front d k p F A) e =
+    let (same-letter, same-list) = accepted-injective d c k l e in
+    (front, p ∙ ap₂ (λ (a : Centering) (m : List Operation). front ++ written a m) same-letter same-list, subst (λ (a : Centering). Form a l) same-letter (subst (Form d) same-list F), subst (λ (a : Centering). Allowed a (map motionOf l)) same-letter (subst (λ (m : List Operation). Allowed d (map motionOf m)) same-list A))
+
+-- A buffer is read as a group exactly if it ends with the record of allowed operations in the listed form.
+pub accepted-exactly : (bytes : List ℕ) → Bytes bytes → (c : Centering) (l : List Operation) → (readOf bytes ≡ acceptedGroup c l) ↔ ((front : List ℕ) × (bytes ≡ front ++ written c l) × Form c l × Allowed c (map motionOf l))
+accepted-exactly bytes g c l = (
+  (λ e. accepted-outcome bytes (readOf bytes) c l (read-outcome bytes g) e),
+  λ (front, e, F, A). outcome-read bytes (acceptedGroup c l) (accepted front c l e F A),
+)
+
+-- A copy's bytes are those that were read: the last ones of the buffer.
+pub copied-bytes : (bytes : List ℕ) → Bytes bytes → readOf bytes .answer ≡ Accepted → recordOf (readOf bytes .centering) (take (readOf bytes .count) (readOf bytes .operations)) ≡ drop (length bytes - totalLength itemWidth (readOf bytes .count)) bytes
+copied-bytes bytes g e =
+    let c = readOf bytes .centering in
+    let n = readOf bytes .count in
+    let l = take n (readOf bytes .operations) in
+    let r = written-again bytes g e in
+    let few = length-take-le n (readOf bytes .operations) (read-writable bytes (readOf bytes) g refl e .there) in
+    let size : length (recordOf c l) ≡ totalLength itemWidth n = record-length c l ∙ ap (totalLength itemWidth) few in
+    let place : length (r .front) ≡ length bytes - totalLength itemWidth n = omega (arith, size, length-append (r .front) (recordOf c l), ap length (r .same-bytes)) in
+    sym (ap (drop (length bytes - totalLength itemWidth n)) (r .same-bytes) ∙ drop-at (r .front) (recordOf c l) (length bytes - totalLength itemWidth n) place)

@@ -1,7 +1,7 @@
 // The group record: the byte form of a group of operations, written and read. New in the port: the Rust has no such form.
 pub mod copier;
 pub mod reader;
-pub mod writer;
+mod writer;
 
 use centering::Centering;
 use operation::Operation;
@@ -34,10 +34,4 @@ pub struct RecordGroup {
 pub enum Copied {
     Written(usize),
     Refused(Refusal),
-}
-
-// The best of the operations looked at so far: its index and its code.
-pub struct Best {
-    pub index: usize,
-    pub code: u32,
 }

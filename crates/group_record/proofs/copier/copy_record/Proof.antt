@@ -1,3 +1,4 @@
+-- By cases of what was read; what was read may be written.
 use mathlib.Core.Path.{_∙_}
 use native.Mathlib.Omega.{arith}
 use Rattle.group_record.specs.RoundTrips.{read-writable}

@@ -1,3 +1,4 @@
+-- The definition, byte for byte.
 use Rattle.group_record.specs.Reading.{fromEnd}
 use mathlib.Core.Path.{refl}
 use borrow.Author.Needs.{needs}

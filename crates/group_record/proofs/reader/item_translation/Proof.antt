@@ -1,3 +1,4 @@
+-- Three bytes of the item, by their places.
 use Rattle.group_record.specs.Search.{item-translation-bytes}
 use borrow.Author.Needs.{needs}
 use Rattle.group_record.proofs.reader.item_translation.Statement.{statement}
@@ -5,35 +6,35 @@ use Rattle.group_record.proofs.reader.item_translation.Tie as tie
 use Rattle.group_record.proofs.reader.item_translation.Reads as reads
 use Rattle.group_record.proofs.reader.item_translation.Lts as lts
 
--- src/reader.rt:112:14
+-- src/reader.rt:120:14
 mul-at : tie.Need-mul-at
 mul-at c = search needs
 
--- src/reader.rt:114:18
+-- src/reader.rt:122:18
 add-t4 : tie.Need-add-t4
 add-t4 c = search needs
 
--- src/reader.rt:114:12
+-- src/reader.rt:122:12
 shared-slice-read-t6 : tie.Need-shared-slice-read-t6
 shared-slice-read-t6 c = search needs
 
--- src/reader.rt:115:18
+-- src/reader.rt:123:18
 add-t7 : tie.Need-add-t7
 add-t7 c = search needs
 
--- src/reader.rt:115:12
+-- src/reader.rt:123:12
 shared-slice-read-t9 : tie.Need-shared-slice-read-t9
 shared-slice-read-t9 c = search needs
 
--- src/reader.rt:116:18
+-- src/reader.rt:124:18
 add-t10 : tie.Need-add-t10
 add-t10 c = search needs
 
--- src/reader.rt:116:12
+-- src/reader.rt:124:12
 shared-slice-read-t12 : tie.Need-shared-slice-read-t12
 shared-slice-read-t12 c = search needs
 
--- src/reader.rt:108:1
+-- src/reader.rt:116:1
 returns : tie.Need-returns
 returns c = item-translation-bytes (c .before .before .before .args .bytes .now) (c .before .before .before .args .i)
 

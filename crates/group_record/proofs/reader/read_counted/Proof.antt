@@ -1,3 +1,4 @@
+-- Where the length fits, the part that is handed on is the rest of the buffer from the record's start.
 use mathlib.Core.Path.{sym, _∙_, ap}
 use Prim.Native.Nat.{ℕ, _+_, _*_, _-_}
 use native.Mathlib.Omega.{arith}

@@ -1,3 +1,4 @@
+-- Each early return is a rule of the reading; the last call is what the letter leaves to be read.
 use mathlib.Core.Path.{sym, _∙_}
 use native.Mathlib.Omega.{arith}
 use Rattle.group_record.specs.Reading.{readLettered}

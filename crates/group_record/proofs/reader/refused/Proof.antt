@@ -1,3 +1,4 @@
+-- The identity, 48 times.
 use Rattle.group_record.specs.Reading.{refusedGroup}
 use borrow.Author.Needs.{needs}
 use Rattle.group_record.proofs.reader.refused.Statement.{statement}
