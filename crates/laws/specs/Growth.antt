@@ -1,15 +1,14 @@
 -- The closure as a program grows it: product by product, each noted by the index of its class, until nothing waits, or until a
 -- product is not allowed or the list would pass the limit. The same growth on an image of the elements is the image of the growth.
-use mathlib.Core.Path.{_≡_, refl, sym, _∙_, ap, ap₂}
-use mathlib.Core.Logic.{_⊎_, inl, inr}
+use mathlib.Core.Path.{_≡_, refl}
+use mathlib.Core.Logic.{inl, inr}
 use mathlib.Core.Bool.{Bool, true, false, cond, _&&_}
 use mathlib.Core.Option.{Option, some, none, bind, bind-eq-some-iff, Option·map}
-use mathlib.Core.List.{List, [], _∷_, _++_, map, map-append, List·Memᴰ as Mem, List·Memᴰ·head as here, List·Memᴰ·tail as there, List·Memᴰ·append-cases as mem-append-cases, List·Memᴰ·eq-of-singleton as mem-singleton, Memᴰ·append-right as mem-append-right}
-use Prim.Native.Nat.{ℕ, zero, suc, _+_, _≤_, _<_}
+use mathlib.Core.List.{List, [], _∷_, _++_, map, map-append, List·Memᴰ as Mem, List·Memᴰ·head as here, List·Memᴰ·tail as there, List·Memᴰ·append-cases as mem-append-cases, List·Memᴰ·eq-of-singleton as mem-singleton}
+use Prim.Native.Nat.{ℕ, zero, suc, _+_, _≤_}
 use native.Mathlib.Omega.{arith}
-use lib.Dec.{T, ltb, leb·suc-suc}
-use lib.ListN.{length, getD, length-map, length-append}
-use borrow.Author.Tests.{lt-ltb, le-ltb, ltb-true, ltb-false}
+use lib.Dec.{ltb}
+use lib.ListN.{length, getD, length-map}
 
 -- what was found, the index of each product that was made, in order, and whether each was alike to the one found at its index
 pub record Growth (A : Type 0) : Type 0 where

@@ -1,17 +1,17 @@
 -- What a growth is: the closure, where that ends within the limit and has only allowed members; and nothing otherwise. The idea:
 -- growth and closure go in step, and the steps of what is listed at the end meet no element that is not allowed.
-use mathlib.Core.Path.{_≡_, refl, sym, _∙_, ap, ap₂}
-use mathlib.Core.Logic.{_⊎_, inl, inr, _↔_}
-use mathlib.Core.Bool.{Bool, true, false, cond, _&&_, _||_, true≢false, false≢true, and-true, and-assoc}
+use mathlib.Core.Path.{_≡_, refl, sym, _∙_, ap}
+use mathlib.Core.Logic.{inl, inr}
+use mathlib.Core.Bool.{Bool, true, false, cond, _&&_, _||_, false≢true, and-true, and-assoc}
 use mathlib.Core.Option.{Option, some, none, bind, bind-eq-some-iff, Option·some-injective}
-use mathlib.Core.List.{List, [], _∷_, _++_, map, append-assoc, append-nil, List·Memᴰ as Mem, List·Memᴰ·head as here, List·Memᴰ·tail as there, List·Memᴰ·cases-cons as cases, List·Memᴰ·append-cases as mem-append-cases, Memᴰ·append-left as mem-append-left, Memᴰ·append-right as mem-append-right, Memᴰ·of-map as mem-of-map, List·Memᴰ·not-nil as not-nil, List·Memᴰ·eq-of-singleton as mem-singleton}
+use mathlib.Core.List.{List, [], _∷_, _++_, map, append-assoc, append-nil, List·Memᴰ as Mem, List·Memᴰ·head as here, List·Memᴰ·tail as there, List·Memᴰ·cases-cons as cases, List·Memᴰ·append-cases as mem-append-cases, Memᴰ·append-left as mem-append-left, Memᴰ·append-right as mem-append-right, Memᴰ·of-map as mem-of-map, List·Memᴰ·not-nil as not-nil}
 use Prim.Native.Nat.{ℕ, zero, suc, _+_, _≤_, _<_}
 use native.Mathlib.Omega.{arith}
 use lib.Dec.{T, ltb, leb·suc-suc}
 use lib.ListN.{length, getD, length-append, List·getD-append}
 use lib.Seq.{append-snoc, getD-append-seam}
 use borrow.Author.Tests.{lt-ltb, le-ltb, ltb-true, ltb-false}
-use Rattle.laws.specs.Distinct.{has, Equivalence, has-member, decided}
+use Rattle.laws.specs.Distinct.{has, Equivalence, has-member}
 use Rattle.laws.specs.Lattice.{all, all-member, member-all}
 use Rattle.laws.specs.Closure.{fresh, Fresh, fresh-meets, fresh-candidate, done, old, new, run, closure, closure-length, closure-lists, Congruence, regroup, step}
 use Rattle.laws.specs.Growth.{Growth, place, recurring, lengthened, takenUp, turns, grow, grown}

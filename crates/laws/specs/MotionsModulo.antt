@@ -2,15 +2,14 @@
 -- which motions with one rotation and translations in one class are alike. So the laws of Keyed hold of them.
 use mathlib.Core.Path.{_≡_, refl, sym, _∙_, ap}
 use mathlib.Core.Logic.{_⊎_, inl, inr, _↔_}
-use mathlib.Core.List.{List, List·Memᴰ as Mem}
-use lib.Dec.{T}
+use mathlib.Core.List.{List}
 use lib.IntN.{ℤ, one, negℤ, _*ℤ_}
 use Rattle.laws.specs.Integer.{ring, _⊖_, nought}
-use Rattle.laws.specs.Matrix.{Matrix, Vector, vector≡, times, act, plus, opposite, unit, origin, determinant, Unimodular, inverse, times-assoc, times-unit, times-inverse, act-times, act-unit, act-plus, act-opposite, plus-assoc, plus-comm, plus-origin, plus-opposite, determinant-times}
-use Rattle.laws.specs.Motion.{Motion, SpaceMotion, product, compose, identity, compose-assoc, identity-compose, compose-identity}
+use Rattle.laws.specs.Matrix.{Matrix, Vector, times, act, plus, opposite, unit, origin, determinant, Unimodular, inverse, times-assoc, times-unit, times-inverse, act-times, act-unit, act-plus, act-opposite, plus-comm, plus-origin, plus-opposite, determinant-times}
+use Rattle.laws.specs.Motion.{SpaceMotion, product, compose, identity, compose-assoc, identity-compose, compose-identity}
 use Rattle.laws.specs.Residue.{Triple}
 use Rattle.laws.specs.Lattice.{Points, InLattice, Congruent, congruent-reflexive, congruent-symmetric, congruent-transitive}
-use Rattle.laws.specs.LatticeMaps.{MapsInto, MapsOnto, maps-onto, into-onto, onto-unimodular}
+use Rattle.laws.specs.LatticeMaps.{MapsOnto, into-onto, onto-unimodular}
 use Rattle.laws.specs.Closure.{Monoid}
 use Rattle.laws.specs.Keyed.{KeyedMonoid}
 use Rattle.laws.specs.SameMatrix.{sameRotation, same-rotation, rotation-same, rotation-equivalence}

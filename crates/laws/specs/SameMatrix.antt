@@ -1,11 +1,10 @@
 -- Tests that decide whether two integers, two matrices, or the rotations of two motions are equal.
 use mathlib.Core.Path.{_≡_, refl, sym, _∙_, ap}
-use mathlib.Core.Bool.{Bool, true, false, _&&_}
-use Prim.Native.Nat.{ℕ}
+use mathlib.Core.Bool.{Bool, false, _&&_}
 use lib.Dec.{T, eqb, eqb→eq, eqb-refl}
 use lib.IntN.{ℤ, pos, negsuc}
 use Rattle.laws.specs.Matrix.{Matrix, matrix≡}
-use Rattle.laws.specs.Motion.{Motion, SpaceMotion}
+use Rattle.laws.specs.Motion.{SpaceMotion}
 use Rattle.laws.specs.Distinct.{DecidesEquality, Equivalence}
 use Rattle.laws.specs.Lattice.{and-left, and-right, both}
 

@@ -1,29 +1,28 @@
 -- Acceptance, exactly as 01 has it: a group is answered if every generator maps L onto L, the generated rotations number at most 48 with all entries in
 -- −1..1, and no generated motion with identity rotation has its translation outside L; and 12, 13, 14 are each answered exactly if, in this order, that fails.
 use mathlib.Core.Path.{_≡_, refl, sym, _∙_, ap, ap₂}
-use mathlib.Core.Logic.{_⊎_, inl, inr, _↔_}
-use mathlib.Core.Bool.{Bool, true, false, cond, _||_, true≢false, false≢true}
+use mathlib.Core.Logic.{inl, inr, _↔_}
+use mathlib.Core.Bool.{Bool, true, false, cond, false≢true}
 use mathlib.Core.Option.{Option, some, none}
-use mathlib.Core.List.{List, [], _∷_, map, List·Memᴰ as Mem, List·Memᴰ·head as here, List·Memᴰ·tail as there, List·Memᴰ·cases-cons as cases, List·Memᴰ·not-nil as not-nil, Memᴰ·map as mem-map, Memᴰ·of-map as mem-of-map}
-use Prim.Native.Nat.{ℕ, zero, suc, _+_, _≤_, _<_}
+use mathlib.Core.List.{List, [], _∷_, map, List·Memᴰ as Mem, List·Memᴰ·head as here, List·Memᴰ·tail as there, List·Memᴰ·cases-cons as cases, List·Memᴰ·not-nil as not-nil, Memᴰ·of-map as mem-of-map}
+use Prim.Native.Nat.{ℕ, zero, suc, _≤_, _<_}
 use native.Mathlib.Omega.{arith}
 use native.Mathlib.Decide.{decLt}
-use lib.Dec.{T, ltb, leb·suc-suc}
+use lib.Dec.{T}
 use lib.ListN.{length, getD, length-map}
-use borrow.Author.Tests.{lt-ltb, le-ltb, ltb-true, ltb-false}
-use Rattle.laws.specs.Matrix.{Matrix, Vector, unit, plus, opposite}
-use Rattle.laws.specs.Motion.{Motion, SpaceMotion, compose, identity}
-use Rattle.laws.specs.Residue.{reduced}
+use borrow.Author.Tests.{lt-ltb, le-ltb}
+use Rattle.laws.specs.Matrix.{Matrix}
+use Rattle.laws.specs.Motion.{SpaceMotion, compose, identity}
 use Rattle.laws.specs.Distinct.{has, Distinct, nil, cons, has-member, distinct-equal, has↔Mem}
-use Rattle.laws.specs.Closure.{step, closure, closure-lists, closure-ends, ListsReached}
+use Rattle.laws.specs.Closure.{step, closure-lists, closure-ends, ListsReached}
 use Rattle.laws.specs.Keyed.{Steady, closure-steady}
-use Rattle.laws.specs.Lattice.{sameTriple, triple-decides, InLattice, Congruent, all, all-member, member-all}
+use Rattle.laws.specs.Lattice.{sameTriple, triple-decides, Congruent, all, all-member, member-all}
 use Rattle.laws.specs.LatticeMaps.{MapsOnto}
 use Rattle.laws.specs.SameMatrix.{sameMatrix, sameRotation, same-rotation, rotation-same, rotation-equivalence}
 use Rattle.laws.specs.MotionsModulo.{Alike, Keeps, motions-keyed, alike-identity}
 use Rattle.laws.specs.Growth.{place}
 use Rattle.laws.specs.GrowthClosure.{T-true, true-T, place-lt, place-same, agrees, stepsFrom, steadyFrom}
-use Rattle.operation.specs.Meaning.{matrixOf, motionOf, allInside}
+use Rattle.operation.specs.Meaning.{matrixOf, motionOf}
 use Rattle.operation.specs.Entries.{Entries, all-entries}
 use Rattle.operation.specs.Product.{identityOperation, operationOf}
 use Rattle.operation.specs.declared.Operation.{Operation}
@@ -33,7 +32,6 @@ use Rattle.centering.specs.Keeps.{keepsOf, keeps-lattice}
 use Rattle.centering.specs.declared.Centering.{Centering}
 use Rattle.space_group.specs.Generated.{motions, Generated, GeneratedRotation, AllKeep, FewRotations, SmallRotations, OneTranslation, firstOff, listing, isSmall, sameVectorClass, Outcome, group, refused, onList, onListing, outcomeOf}
 use Rattle.space_group.specs.OperationGrowth.{rotation-congruence}
-use Rattle.space_group.specs.declared.refusal.Refusal.{Refusal}
 use Rattle.space_group.specs.declared.refusal.Refusal.the-variants.{Lattice, Rotations, Translations}
 
 -- ---- the generators

@@ -1,13 +1,13 @@
 -- From generators to a group by 01, of motions of space: what generators generate, when a symbol is accepted, and what it is answered then.
 use mathlib.Core.Path.{_≡_}
-use mathlib.Core.Bool.{Bool, true, false, cond}
+use mathlib.Core.Bool.{Bool, cond}
 use mathlib.Core.Option.{Option, some, none}
 use mathlib.Core.List.{List, [], _∷_, map, List·Memᴰ as Mem}
 use Prim.Native.Nat.{ℕ, zero, suc, _≤_}
 use lib.Dec.{ltb}
 use lib.ListN.{length}
-use Rattle.laws.specs.Matrix.{Matrix, Vector, unit, plus, opposite}
-use Rattle.laws.specs.Motion.{Motion, SpaceMotion, compose, identity}
+use Rattle.laws.specs.Matrix.{Matrix, unit, plus, opposite}
+use Rattle.laws.specs.Motion.{SpaceMotion, compose, identity}
 use Rattle.laws.specs.Residue.{reduced}
 use Rattle.laws.specs.Distinct.{has, Distinct}
 use Rattle.laws.specs.Closure.{Reached, closure}

@@ -1,33 +1,27 @@
 -- The list of an accepted symbol, member by member: it starts with the identity, holds each generated rotation once and nothing else, each with a
 -- translation below 12 that is reached and is right modulo L; products and inverses stay in it modulo L.
 use mathlib.Core.Path.{_≡_, refl, sym, _∙_, ap, subst}
-use mathlib.Core.Logic.{_⊎_, inl, inr, _↔_}
-use mathlib.Core.Bool.{Bool, true, false}
-use mathlib.Core.Option.{Option, some, none}
-use mathlib.Core.List.{List, [], _∷_, map, List·Memᴰ as Mem, List·Memᴰ·head as here, List·Memᴰ·tail as there, Memᴰ·map as mem-map, Memᴰ·of-map as mem-of-map, Memᴰ·cast as mem-cast}
-use Prim.Native.Nat.{ℕ, zero, suc, _≤_, _<_}
+use mathlib.Core.List.{List, [], _∷_, map, List·Memᴰ as Mem, List·Memᴰ·head as here, List·Memᴰ·tail as there, Memᴰ·map as mem-map, Memᴰ·of-map as mem-of-map}
+use Prim.Native.Nat.{ℕ, _≤_}
 use native.Mathlib.Omega.{arith}
-use lib.Dec.{T, eqb, eqb→eq}
+use lib.Dec.{T}
 use lib.ListN.{length, length-map}
-use Rattle.laws.specs.Matrix.{Matrix, Vector, times, act, unit, plus, opposite, times-unit}
-use Rattle.laws.specs.Motion.{Motion, SpaceMotion, product, compose, identity, compose-assoc, identity-compose}
-use Rattle.laws.specs.Residue.{Triple, Reduced, reduced, reduced-lt}
-use Rattle.laws.specs.Distinct.{has, Distinct, nil, cons, has-member, Mem→has, distinct-equal, Injective, injection-onto}
-use Rattle.laws.specs.Closure.{Reached, start, step, closure, closure-length, ListsReached, reached-product, reached-ok}
-use Rattle.laws.specs.Keyed.{Steady, KeyedMonoid, steady-each-key, steady-unit-key}
-use Rattle.laws.specs.Lattice.{InLattice, Congruent, congruent-reflexive, congruent-symmetric, congruent-transitive}
-use Rattle.laws.specs.LatticeMaps.{MapsOnto}
+use Rattle.laws.specs.Matrix.{Matrix, times, unit, times-unit}
+use Rattle.laws.specs.Motion.{SpaceMotion, compose, identity, compose-assoc, identity-compose}
+use Rattle.laws.specs.Residue.{Reduced, reduced, reduced-lt}
+use Rattle.laws.specs.Distinct.{has, Distinct, nil, cons, has-member, Injective, injection-onto}
+use Rattle.laws.specs.Closure.{start, closure-length, ListsReached, reached-product, reached-ok}
+use Rattle.laws.specs.Keyed.{steady-each-key, steady-unit-key}
+use Rattle.laws.specs.Lattice.{Congruent, congruent-reflexive, congruent-transitive}
 use Rattle.laws.specs.SameMatrix.{sameRotation, same-rotation, rotation-same, rotation-equivalence}
 use Rattle.laws.specs.MotionsModulo.{Alike, Keeps, motions-monoid, motions-keyed, alike-identity, compose-rotation}
 use Rattle.operation.specs.Meaning.{matrixOf, vectorOf, motionOf}
-use Rattle.operation.specs.Entries.{Entries}
 use Rattle.operation.specs.Product.{identityOperation, operationOf}
-use Rattle.operation.specs.Composed.{identity-motion}
 use Rattle.operation.specs.declared.Operation.{Operation}
 use Rattle.centering.specs.Letters.{pointsOf}
 use Rattle.centering.specs.Lattices.{points, tripleOf}
 use Rattle.centering.specs.declared.Centering.{Centering}
-use Rattle.space_group.specs.Generated.{motions, Generated, GeneratedRotation, AllKeep, SmallRotations, OneTranslation, listing}
+use Rattle.space_group.specs.Generated.{motions, Generated, GeneratedRotation, listing}
 use Rattle.space_group.specs.Traversal.{sameTurn}
 use Rattle.space_group.specs.OperationGrowth.{Small, operation-rotation, operation-translation, same-difference, same-image, identity-operation}
 use Rattle.space_group.specs.Acceptance.{Accepted, lists, motions-keep}

@@ -1,25 +1,23 @@
 -- The growth of operations is the digit image of the growth of motions: a rotation with entries in −1..1 and its digits determine one another, and
 -- translations modulo 12 go with products.
-use mathlib.Core.Path.{_≡_, refl, sym, _∙_, ap, ap₂}
-use mathlib.Core.Logic.{_↔_}
+use mathlib.Core.Path.{_≡_, refl, sym, _∙_, ap}
 use mathlib.Core.Bool.{Bool, true, false, cond}
 use mathlib.Core.Option.{Option, some, none, bind, Option·map}
-use mathlib.Core.List.{List, [], _∷_, map, List·Memᴰ as Mem}
-use Prim.Native.Nat.{ℕ, zero, suc, _≤_}
+use mathlib.Core.List.{List}
+use Prim.Native.Nat.{ℕ}
 use native.Mathlib.Omega.{arith}
-use lib.Dec.{T, eqb, eqb→eq, eqb-refl}
-use lib.IntN.{ℤ, pos, one, _+ℤ_}
+use lib.Dec.{T, eqb→eq, eqb-refl}
+use lib.IntN.{one}
 use Rattle.laws.specs.Integer.{nought}
-use Rattle.laws.specs.Matrix.{Matrix, Vector, times, act, plus, opposite, unit, origin}
-use Rattle.laws.specs.Motion.{Motion, SpaceMotion, product, compose, identity}
-use Rattle.laws.specs.Residue.{residue, Triple, reduced, lifted, reduced-plus, reduced-opposite, reduced-again, _⊕_, minus}
+use Rattle.laws.specs.Matrix.{Vector, times, act, plus, opposite, unit, origin}
+use Rattle.laws.specs.Motion.{SpaceMotion, product, compose, identity}
+use Rattle.laws.specs.Residue.{residue, reduced, reduced-plus, reduced-opposite, reduced-again, _⊕_}
 use Rattle.laws.specs.Distinct.{has, Mem→has, equality-equivalence}
 use Rattle.laws.specs.Lattice.{sameTriple, triple-decides, all, same-test, congruent-reflexive}
-use Rattle.laws.specs.Closure.{closure, Congruence}
-use Rattle.laws.specs.SameMatrix.{sameMatrix, sameRotation, same-rotation, rotation-same, rotation-equivalence}
-use Rattle.laws.specs.MotionsModulo.{compose-rotation}
-use Rattle.laws.specs.Growth.{Growth, imageGrowth, Image, grown, grown-image}
-use Rattle.laws.specs.GrowthClosure.{T-true, true-T, allowed, described, grown-closure}
+use Rattle.laws.specs.Closure.{Congruence}
+use Rattle.laws.specs.SameMatrix.{sameRotation, same-rotation, rotation-same, rotation-equivalence}
+use Rattle.laws.specs.Growth.{imageGrowth, Image, grown-image}
+use Rattle.laws.specs.GrowthClosure.{T-true, allowed, described, grown-closure}
 use Rattle.operation.specs.Meaning.{matrixOf, vectorOf, motionOf, digitsOf, Digits, digitOf, digitAbove, inside, rowInside, allInside}
 use Rattle.operation.specs.Entries.{Entries, all-entries, digits-entries, digits-stand}
 use Rattle.operation.specs.Product.{identityOperation, operationOf, productOf}

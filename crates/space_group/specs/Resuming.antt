@@ -1,24 +1,22 @@
 -- The growth of the list as a loop makes it, step by step: what is left to do at operation i and generator j, and how the slots show what was found.
 use mathlib.Core.Path.{_≡_, refl, sym, _∙_, ap}
-use mathlib.Core.Bool.{Bool, true, false, cond, _&&_}
+use mathlib.Core.Bool.{Bool, true, cond, _&&_}
 use mathlib.Core.Option.{Option, some, none, bind}
-use mathlib.Core.List.{List, [], _∷_, _++_, map, map-append, append-assoc}
-use Prim.Native.Nat.{ℕ, zero, suc, _+_, _*_, _-_, _≤_, _<_}
+use mathlib.Core.List.{List, [], _∷_, _++_, map, map-append}
+use Prim.Native.Nat.{ℕ, zero, suc, _+_, _-_, _≤_, _<_}
 use native.Mathlib.Numerals.{add-one}
 use native.Mathlib.Omega.{arith}
 use lib.Dec.{eqb, ltb}
 use lib.ListN.{length, getD, take, drop, set, replicate, length-append, length-replicate, length-map, List·getD-append}
-use lib.Seq.{drop-cons, drop-length, take-append-seam, set-at, take-at, getD-take, length-take-le, append-snoc}
+use lib.Seq.{drop-cons, drop-length, set-at, take-at, getD-take, length-take-le, append-snoc}
 use borrow.Author.Tests.{lt-ltb, le-ltb}
 use Rattle.laws.specs.Growth.{Growth, place, recurring, lengthened, takenUp, turns, grow, grown}
-use Rattle.operation.specs.Code.{codeOf}
 use Rattle.operation.specs.Product.{identityOperation, productOf}
 use Rattle.operation.specs.declared.Operation.{Operation}
-use Rattle.operation.specs.declared.product.Product.{Product}
 use Rattle.operation.specs.declared.product.Product.the-variants.{Inside, Outside}
 use Rattle.centering.specs.Lattices.{congruentOf}
 use Rattle.centering.specs.declared.Centering.{Centering}
-use Rattle.space_group.specs.Traversal.{turnOf, sameTurn, sameClass, insideOf, productInside, growth, padded}
+use Rattle.space_group.specs.Traversal.{turnOf, sameTurn, sameClass, productInside, growth, padded}
 use Rattle.space_group.specs.Places.{place-key}
 
 -- ---- slots

@@ -1,26 +1,21 @@
 -- The set of motions of an accepted symbol, all finite products of generators and translations by L, is the listed operations with L added.
-use mathlib.Core.Path.{_≡_, refl, sym, _∙_, ap, subst}
+use mathlib.Core.Path.{_≡_, sym, _∙_, ap, subst}
 use mathlib.Core.Logic.{_↔_}
-use mathlib.Core.List.{List, map, List·Memᴰ as Mem}
+use mathlib.Core.List.{List, List·Memᴰ as Mem}
 use Prim.Native.Nat.{ℕ}
-use lib.Dec.{T}
-use Rattle.laws.specs.Matrix.{Matrix, Vector, times, act, unit, plus, opposite, times-unit, plus-assoc, plus-comm, plus-opposite, plus-origin}
-use Rattle.laws.specs.Motion.{Motion, SpaceMotion, product, compose, identity}
-use Rattle.laws.specs.Closure.{Reached, start, step}
-use Rattle.laws.specs.Keyed.{KeyedMonoid}
-use Rattle.laws.specs.Lattice.{InLattice, Congruent, in-plus}
-use Rattle.laws.specs.LatticeMaps.{MapsOnto}
-use Rattle.laws.specs.MotionsModulo.{Alike, Keeps, motions-keyed, compose-rotation, compose-translation}
+use Rattle.laws.specs.Matrix.{Vector, times, act, unit, plus, opposite, times-unit, plus-assoc, plus-comm, plus-opposite, plus-origin}
+use Rattle.laws.specs.Motion.{SpaceMotion, product, compose, identity}
+use Rattle.laws.specs.Closure.{start, step}
+use Rattle.laws.specs.Lattice.{InLattice}
+use Rattle.laws.specs.MotionsModulo.{Alike, Keeps, motions-keyed}
 use Rattle.operation.specs.Meaning.{motionOf}
-use Rattle.operation.specs.Product.{identityOperation}
-use Rattle.operation.specs.Composed.{identity-motion}
 use Rattle.operation.specs.declared.Operation.{Operation}
 use Rattle.centering.specs.Letters.{pointsOf}
 use Rattle.centering.specs.Lattices.{points}
 use Rattle.centering.specs.declared.Centering.{Centering}
 use Rattle.space_group.specs.Generated.{motions, Generated}
 use Rattle.space_group.specs.Acceptance.{Accepted, motions-keep}
-use Rattle.space_group.specs.Members.{member-near, near-member, generated-keeps, one-class}
+use Rattle.space_group.specs.Members.{member-near, near-member, generated-keeps}
 
 -- The translation by a vector.
 abbrev pub translationBy : Vector → SpaceMotion

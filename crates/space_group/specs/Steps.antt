@@ -1,16 +1,15 @@
 -- The steps of an accepted symbol: with n generators, index i·n + j holds the index of the member that is, modulo L, member i times generator j.
 use mathlib.Core.Path.{_≡_, refl, sym, _∙_, ap, subst}
-use mathlib.Core.List.{List, [], _∷_, _++_, map, List·Memᴰ as Mem}
-use Prim.Native.Nat.{ℕ, zero, suc, _+_, _*_, _≤_, _<_}
+use mathlib.Core.List.{List, [], _∷_, map, List·Memᴰ as Mem}
+use Prim.Native.Nat.{ℕ, zero, suc, _+_, _*_, _<_}
 use native.Mathlib.Omega.{arith}
 use native.Mathlib.Nat.{suc-mul}
 use lib.ListN.{length, getD, length-map, length-append, List·getD-append}
 use lib.Seq.{getD-append-add}
-use Rattle.laws.specs.Motion.{Motion, SpaceMotion, compose, identity}
-use Rattle.laws.specs.Closure.{step, ListsReached}
-use Rattle.laws.specs.Keyed.{KeyedMonoid}
+use Rattle.laws.specs.Motion.{SpaceMotion, compose, identity}
+use Rattle.laws.specs.Closure.{step}
 use Rattle.laws.specs.SameMatrix.{sameRotation, same-rotation}
-use Rattle.laws.specs.MotionsModulo.{Alike, Keeps, motions-keyed}
+use Rattle.laws.specs.MotionsModulo.{Alike, motions-keyed}
 use Rattle.laws.specs.Growth.{place}
 use Rattle.laws.specs.GrowthClosure.{place-lt, place-same, stepsFrom}
 use Rattle.operation.specs.Meaning.{motionOf}
@@ -20,9 +19,8 @@ use Rattle.centering.specs.Letters.{pointsOf}
 use Rattle.centering.specs.Lattices.{points}
 use Rattle.centering.specs.declared.Centering.{Centering}
 use Rattle.space_group.specs.Generated.{motions, Generated, isSmall, sameVectorClass}
-use Rattle.space_group.specs.Resuming.{at-any}
 use Rattle.space_group.specs.Acceptance.{Accepted, lists, member-at, motions-keep}
-use Rattle.space_group.specs.Members.{one-class, member-small, operation-alike, generated-keeps, alike-product, alike-keeps}
+use Rattle.space_group.specs.Members.{one-class, member-small, operation-alike, generated-keeps, alike-keeps}
 
 -- What stands in the image of a list.
 image-at : {A B : Type 0} (f : A → B) (l : List A) (i : ℕ) (d : A) (e : B) → i < length l → getD (map f l) i e ≡ f (getD l i d)

@@ -1,14 +1,12 @@
 -- The list of operations as 01, "From generators to a group", has it made: breadth first from the identity, right factor running over the generators
 -- in order, first translation reached kept, modulo 12; with the index of each product, until nothing is left to multiply.
-use mathlib.Core.Path.{_≡_, refl, sym, _∙_, ap}
-use mathlib.Core.Bool.{Bool, true, false, cond}
-use mathlib.Core.Option.{Option, some, none, bind}
-use mathlib.Core.List.{List, [], _∷_, _++_, map}
-use Prim.Native.Nat.{ℕ, zero, suc, _+_, _-_, _≤_, _<_}
-use native.Mathlib.Omega.{arith}
-use lib.Dec.{eqb, ltb}
-use lib.ListN.{length, getD, drop, replicate}
-use Rattle.laws.specs.Growth.{Growth, place, recurring, lengthened, takenUp, turns, grow, grown}
+use mathlib.Core.Bool.{Bool, true, false}
+use mathlib.Core.Option.{Option, some, none}
+use mathlib.Core.List.{List, [], _∷_, _++_}
+use Prim.Native.Nat.{ℕ, _+_, _-_}
+use lib.Dec.{eqb}
+use lib.ListN.{length, replicate}
+use Rattle.laws.specs.Growth.{Growth, grown}
 use Rattle.operation.specs.Code.{codeOf}
 use Rattle.operation.specs.Product.{identityOperation, productOf}
 use Rattle.operation.specs.declared.Operation.{Operation}

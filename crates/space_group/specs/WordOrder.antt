@@ -1,18 +1,14 @@
 -- The list order, said without a procedure: each listed operation is the product along the least word over the generators, shorter first and then by the
 -- generators' indices, that leads to its rotation, and the list ascends by these words. Only one list is so.
-use mathlib.Core.Path.{_≡_, refl, sym, _∙_, ap}
-use mathlib.Core.Logic.{_↔_}
-use mathlib.Core.Option.{Option, some}
+use mathlib.Core.Path.{_≡_, sym, _∙_, ap}
+use mathlib.Core.Option.{some}
 use mathlib.Core.List.{List, map, List·Memᴰ as Mem}
-use Prim.Native.Nat.{ℕ, _≤_}
-use native.Mathlib.Omega.{arith}
-use lib.Dec.{T}
-use lib.ListN.{length, length-map}
-use Rattle.laws.specs.Motion.{Motion, SpaceMotion, compose, identity}
+use Prim.Native.Nat.{ℕ}
+use Rattle.laws.specs.Motion.{SpaceMotion, compose, identity}
 use Rattle.laws.specs.OrderedClosure.{AtMost}
-use Rattle.laws.specs.Words.{Word, Shortlex, product as along-word, LeastWord, ShortlexList, shortlex-list-unique}
+use Rattle.laws.specs.Words.{Word, Shortlex, product as along-word, ShortlexList, shortlex-list-unique}
 use Rattle.laws.specs.ShortlexClosure.{closure-shortlex}
-use Rattle.laws.specs.SameMatrix.{sameRotation, same-rotation, rotation-same, rotation-equivalence}
+use Rattle.laws.specs.SameMatrix.{sameRotation, rotation-same, rotation-equivalence}
 use Rattle.operation.specs.Meaning.{matrixOf}
 use Rattle.operation.specs.Product.{operationOf}
 use Rattle.operation.specs.declared.Operation.{Operation}

@@ -1,10 +1,9 @@
 -- What is answered for a text: its group slot by slot, its order, an operation of it, a translation; or a refusal.
-use mathlib.Core.Path.{_≡_, refl, sym, _∙_, ap}
-use mathlib.Core.Bool.{Bool, true, false, cond}
-use mathlib.Core.List.{List, [], _∷_, _++_}
+use mathlib.Core.Bool.{cond}
+use mathlib.Core.List.{List}
 use Prim.Native.Nat.{ℕ}
 use lib.Dec.{ltb}
-use lib.ListN.{length, getD, take, replicate}
+use lib.ListN.{length, getD, replicate}
 use Rattle.operation.specs.Answer as answer
 use Rattle.operation.specs.Doubles.{doublesOf}
 use Rattle.operation.specs.Product.{identityOperation}

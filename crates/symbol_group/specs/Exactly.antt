@@ -1,7 +1,7 @@
 -- What is answered for a text, exactly: a group if the text spells a symbol that 01 accepts, and each refusal if its rule holds.
-use mathlib.Core.Path.{_≡_, refl, sym, _∙_, ap}
+use mathlib.Core.Path.{_≡_, refl, ap}
 use mathlib.Core.Logic.{_↔_}
-use mathlib.Core.List.{List, [], _∷_, List·Memᴰ as Mem, List·Memᴰ·head as here, List·Memᴰ·tail as there}
+use mathlib.Core.List.{List, _∷_, List·Memᴰ·head as here, List·Memᴰ·tail as there}
 use Prim.Native.Nat.{ℕ}
 use native.Mathlib.Omega.{arith}
 use lib.ListN.{length}
@@ -14,7 +14,7 @@ use Rattle.hall_symbol.specs.Agreement.{symbol-exactly, refusal-exactly}
 use Rattle.hall_symbol.specs.Answers.{AllReduced, symbol-reduced}
 use Rattle.hall_symbol.specs.declared.refusal.Refusal as text
 use Rattle.space_group.specs.Generated.{AllKeep, FewRotations, SmallRotations, OneTranslation, Outcome, group, refused, outcomeOf}
-use Rattle.space_group.specs.Acceptance.{SmallGenerators, FirstOff, Accepted, accepted-exactly, accepted-list, lattice-exactly, rotations-exactly, translations-exactly}
+use Rattle.space_group.specs.Acceptance.{SmallGenerators, FirstOff, accepted-exactly, lattice-exactly, rotations-exactly, translations-exactly}
 use Rattle.space_group.specs.declared.refusal.Refusal as generators
 use Rattle.space_group.specs.declared.refusal.Refusal.the-variants.{Lattice, Rotations, Translations}
 use Rattle.symbol_group.specs.Answers.{outcomeAnswer, readingAnswer, symbolAnswer}

@@ -2,7 +2,6 @@
 use mathlib.Core.Path.{_≡_, refl}
 use mathlib.Core.List.{List, [], _∷_, map}
 use Prim.Native.Nat.{ℕ}
-use Prim.Native.String as S
 use Prim.Native.String.{String}
 use Prim.Native.Char.{code}
 use lib.ListN.{take}
@@ -44,7 +43,6 @@ use Rattle.symbol_group.specs.Refusals.{numberOf, placeOf}
 use Rattle.symbol_group.specs.Answers.{symbolAnswer}
 use Rattle.symbol_group.specs.declared.Answer.the-variants as answer
 use Rattle.symbol_group.specs.declared.Answer as group
-use Rattle.symbol_group.specs.declared.SymbolGroup.{SymbolGroup}
 
 -- A quoted text as bytes.
 abbrev bytes : String → List ℕ

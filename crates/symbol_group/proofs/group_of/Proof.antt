@@ -1,4 +1,5 @@
-use mathlib.Core.Path.{_≡_, _∙_}
+-- The group's answer, with its refusals among those of a symbol.
+use mathlib.Core.Path.{_∙_}
 use lib.ListN.{take}
 use Rattle.symbol_group.specs.Slots.{group-refused, group-made}
 use borrow.Author.Needs.{needs}

@@ -1,3 +1,4 @@
+-- The answer decides, then the count; an index below the count is that of a slot.
 use native.Mathlib.Omega.{arith}
 use Prim.Native.Nat.{_<_}
 use Rattle.symbol_group.specs.Slots.{operation-refused, operation-past, operation-given, index-small}

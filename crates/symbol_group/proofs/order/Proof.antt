@@ -1,3 +1,4 @@
+-- The answer decides.
 use Rattle.symbol_group.specs.Slots.{order-refused, order-given}
 use borrow.Author.Needs.{needs}
 use Rattle.symbol_group.proofs.order.Statement.{statement}

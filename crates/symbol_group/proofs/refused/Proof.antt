@@ -1,3 +1,4 @@
+-- The identity in every slot.
 use borrow.Author.Needs.{needs}
 use Rattle.symbol_group.proofs.refused.Statement.{statement}
 use Rattle.symbol_group.proofs.refused.Tie as tie

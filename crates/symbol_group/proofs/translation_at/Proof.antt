@@ -1,4 +1,5 @@
-use mathlib.Core.Path.{_≡_, _∙_, ap}
+-- What was found decides.
+use mathlib.Core.Path.{_∙_, ap}
 use Rattle.symbol_group.specs.Slots.{translation-found}
 use Rattle.symbol_group.specs.declared.SymbolOperation.the-variants.{Operation, PastEnd, Refused}
 use Rattle.symbol_group.specs.declared.SymbolTranslation.the-variants.{Doubles}

@@ -1,4 +1,5 @@
-use mathlib.Core.Path.{_≡_, _∙_}
+-- The first n of nine generators, or all of them.
+use mathlib.Core.Path.{_∙_}
 use Rattle.space_group.specs.Slots.{answer-few, answer-all}
 use borrow.Author.Needs.{needs}
 use Rattle.space_group.proofs.SpaceGroup.new.Statement.{statement}

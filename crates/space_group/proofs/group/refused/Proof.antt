@@ -1,3 +1,4 @@
+-- The identity in every slot.
 use borrow.Author.Needs.{needs}
 use Rattle.space_group.proofs.group.refused.Statement.{statement}
 use Rattle.space_group.proofs.group.refused.Tie as tie

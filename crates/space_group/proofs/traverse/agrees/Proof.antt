@@ -1,5 +1,5 @@
 -- The flag decides first, then equality, then the lattice.
-use mathlib.Core.Path.{_≡_, sym, _∙_}
+use mathlib.Core.Path.{sym, _∙_}
 use borrow.Author.Tests.{not-true, not-false}
 use Rattle.space_group.specs.Places.{same-class}
 use borrow.Author.Needs.{needs}

@@ -1,3 +1,4 @@
+-- The identity in every slot.
 use borrow.Author.Needs.{needs}
 use Rattle.space_group.proofs.traverse.overgrown.Statement.{statement}
 use Rattle.space_group.proofs.traverse.overgrown.Tie as tie

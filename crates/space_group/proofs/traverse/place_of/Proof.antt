@@ -1,10 +1,10 @@
-use mathlib.Core.Path.{_≡_, refl, sym, ap, _∙_}
-use Prim.Native.Nat.{ℕ, _≤_, _-_, _+_, _<_}
+-- The invariant: the place is that in what is left, plus what was passed.
+use mathlib.Core.Path.{_≡_, sym, ap, _∙_}
+use Prim.Native.Nat.{ℕ, _≤_, _-_, _+_}
 use native.Mathlib.Omega.{arith}
 use lib.Dec.{eqb}
-use lib.ListN.{length, getD, take, drop}
+use lib.ListN.{length, take, drop}
 use lib.Seq.{getD-take, length-take-le}
-use borrow.Author.Needs.{needs}
 use Rattle.laws.specs.Growth.{place}
 use Rattle.space_group.specs.Places.{place-hit, place-miss, place-end}
 use Rattle.space_group.proofs.traverse.place_of.Statement.{statement}

@@ -1,15 +1,17 @@
-use mathlib.Core.Path.{_≡_, refl, sym, ap, ap₂, _∙_}
-use Prim.Native.Nat.{ℕ, _≤_, _<_, _-_, _+_, _*_}
+-- The loop's invariant: the slots show a growth of which exactly what lies ahead is left to do. Each turn is one law of that growth: the next operation, a
+-- product outside −1..1, a rotation that is listed, one too many, a new one.
+use mathlib.Core.Path.{_≡_, sym, ap₂, _∙_}
+use Prim.Native.Nat.{_≤_, _<_, _-_, _+_, _*_}
 use native.Mathlib.Omega.{arith}
 use borrow.Author.Needs.{needs}
-use mathlib.Core.Bool.{Bool, true, false}
-use mathlib.Core.List.{List, [], _∷_}
+use mathlib.Core.Bool.{true}
+use mathlib.Core.List.{[], _∷_}
 use lib.ListN.{length, getD, take}
 use lib.Seq.{length-take-le}
 use Rattle.laws.specs.Growth.{Growth, place, place-le, recurring, lengthened}
 use Rattle.operation.specs.Product.{identityOperation, productOf}
 use Rattle.operation.specs.declared.Operation.{Operation}
-use Rattle.space_group.specs.Traversal.{sameTurn, sameClass, growth, grownOf}
+use Rattle.space_group.specs.Traversal.{sameTurn, sameClass, growth}
 use Rattle.space_group.specs.Resuming.{resume, resume-start, resume-over, resume-outside, resume-again, resume-full, resume-new, resume-end, generator-at, Shows, shows-start, shows-codes, shows-at, shows-place, shows-again, shows-new}
 use Rattle.space_group.proofs.traverse.traverse.Statement.{statement}
 use Rattle.space_group.proofs.traverse.traverse.Tie as tie

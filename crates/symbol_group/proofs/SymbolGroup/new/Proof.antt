@@ -1,4 +1,5 @@
-use mathlib.Core.Path.{_≡_, _∙_}
+-- The reading decides, and then its generators.
+use mathlib.Core.Path.{_∙_}
 use Rattle.symbol_group.specs.Slots.{symbol-refused, symbol-read}
 use borrow.Author.Needs.{needs}
 use Rattle.symbol_group.proofs.SymbolGroup.new.Statement.{statement}
