@@ -19,5 +19,11 @@ pub mod Lists
 pub mod Search
 pub mod Representatives
 pub mod SearchLoop
+pub mod Conjugates
+pub mod ConjugateLoop
+pub mod ConjugateLists
+pub mod Permutations
 pub mod Answers
 pub mod ListAnswers
+pub mod ListedSubgroups
+pub mod ListedConjugates

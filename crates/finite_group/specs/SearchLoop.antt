@@ -22,7 +22,7 @@ use Rattle.finite_group.specs.Listing.{listed, listed-unique, listed-lon
 use Rattle.finite_group.specs.Lists.{Chosen, chosen, chosen-passes, passes-chosen}
 use Rattle.finite_group.specs.Representatives.{Represented}
 use Rattle.finite_group.specs.Search.{Holding, holding-slot, Complete, complete-listed, Listed, Settled, TooMany, Progress, counted, overflow, settled-more, own-extension, listed-itself, extension-precedes, inserted-present, inserted-full, inserted-added}
-use Rattle.finite_group.specs.Slots.{packed, packed-length, bytesOf, slotAt, written}
+use Rattle.finite_group.specs.Slots.{packed, packed-left-over, bytesOf, slotAt, written}
 use Rattle.finite_group.specs.SubgroupLaws.{closed-set}
 use Rattle.finite_group.specs.Subsets.{Subgroup, conjugateOf}
 use Rattle.finite_group.specs.declared.search.Found.{Found}
@@ -218,13 +218,7 @@ module _ (n : ℕ) (_·_ : ℕ → ℕ → ℕ) (e : ℕ) (classes : Bool) where
 
     -- the bytes that are left over are as they came
     left-over : (came b l : List ℕ) (count : ℕ) → Holding n _·_ e classes came b l count → drop (8 * (length came / 8)) b ≡ drop (8 * (length came / 8)) came
-    left-over came b l count H =
-        let room = H .room in
-        let long : length (packed l) ≡ 8 * count = packed-length l ∙ ap (λ (i : ℕ). 8 * i) (H .size) in
-        let far : 8 * (length came / 8) ≡ 8 * count + (8 * (length came / 8) - 8 * count) = omega arith in
-        ap₂ (λ (i : ℕ) (x : List ℕ). drop i x) (far ∙ ap (λ (i : ℕ). i + (8 * (length came / 8) - 8 * count)) (sym long)) (H .bytes)
-        ∙ drop-append-add (packed l) (drop (8 * count) came) (8 * (length came / 8) - 8 * count)
-        ∙ drop-drop (8 * (length came / 8) - 8 * count) (8 * count) came ∙ ap (λ (i : ℕ). drop i came) (sym far)
+    left-over came b l count H = packed-left-over came b l count (H .size) (H .room) (H .bytes)
 
     module _ (came b : List ℕ) (count done : ℕ) (S : Searching came b count done) (more : done < count) where
       abbrev at : ℕ
