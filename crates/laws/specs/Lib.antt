@@ -12,9 +12,14 @@ pub mod Keyed
 pub mod OrderedClosure
 pub mod Words
 pub mod ShortlexClosure
+pub mod Growth
+pub mod GrowthClosure
 -- Lattices:
 pub mod Lattice
 pub mod LatticeMaps
+-- Motions told apart by their rotations, and modulo a lattice:
+pub mod SameMatrix
+pub mod MotionsModulo
 -- Finite groups and sets of their elements:
 pub mod FiniteGroup
 pub mod Sets

@@ -1,0 +1,2 @@
+-- How the test library packs what a text is read as into numbers.
+pub mod Packed

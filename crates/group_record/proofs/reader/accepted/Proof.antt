@@ -1,0 +1,86 @@
+-- The loop's invariant: the first slots hold the operations read so far, the others the identity. The measure is what is left.
+use mathlib.Core.List.{map}
+use Rattle.group_record.specs.declared.Reading.the-variants.{Accepted}
+use lib.ListN.{length-map, length}
+use mathlib.Core.Path.{_≡_, sym, _∙_}
+use Prim.Native.Nat.{_-_, _≤_}
+use native.Mathlib.Omega.{arith}
+use borrow.Author.Needs.{needs}
+use Rattle.group_record.specs.Reading.{acceptedGroup, operationOfItem}
+use Rattle.group_record.specs.Search.{itemsOf, items-count, filledTo, filled-next, filled-start, filled-end}
+use Rattle.group_record.proofs.reader.accepted.Statement.{statement}
+use Rattle.group_record.proofs.reader.accepted.Tie as tie
+use Rattle.group_record.proofs.reader.accepted.Reads as reads
+use Rattle.group_record.proofs.reader.accepted.Lts as lts
+use Rattle.group_record.proofs.reader.operation_at.Reads as operation-at-reads
+use Rattle.operation.proofs.product.identity.Reads as identity-reads
+
+abbrev Inv-loop : tie.InvT-loop
+Inv-loop bytes c n operations₀ i₀ operations i = (i ≤ n) × (operations ≡ filledTo n bytes i)
+
+abbrev μ-loop : tie.MeasureT-loop
+μ-loop bytes c n operations₀ i₀ operations i = n - i
+
+-- src/reader.rt:294:27
+identity-requires : tie.Need-identity-requires Inv-loop μ-loop
+identity-requires c κs = search needs
+
+-- src/reader.rt:296:5
+loop-holds : tie.Need-loop-holds Inv-loop μ-loop
+loop-holds c = (omega arith, rw (c .identity .ensures) (sym (filled-start (c .before .before .args .n) (c .before .before .args .bytes .now))))
+
+-- src/reader.rt:297:25
+operation-at-requires : tie.Need-operation-at-requires Inv-loop μ-loop
+operation-at-requires c κs = omega arith
+
+-- src/reader.rt:297:9
+mul-operations : tie.Need-mul-operations Inv-loop μ-loop
+mul-operations c = omega arith
+
+-- src/reader.rt:297:9
+array-set-from-operations : tie.Need-array-set-from-operations Inv-loop μ-loop
+array-set-from-operations c = omega arith
+
+-- src/reader.rt:298:9
+add-i : tie.Need-add-i Inv-loop μ-loop
+add-i c = omega arith
+
+-- src/reader.rt:296:5
+loop-less : tie.Need-loop-less Inv-loop μ-loop
+loop-less c = omega arith
+
+-- src/reader.rt:296:5
+loop-again : tie.Need-loop-again Inv-loop μ-loop
+loop-again c =
+    let a = c .before .before .before .before .before .args in
+    let l = c .before .before .loop in (
+      omega arith,
+      rw (l .inv .1, c .operation-at .ensures) (filled-next (a .n) (a .bytes .now) (l .i) (omega arith) (omega arith)),
+    )
+
+-- src/reader.rt:290:1
+returns : tie.Need-returns Inv-loop μ-loop
+unfolding acceptedGroup
+returns c =
+    let a = c .before .before .before .before .args in
+    let l = c .before .loop in
+    let items = itemsOf (a .n) (a .bytes .now) in
+    let count : a .n ≡ length (map operationOfItem items) = sym (length-map items operationOfItem ∙ items-count (a .n) (a .bytes .now)) in
+    let done = l .inv .1 ∙ filled-end (a .n) (a .bytes .now) (l .i) (omega arith) (omega arith) in
+    λ k. record { answer = Accepted; centering = a .c; count = count k; operations = done k }
+
+pub accepted-spec : {M : Type 1} → statement M
+accepted-spec =
+    tie.close
+    (tie.spec
+    Inv-loop
+    μ-loop
+    identity-requires
+    loop-holds
+    operation-at-requires
+    mul-operations
+    array-set-from-operations
+    add-i
+    loop-less
+    loop-again
+    returns)

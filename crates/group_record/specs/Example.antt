@@ -1,0 +1,25 @@
+-- The example of 01, "Group record": the record of `-P 1`, byte by byte. It holds the definitions of code, order and trailer against the paper.
+use mathlib.Core.Path.{_≡_, refl}
+use mathlib.Core.List.{[], _∷_}
+use Rattle.laws.specs.Lattice.{smallest, leastRank, rank, unrank}
+use Rattle.laws.specs.Residue.{_⊕_}
+use Rattle.laws.specs.Sorted.{sort, insert}
+use Rattle.operation.specs.Code.{codeOf}
+use Rattle.operation.specs.Product.{identityOperation}
+use Rattle.operation.specs.declared.Operation.{Operation}
+use Rattle.centering.specs.Lattices.{smallestOf}
+use Rattle.centering.specs.declared.Centering.the-variants.{P}
+use Rattle.group_record.specs.Items.{bytesOf}
+use Rattle.group_record.specs.Record.{itemBytes, trailer, written, smallestOperation, listedForm, recordOf}
+
+abbrev pub inversion : Operation
+inversion =
+    record {
+      rotation = record { xx = 0; xy = 1; xz = 1; yx = 1; yy = 0; yz = 1; zx = 1; zy = 1; zz = 0 };
+      translation = record { x = 0; y = 0; z = 0 };
+    }
+
+-- 0C 7E 00 00 00 40 64 00 00 00 50 01 02 00 0F
+pub example : recordOf P (identityOperation ∷ inversion ∷ []) ≡ 12 ∷ 126 ∷ 0 ∷ 0 ∷ 0 ∷ 64 ∷ 100 ∷ 0 ∷ 0 ∷ 0 ∷ 80 ∷ 1 ∷ 2 ∷ 0 ∷ 15 ∷ []
+unfolding recordOf written listedForm smallestOperation smallestOf smallest leastRank rank unrank _⊕_ sort insert codeOf bytesOf itemBytes trailer
+example = refl

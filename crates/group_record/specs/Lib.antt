@@ -1,0 +1,20 @@
+-- The group record of 01: its bytes, how they are read, and what group they stand for.
+-- The definitions: what a record is, how it is read, which groups it may hold.
+pub mod Items
+pub mod Record
+pub mod Reading
+pub mod Groups
+pub mod Copying
+-- Their laws.
+pub mod ListedForm
+pub mod OneRecord
+pub mod GroupLaws
+pub mod ReadingTests
+pub mod Acceptance
+pub mod RoundTrips
+pub mod Example
+-- What the code does with items.
+pub mod Search
+pub mod Parts
+pub mod Selection
+pub mod Writing

@@ -1,0 +1,86 @@
+-- What the shift means: the same motion seen from an origin moved by v, that is (I,v)(R,t)(I,−v); and what it does to the inversion and the identity.
+use mathlib.Core.Path.{_≡_, sym, _∙_, ap}
+use Prim.Native.Nat.{ℕ, _*_, _%_, _<_}
+use native.Mathlib.Omega.{arith}
+use lib.IntN.{ℤ, pos, negℤ, _+ℤ_, _-ℤ_}
+use Rattle.laws.specs.Integer.{ring}
+use Rattle.laws.specs.Matrix.{dot, times, act, plus, opposite, unit, unit-times, times-unit, act-unit}
+use Rattle.laws.specs.Motion.{SpaceMotion, product, compose}
+use Rattle.laws.specs.Residue.{residue, residue-lt, residue-again, reduced, triple≡}
+use Rattle.operation.specs.Meaning.{entryOf, matrixOf, vectorOf, motionOf}
+use Rattle.operation.specs.Product.{identityOperation}
+use Rattle.operation.specs.Composed.{Reduces}
+use Rattle.operation.specs.declared.Translation.{Translation}
+use Rattle.operation.specs.declared.Operation.{Operation}
+use Rattle.hall_symbol.specs.Shift.{noShift}
+use Rattle.hall_symbol.specs.Generators.{inversionOperation, shiftedCoordinate, shifted}
+use Rattle.hall_symbol.specs.Shifting.{shifted-sum}
+
+-- (I,v) and (I,−v).
+abbrev pub forth : Translation → SpaceMotion
+forth v = record { rotation = unit; translation = vectorOf v }
+
+abbrev pub back : Translation → SpaceMotion
+back v = record { rotation = unit; translation = opposite (vectorOf v) }
+
+-- A row times −v, and t and v added.
+row-shifted : (a b c x y z t w : ℤ) → dot a b c (negℤ x) (negℤ y) (negℤ z) +ℤ t +ℤ w ≡ t +ℤ w -ℤ dot a b c x y z
+row-shifted a b c x y z t w = simp ring
+
+-- The translation of (I,v)(R,t)(I,−v).
+origin-translation : (v : Translation) (g : Operation) → compose (forth v) (compose (motionOf g) (back v)) .translation ≡ plus (plus (act (matrixOf (g .rotation)) (opposite (vectorOf v))) (vectorOf (g .translation))) (vectorOf v)
+unfolding product motionOf
+origin-translation v g = rw (act-unit (plus (act (matrixOf (g .rotation)) (opposite (vectorOf v))) (vectorOf (g .translation))))
+
+-- Modulo 12 it is the shifted generator's.
+shifted-translation : (v : Translation) (g : Operation) → reduced (vectorOf (shifted v g .translation)) ≡ reduced (plus (plus (act (matrixOf (g .rotation)) (opposite (vectorOf v))) (vectorOf (g .translation))) (vectorOf v))
+unfolding shifted shiftedCoordinate matrixOf vectorOf plus act opposite
+shifted-translation v g =
+    let r = g .rotation in
+    let t = g .translation in
+    triple≡
+    (residue-again _ ∙ ap residue (sym (row (r .xx) (r .xy) (r .xz) (t .x) (v .x))))
+    (residue-again _ ∙ ap residue (sym (row (r .yx) (r .yy) (r .yz) (t .y) (v .y))))
+    (residue-again _ ∙ ap residue (sym (row (r .zx) (r .zy) (r .zz) (t .z) (v .z))))
+  where
+    row : (a b c t w : ℕ) → dot (entryOf a) (entryOf b) (entryOf c) (negℤ (pos (v .x))) (negℤ (pos (v .y))) (negℤ (pos (v .z))) +ℤ pos t +ℤ pos w ≡ pos t +ℤ pos w -ℤ dot (entryOf a) (entryOf b) (entryOf c) (pos (v .x)) (pos (v .y)) (pos (v .z))
+    row a b c t w = row-shifted (entryOf a) (entryOf b) (entryOf c) (pos (v .x)) (pos (v .y)) (pos (v .z)) (pos t) (pos w)
+
+-- The shifted generator is that motion, its translation modulo 12.
+pub shift-of-origin : (v : Translation) (g : Operation) → Reduces (compose (forth v) (compose (motionOf g) (back v))) (shifted v g)
+unfolding shifted shiftedCoordinate product motionOf
+shift-of-origin v g =
+    record {
+      rotation = sym (unit-times (times (matrixOf (g .rotation)) unit) ∙ times-unit (matrixOf (g .rotation)));
+      translation = shifted-translation v g ∙ ap reduced (sym (origin-translation v g));
+      small = (residue-lt _, residue-lt _, residue-lt _);
+    }
+
+-- The inversion becomes (−I, 2v mod 12).
+pub inversion-shifted : (v : Translation) → shifted v inversionOperation ≡ record { rotation = inversionOperation .rotation; translation = record { x = 2 * v .x % 12; y = 2 * v .y % 12; z = 2 * v .z % 12 } }
+unfolding shifted
+inversion-shifted v =
+    let x : shiftedCoordinate 0 1 1 v (v .x) 0 ≡ 2 * v .x % 12 = shifted-sum 0 1 1 v (v .x) 0 ∙ omega arith in
+    let y : shiftedCoordinate 1 0 1 v (v .y) 0 ≡ 2 * v .y % 12 = shifted-sum 1 0 1 v (v .y) 0 ∙ omega arith in
+    let z : shiftedCoordinate 1 1 0 v (v .z) 0 ≡ 2 * v .z % 12 = shifted-sum 1 1 0 v (v .z) 0 ∙ omega arith in
+    rw (x, y, z)
+
+-- The identity stays.
+pub identity-shifted : (v : Translation) → shifted v identityOperation ≡ identityOperation
+unfolding shifted
+identity-shifted v =
+    let x : shiftedCoordinate 2 1 1 v (v .x) 0 ≡ 0 = shifted-sum 2 1 1 v (v .x) 0 ∙ omega arith in
+    let y : shiftedCoordinate 1 2 1 v (v .y) 0 ≡ 0 = shifted-sum 1 2 1 v (v .y) 0 ∙ omega arith in
+    let z : shiftedCoordinate 1 1 2 v (v .z) 0 ≡ 0 = shifted-sum 1 1 2 v (v .z) 0 ∙ omega arith in
+    rw (x, y, z)
+
+-- Without a shift a reduced generator stays.
+pub unshifted : (g : Operation) → g .translation .x < 12 → g .translation .y < 12 → g .translation .z < 12 → shifted noShift g ≡ g
+unfolding shifted
+unshifted g hx hy hz =
+    let r = g .rotation in
+    let t = g .translation in
+    let x : shiftedCoordinate (r .xx) (r .xy) (r .xz) noShift 0 (t .x) ≡ t .x = shifted-sum (r .xx) (r .xy) (r .xz) noShift 0 (t .x) ∙ omega arith in
+    let y : shiftedCoordinate (r .yx) (r .yy) (r .yz) noShift 0 (t .y) ≡ t .y = shifted-sum (r .yx) (r .yy) (r .yz) noShift 0 (t .y) ∙ omega arith in
+    let z : shiftedCoordinate (r .zx) (r .zy) (r .zz) noShift 0 (t .z) ≡ t .z = shifted-sum (r .zx) (r .zy) (r .zz) noShift 0 (t .z) ∙ omega arith in
+    rw (x, y, z)

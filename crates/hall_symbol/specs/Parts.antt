@@ -1,0 +1,350 @@
+-- The reader's parts against the spelling rules: the first token, a shift's number, its three numbers, the shift. Each is read exactly as it is spelled.
+use mathlib.Core.Path.{_≡_, refl, _∙_, ap}
+use mathlib.Core.Bool.{Bool, true, false, cond, not, _&&_, false≢true}
+use mathlib.Core.List.{List, [], _∷_, _++_}
+use Prim.Native.Nat.{ℕ, suc, _+_, _-_, _<_, _≤_}
+use native.Mathlib.Omega.{arith}
+use native.Mathlib.Numerals.{add-one}
+use lib.Dec.{eqb, leb, ltb}
+use borrow.Author.Tests.{eqb-true, leb-true, ltb-true, ltb-false, ne-eqb, le-leb, lt-ltb, le-ltb, not-false}
+use lib.ListN.{length, getD, take, drop, length-append}
+use lib.Seq.{take-append-seam, drop-append-add, drop-length, split-at}
+use Rattle.operation.specs.declared.Translation.{Translation}
+use Rattle.centering.specs.Letters.{byteOf, letterOf, letterAmong, letters}
+use Rattle.centering.specs.declared.Centering.{Centering}
+use Rattle.centering.specs.declared.Centering.the-variants.{P, A, B, C, I, R, F}
+use Rattle.centering.specs.declared.Letter.{Letter}
+use Rattle.centering.specs.declared.Letter.the-variants.{Is as IsLetter, None as NoLetter}
+use Rattle.hall_symbol.specs.Bytes.{whitespace, unclosed, opening}
+use Rattle.hall_symbol.specs.Runs.{run, Every, run-seam, run-at, run-all, every-run, every-append}
+use Rattle.hall_symbol.specs.Tokens.{trimmed, firstWord, behindWord}
+use Rattle.hall_symbol.specs.Cut.{Cut, FirstToken, blank, token, first-token, cut-firstword, cut-behind}
+use Rattle.hall_symbol.specs.Lattice.{latticeOf, letterToken, latticeToken}
+use Rattle.hall_symbol.specs.Shift.{oneDigit, twoDigits, numberOf, triple, numbersOf, closedShift, shiftOf}
+use Rattle.hall_symbol.specs.Spelling.{latticeSpelling, NumberSpelled, NumbersSpelled, ShiftSpelled, Opens}
+use Rattle.hall_symbol.specs.declared.lattice.Lattice.the-variants.{Is as IsLattice, Wrong}
+use Rattle.hall_symbol.specs.declared.shift.Number.{Number}
+use Rattle.hall_symbol.specs.declared.shift.Number.the-variants.{Is, None}
+use Rattle.hall_symbol.specs.declared.shift.Shift.the-variants.{By, Malformed}
+
+-- ---- tests
+and-both : (a b : Bool) → a && b ≡ true → (a ≡ true) × (b ≡ true)
+and-both true b h = (refl, h)
+and-both false b h = absurd (false≢true h)
+
+-- ---- the first token
+-- Each letter's byte is read as the letter, and none is `-`.
+letter-read : (c : Centering) → (letterOf (byteOf c) ≡ IsLetter c) × (eqb (byteOf c) 45 ≡ false)
+unfolding letterOf letterAmong
+letter-read P = (refl, refl)
+letter-read A = (refl, refl)
+letter-read B = (refl, refl)
+letter-read C = (refl, refl)
+letter-read I = (refl, refl)
+letter-read R = (refl, refl)
+letter-read F = (refl, refl)
+
+-- A byte that is read as a letter is the letter's.
+among-byte : (b : ℕ) (cs : List Centering) (c : Centering) → letterAmong b cs ≡ IsLetter c → b ≡ byteOf c
+unfolding letterAmong
+-- A byte that is read as a letter is the letter's.
+among-byte b [] c h = let z : _≡_ {A = ℕ} 0 1 = cc in absurd (omega arith)
+among-byte b (d ∷ cs) c h = go (eqb b (byteOf d)) refl h (among-byte b cs c)
+  where
+    go : (t : Bool) → eqb b (byteOf d) ≡ t → cond t (IsLetter d) (letterAmong b cs) ≡ IsLetter c → (letterAmong b cs ≡ IsLetter c → b ≡ byteOf c) → b ≡ byteOf c
+    go true e k r = let same : d ≡ c = cc in eqb-true b (byteOf d) e ∙ ap byteOf same
+    go false e k r = r k
+
+-- The same among all letters.
+letter-byte : (b : ℕ) (c : Centering) → letterOf b ≡ IsLetter c → b ≡ byteOf c
+unfolding letterOf
+letter-byte b c h = among-byte b letters c h
+
+-- The spelling of a first token is read as what it spells.
+pub lattice-read : (inverted : Bool) (c : Centering) → latticeToken (latticeSpelling inverted c) ≡ IsLattice inverted c
+unfolding latticeToken letterToken
+lattice-read true c = rw (letter-read c .0)
+lattice-read false c = rw (letter-read c .1, letter-read c .0)
+
+-- Exactly one letter.
+lattice-letter : (inverted again : Bool) (l : Letter) (c : Centering) → latticeOf inverted l ≡ IsLattice again c → (inverted ≡ again) × (l ≡ IsLetter c)
+lattice-letter inverted again (IsLetter d) c h = ((cc), cc)
+-- A letter with its sign comes from that letter.
+lattice-letter inverted again NoLetter c h = let z : _≡_ {A = ℕ} 0 1 = cc in absurd (omega arith)
+
+-- Two bytes are not one.
+two-bytes : (a b : ℕ) (s : List ℕ) → eqb (length (a ∷ b ∷ s)) 1 ≡ false
+two-bytes a b s = ne-eqb (suc (suc (length s))) 1 (omega arith)
+
+-- Three bytes are not two.
+three-bytes : (a b c : ℕ) (s : List ℕ) → eqb (length (a ∷ b ∷ c ∷ s)) 2 ≡ false
+three-bytes a b c s = ne-eqb (suc (suc (suc (length s)))) 2 (omega arith)
+
+-- A token read as one letter is that letter's byte.
+letter-spelled : (inverted again : Bool) (c : Centering) (t : List ℕ) → letterToken inverted t ≡ IsLattice again c → (inverted ≡ again) × (t ≡ byteOf c ∷ [])
+unfolding letterToken
+-- A token read as one letter is that letter's byte.
+letter-spelled inverted again c [] h = let z : _≡_ {A = ℕ} 0 1 = cc in absurd (omega arith)
+letter-spelled inverted again c (b ∷ []) h =
+    let (same, l) = lattice-letter inverted again (letterOf b) c h in (same, ap (λ (x : ℕ). x ∷ []) (letter-byte b c l))
+letter-spelled inverted again c (b ∷ d ∷ t) h =
+    let wrong : Wrong ≡ IsLattice again c = rw (two-bytes b d t) at h in
+    let z : _≡_ {A = ℕ} 0 1 = cc in
+    absurd (omega arith)
+
+-- A first token that is read is the spelling.
+pub lattice-spelled : (t : List ℕ) (inverted : Bool) (c : Centering) → latticeToken t ≡ IsLattice inverted c → t ≡ latticeSpelling inverted c
+unfolding latticeToken
+lattice-spelled [] inverted c h = let (same, t) = letter-spelled false inverted c [] h in rw (← same) t
+lattice-spelled (b ∷ s) inverted c h = go (eqb b 45) refl h
+  where
+    go : (d : Bool) → eqb b 45 ≡ d → cond d (letterToken true s) (letterToken false (b ∷ s)) ≡ IsLattice inverted c → b ∷ s ≡ latticeSpelling inverted c
+    go true e k =
+        let (same, t) = letter-spelled true inverted c s k in
+        let minus = eqb-true b 45 e in
+        rw (← same, minus, t)
+    go false e k = let (same, t) = letter-spelled false inverted c (b ∷ s) k in rw (← same) t
+
+-- ---- a number
+one-digit : (n : ℕ) → n < 10 → oneDigit (48 + n) ≡ Is n
+unfolding oneDigit
+-- The digit of a number below 10.
+one-digit n h = let e : 48 + n - 48 ≡ n = omega arith in rw (le-leb 48 (48 + n) (omega arith), le-leb (48 + n) 57 (omega arith), e)
+
+-- The digits of 10 and 11.
+two-digits : (n : ℕ) → 10 ≤ n → n < 12 → twoDigits 49 (38 + n) ≡ Is n
+unfolding twoDigits
+two-digits n h k =
+    let e : 38 + n - 38 ≡ n = omega arith in rw (le-leb 48 (38 + n) (omega arith), le-leb (38 + n) 49 (omega arith), e)
+
+-- The spelling of a number is read as the number.
+pub number-read : (w : List ℕ) (n : ℕ) → NumberSpelled w n → numberOf w ≡ Is n
+unfolding numberOf
+number-read w n (h, e) = go (ltb n 10) refl e
+  where
+    go : (b : Bool) → ltb n 10 ≡ b → w ≡ cond b ((48 + n) ∷ []) (49 ∷ (38 + n) ∷ []) → numberOf w ≡ Is n
+    go true t k = rw k (one-digit n (ltb-true n 10 t))
+    go false t k = rw k (two-digits n (ltb-false n 10 t) h)
+
+-- A digit that is read is the spelling.
+one-spelled : (b n : ℕ) → oneDigit b ≡ Is n → NumberSpelled (b ∷ []) n
+unfolding oneDigit
+one-spelled b n h = go (leb 48 b && leb b 57) refl h
+  where
+    go : (t : Bool) → leb 48 b && leb b 57 ≡ t → cond t (Is (b - 48)) None ≡ Is n → NumberSpelled (b ∷ []) n
+    go true e k =
+        let (low, high) = and-both (leb 48 b) (leb b 57) e in
+        let same : b - 48 ≡ n = cc in
+        let above = leb-true 48 b low in
+        let below = leb-true b 57 high in
+        let digit : b ≡ 48 + n = omega arith in
+        (omega arith, rw (lt-ltb n 10 (omega arith)) (ap (λ (x : ℕ). x ∷ []) digit))
+    go false e k = let z : _≡_ {A = ℕ} 0 1 = cc in absurd (omega arith)
+
+-- Two digits that are read are the spelling.
+two-spelled : (a b n : ℕ) → twoDigits a b ≡ Is n → NumberSpelled (a ∷ b ∷ []) n
+unfolding twoDigits
+two-spelled a b n h = go (eqb a 49 && (leb 48 b && leb b 49)) refl h
+  where
+    go : (t : Bool) → eqb a 49 && (leb 48 b && leb b 49) ≡ t → cond t (Is (b - 38)) None ≡ Is n → NumberSpelled (a ∷ b ∷ []) n
+    go true e k =
+        let (lead, rest) = and-both (eqb a 49) (leb 48 b && leb b 49) e in
+        let (low, high) = and-both (leb 48 b) (leb b 49) rest in
+        let same : b - 38 ≡ n = cc in
+        let above = leb-true 48 b low in
+        let below = leb-true b 49 high in
+        let digit : b ≡ 38 + n = omega arith in
+        let tens = eqb-true a 49 lead in
+        (omega arith, rw (le-ltb n 10 (omega arith), tens) (ap (λ (x : ℕ). 49 ∷ x ∷ []) digit))
+    go false e k = let z : _≡_ {A = ℕ} 0 1 = cc in absurd (omega arith)
+
+-- A word that is read as a number spells it.
+pub number-spelled : (w : List ℕ) (n : ℕ) → numberOf w ≡ Is n → NumberSpelled w n
+unfolding numberOf
+number-spelled [] n h = let z : _≡_ {A = ℕ} 0 1 = cc in absurd (omega arith)
+number-spelled (a ∷ []) n h = one-spelled a n h
+number-spelled (a ∷ b ∷ []) n h = two-spelled a b n h
+number-spelled (a ∷ b ∷ c ∷ s) n h =
+    let none : None ≡ Is n = rw (two-bytes a b (c ∷ s), three-bytes a b c s) at h in
+    let z : _≡_ {A = ℕ} 0 1 = cc in
+    absurd (omega arith)
+
+-- ---- three numbers
+triple-by : (x y z : Number) (v : Translation) → triple x y z ≡ By v → (x ≡ Is (v .x)) × (y ≡ Is (v .y)) × (z ≡ Is (v .z))
+triple-by (Is x) (Is y) (Is z) v h =
+    let same : record { x = x; y = y; z = z } ≡ v = cc in (ap (λ (u : Translation). Is (u .x)) same, ap (λ (u : Translation). Is (u .y)) same, ap (λ (u : Translation). Is (u .z)) same)
+-- Three numbers, if all are there.
+triple-by (Is x) (Is y) None v h = let z : _≡_ {A = ℕ} 0 1 = cc in absurd (omega arith)
+-- Three numbers, if all are there.
+triple-by (Is x) None n v h = let z : _≡_ {A = ℕ} 0 1 = cc in absurd (omega arith)
+-- Three numbers, if all are there.
+triple-by None m n v h = let z : _≡_ {A = ℕ} 0 1 = cc in absurd (omega arith)
+
+-- Where the next word is a number, there is a token.
+word-cut : (s : List ℕ) (n : ℕ) → numberOf (firstWord s) ≡ Is n → (w : List ℕ) × Cut s w (firstWord s) (behindWord s)
+unfolding numberOf run
+word-cut s n h = go (first-token s)
+  where
+    go : FirstToken s → (w : List ℕ) × Cut s w (firstWord s) (behindWord s)
+    go (blank e) =
+        let nothing : trimmed s ≡ [] = ap (λ (k : ℕ). drop k s) (every-run whitespace s e) ∙ drop-length s in
+        let none : None ≡ Is n = rw nothing at h in
+        let z : _≡_ {A = ℕ} 0 1 = cc in
+        absurd (omega arith)
+    go (token w t after cut) = (w, rw (cut-firstword s w t after cut, cut-behind s w t after cut) cut)
+
+-- Three spelled numbers are read.
+pub numbers-read : (s : List ℕ) (v : Translation) → NumbersSpelled s v → numbersOf s ≡ By v
+unfolding numbersOf
+numbers-read s v n =
+    let all = every-run whitespace (n .behind-z) (n .blank) in
+    rw (
+      cut-firstword s _ _ _ (n .cut-x),
+      cut-behind s _ _ _ (n .cut-x),
+      cut-firstword (n .behind-x) _ _ _ (n .cut-y),
+      cut-behind (n .behind-x) _ _ _ (n .cut-y),
+      cut-firstword (n .behind-y) _ _ _ (n .cut-z),
+      cut-behind (n .behind-y) _ _ _ (n .cut-z),
+      le-leb (length (n .behind-z)) (run whitespace (n .behind-z)) (omega arith),
+      number-read (n .word-x) (v .x) (n .number-x),
+      number-read (n .word-y) (v .y) (n .number-y),
+      number-read (n .word-z) (v .z) (n .number-z),
+    )
+
+-- Three numbers that are read are spelled.
+pub numbers-spelled : (s : List ℕ) (v : Translation) → numbersOf s ≡ By v → NumbersSpelled s v
+unfolding numbersOf
+numbers-spelled s v h = go (leb (length r) (run whitespace r)) refl h
+  where
+    q : List ℕ
+    q = behindWord (behindWord s)
+
+    r : List ℕ
+    r = behindWord q
+
+    go : (b : Bool) → leb (length r) (run whitespace r) ≡ b → cond b (triple (numberOf (firstWord s)) (numberOf (firstWord (behindWord s))) (numberOf (firstWord q))) Malformed ≡ By v → NumbersSpelled s v
+    go true e k =
+        let (x, y, z) = triple-by (numberOf (firstWord s)) (numberOf (firstWord (behindWord s))) (numberOf (firstWord q)) v k in
+        let (wx, cx) = word-cut s (v .x) x in
+        let (wy, cy) = word-cut (behindWord s) (v .y) y in
+        let (wz, cz) = word-cut q (v .z) z in
+        record {
+          gap-x = wx;
+          word-x = firstWord s;
+          behind-x = behindWord s;
+          gap-y = wy;
+          word-y = firstWord (behindWord s);
+          behind-y = q;
+          gap-z = wz;
+          word-z = firstWord q;
+          behind-z = r;
+          cut-x = cx;
+          cut-y = cy;
+          cut-z = cz;
+          blank = run-all whitespace r (leb-true (length r) (run whitespace r) e);
+          number-x = number-spelled (firstWord s) (v .x) x;
+          number-y = number-spelled (firstWord (behindWord s)) (v .y) y;
+          number-z = number-spelled (firstWord q) (v .z) z;
+        }
+    go false e k = let z : _≡_ {A = ℕ} 0 1 = cc in absurd (omega arith)
+
+-- ---- the shift
+-- Neither whitespace nor a number holds `)`.
+whitespace-unclosed : (b : ℕ) → whitespace b ≡ true → unclosed b ≡ true
+unfolding whitespace unclosed
+whitespace-unclosed b h = go (eqb b 41) refl
+  where
+    go : (t : Bool) → eqb b 41 ≡ t → not t ≡ true
+    go true e = absurd (false≢true (rw (eqb-true b 41 e) at h))
+    go false e = refl
+
+-- Whitespace holds no `)`.
+blank-unclosed : (w : List ℕ) → Every whitespace w → Every unclosed w
+blank-unclosed [] h = tt
+blank-unclosed (b ∷ w) h = (whitespace-unclosed b (h .0), blank-unclosed w (h .1))
+
+-- A digit is no `)`.
+digit-unclosed : (b : ℕ) → 48 ≤ b → unclosed b ≡ true
+unfolding unclosed
+digit-unclosed b h = rw (ne-eqb b 41 (omega arith))
+
+-- Nor does a number hold one.
+number-unclosed : (w : List ℕ) (n : ℕ) → NumberSpelled w n → Every unclosed w
+number-unclosed w n (h, e) = go (ltb n 10) refl e
+  where
+    go : (b : Bool) → ltb n 10 ≡ b → w ≡ cond b ((48 + n) ∷ []) (49 ∷ (38 + n) ∷ []) → Every unclosed w
+    go true t k = rw k (digit-unclosed (48 + n) (omega arith), tt)
+    go false t k = let low = ltb-false n 10 t in rw k (digit-unclosed 49 (omega arith), (digit-unclosed (38 + n) (omega arith), tt))
+
+-- Nor a cut text of such parts.
+cut-unclosed : (s w t after : List ℕ) → Cut s w t after → Every unclosed t → Every unclosed after → Every unclosed s
+cut-unclosed s w t after cut h k =
+    rw (cut .text) (every-append unclosed w (t ++ after) (blank-unclosed w (cut .blank)) (every-append unclosed t after h k))
+
+-- Nor three numbers.
+numbers-unclosed : (s : List ℕ) (v : Translation) → NumbersSpelled s v → Every unclosed s
+numbers-unclosed s v n =
+    cut-unclosed s _ _ _ (n .cut-x) (number-unclosed (n .word-x) (v .x) (n .number-x))
+    (cut-unclosed (n .behind-x) _ _ _ (n .cut-y) (number-unclosed (n .word-y) (v .y) (n .number-y))
+    (cut-unclosed (n .behind-y) _ _ _ (n .cut-z) (number-unclosed (n .word-z) (v .z) (n .number-z)) (blank-unclosed (n .behind-z) (n .blank))))
+
+-- The first `)` is the one that closes the shift.
+closed-read : (inside after : List ℕ) (v : Translation) → NumbersSpelled inside v → Every whitespace after → closedShift (inside ++ (41 ∷ after)) ≡ By v
+unfolding closedShift unclosed
+closed-read inside after v n b =
+    let close : run unclosed (inside ++ (41 ∷ after)) ≡ length inside = run-seam unclosed inside (41 ∷ after) (numbers-unclosed inside v n) refl in
+    let behind : drop (suc (length inside)) (inside ++ (41 ∷ after)) ≡ after = rw (← add-one (length inside)) (drop-append-add inside (41 ∷ after) 1) in
+    let within : length inside < length (inside ++ (41 ∷ after)) = omega (arith, length-append inside (41 ∷ after)) in
+    let all = every-run whitespace after b in
+    rw (
+      close,
+      lt-ltb (length inside) (length (inside ++ (41 ∷ after))) within,
+      behind,
+      le-leb (length after) (run whitespace after) (omega arith),
+      take-append-seam inside (41 ∷ after),
+    )
+    (numbers-read inside v n)
+
+-- A spelled shift is read.
+pub shift-read : (s : List ℕ) (v : Translation) → ShiftSpelled s v → shiftOf s ≡ By v
+shift-read s v h = rw (h .brackets) (closed-read (h .inside) (h .after) v (h .numbers) (h .blank))
+
+-- The byte that closes is 41.
+closed-byte : (b : ℕ) → unclosed b ≡ false → b ≡ 41
+unfolding unclosed
+closed-byte b h = eqb-true b 41 (not-false (eqb b 41) h)
+
+-- The byte that opens is 40.
+opening-byte : (b : ℕ) → opening b ≡ true → b ≡ 40
+unfolding opening
+opening-byte b h = eqb-true b 40 h
+
+-- A closed shift that is read is spelled.
+closed-spelled : (s : List ℕ) (v : Translation) → closedShift s ≡ By v → ShiftSpelled (40 ∷ s) v
+unfolding closedShift
+closed-spelled s v h = go (ltb close (length s) && leb (length after) (run whitespace after)) refl h
+  where
+    close : ℕ
+    close = run unclosed s
+
+    after : List ℕ
+    after = drop (suc close) s
+
+    go : (b : Bool) → ltb close (length s) && leb (length after) (run whitespace after) ≡ b → cond b (numbersOf (take close s)) Malformed ≡ By v → ShiftSpelled (40 ∷ s) v
+    go true e k =
+        let (there, only) = and-both (ltb close (length s)) (leb (length after) (run whitespace after)) e in
+        let within = ltb-true close (length s) there in
+        let bracket = closed-byte (getD s close 0) (run-at unclosed s within) in
+        record {
+          inside = take close s;
+          after = after;
+          brackets = ap (λ (l : List ℕ). 40 ∷ l) (split-at s close 0 within ∙ ap (λ (b : ℕ). take close s ++ (b ∷ after)) bracket);
+          numbers = numbers-spelled (take close s) v k;
+          blank = run-all whitespace after (leb-true (length after) (run whitespace after) only);
+        }
+    go false e k = let z : _≡_ {A = ℕ} 0 1 = cc in absurd (omega arith)
+
+-- A shift that is read is spelled.
+pub shift-spelled : (s : List ℕ) (v : Translation) → Opens s → shiftOf s ≡ By v → ShiftSpelled s v
+shift-spelled [] v h k = absurd h
+shift-spelled (b ∷ s) v h k = rw (opening-byte b h) (closed-spelled s v k)

@@ -1,0 +1,55 @@
+// Why a text is no Hall symbol: the refusals 1 to 11 of 01, each with its place where the text decides it.
+ghost use mathlib.Core.Path.{_≡_};
+ghost use Rattle.hall_symbol.specs.Refusals.{numberOf, placeOf};
+
+pub enum Refusal {
+    TooLong,
+    ForbiddenByte(usize),
+    NoToken,
+    Lattice(usize),
+    Misspelt(usize),
+    Unsettled(usize),
+    Digit(usize),
+    Primed(usize),
+    Shift(usize),
+    NoRotation(usize),
+    TooMany(usize),
+}
+
+impl Refusal {
+    pub fn number(self) -> u8
+        ensures { λ r. ⌜ r ≡ numberOf self ⌝ }
+    {
+        match self {
+            Refusal::TooLong => 1,
+            Refusal::ForbiddenByte(_) => 2,
+            Refusal::NoToken => 3,
+            Refusal::Lattice(_) => 4,
+            Refusal::Misspelt(_) => 5,
+            Refusal::Unsettled(_) => 6,
+            Refusal::Digit(_) => 7,
+            Refusal::Primed(_) => 8,
+            Refusal::Shift(_) => 9,
+            Refusal::NoRotation(_) => 10,
+            Refusal::TooMany(_) => 11,
+        }
+    }
+
+    pub fn place(self) -> usize
+        ensures { λ r. ⌜ r ≡ placeOf self ⌝ }
+    {
+        match self {
+            Refusal::TooLong => 80,
+            Refusal::ForbiddenByte(place) => place,
+            Refusal::NoToken => 0,
+            Refusal::Lattice(place) => place,
+            Refusal::Misspelt(place) => place,
+            Refusal::Unsettled(place) => place,
+            Refusal::Digit(place) => place,
+            Refusal::Primed(place) => place,
+            Refusal::Shift(place) => place,
+            Refusal::NoRotation(place) => place,
+            Refusal::TooMany(place) => place,
+        }
+    }
+}

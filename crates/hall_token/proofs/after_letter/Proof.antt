@@ -1,0 +1,133 @@
+-- Each early return is a test of the definition that its callee answered; what is left is the operation.
+use mathlib.Core.Path.{ap}
+use borrow.Author.Tests.{not-true, not-false}
+use Rattle.operation.specs.declared.Rotation.{Rotation}
+use Rattle.hall_token.specs.declared.ParsedOperation.the-variants.{Operation}
+use Rattle.hall_token.specs.Reader.{readRun, operationOfParts, axisThen, turnThen, movedThen}
+use borrow.Author.Needs.{needs}
+use Rattle.hall_token.proofs.after_letter.Statement.{statement}
+use Rattle.hall_token.proofs.after_letter.Tie as tie
+
+spelt-requires : tie.Need-spelt-requires
+spelt-requires c κs = search needs
+
+returns : tie.Need-returns
+unfolding readRun operationOfParts axisThen turnThen movedThen
+returns c = rw (← c .before .spelt .ensures, not-true (c .before .spelt .result) (c .if1 .taken))
+
+unprimed-requires : tie.Need-unprimed-requires
+unprimed-requires c κs = search needs
+
+returns-2 : tie.Need-returns-2
+unfolding readRun operationOfParts axisThen turnThen movedThen
+returns-2 c =
+    let spelt = c .before .before .before .spelt in
+    let if1 = c .before .before .if1 in
+    let unprimed = c .before .unprimed in
+    rw (← spelt .ensures, not-false (spelt .result) (if1 .left), ← unprimed .ensures, not-true (unprimed .result) (c .if2 .taken))
+
+axis-of-requires : tie.Need-axis-of-requires
+axis-of-requires c κs = search needs
+
+enum-known-axis : tie.Need-enum-known-axis
+enum-known-axis c = search needs
+
+enum-told : tie.Need-enum-told
+enum-told c = search needs
+
+returns-3 : tie.Need-returns-3
+unfolding readRun operationOfParts axisThen turnThen movedThen
+returns-3 c =
+    let spelt = c .before .before .before .before .before .before .spelt in
+    let if1 = c .before .before .before .before .before .if1 in
+    let unprimed = c .before .before .before .before .unprimed in
+    let if2 = c .before .before .before .if2 in
+    let axis-of = c .before .before .axis-of in
+    rw (← spelt .ensures, not-false (spelt .result) (if1 .left), ← unprimed .ensures, not-false (unprimed .result) (if2 .left), ← axis-of .ensures, c .enum-told .given .1)
+
+rotation-about-requires : tie.Need-rotation-about-requires
+rotation-about-requires c κs = search needs
+
+enum-known-turn : tie.Need-enum-known-turn
+enum-known-turn c = search needs
+
+enum-told-2 : tie.Need-enum-told-2
+enum-told-2 c = search needs
+
+returns-4 : tie.Need-returns-4
+unfolding readRun operationOfParts axisThen turnThen movedThen
+returns-4 c =
+    let spelt = c .before .before .before .before .before .before .before .before .before .before .spelt in
+    let if1 = c .before .before .before .before .before .before .before .before .before .if1 in
+    let unprimed = c .before .before .before .before .before .before .before .before .unprimed in
+    let if2 = c .before .before .before .before .before .before .before .if2 in
+    let axis-of = c .before .before .before .before .before .before .axis-of in
+    let axis = c .before .before .before .before .axis in
+    let rotation-about = c .before .before .rotation-about in
+    rw (← spelt .ensures, not-false (spelt .result) (if1 .left), ← unprimed .ensures, not-false (unprimed .result) (if2 .left), ← axis-of .ensures, axis .given .1, ← rotation-about .ensures, c .enum-told2 .given .1)
+
+translation-of-requires : tie.Need-translation-of-requires
+translation-of-requires c κs = search needs
+
+enum-known-translation : tie.Need-enum-known-translation
+enum-known-translation c = search needs
+
+enum-told-3 : tie.Need-enum-told-3
+enum-told-3 c = search needs
+
+returns-5 : tie.Need-returns-5
+unfolding readRun operationOfParts axisThen turnThen movedThen
+returns-5 c =
+    let spelt = c .before .before .before .before .before .before .before .before .before .before .before .before .before .before .spelt in
+    let if1 = c .before .before .before .before .before .before .before .before .before .before .before .before .before .if1 in
+    let unprimed = c .before .before .before .before .before .before .before .before .before .before .before .before .unprimed in
+    let if2 = c .before .before .before .before .before .before .before .before .before .before .before .if2 in
+    let axis-of = c .before .before .before .before .before .before .before .before .before .before .axis-of in
+    let axis = c .before .before .before .before .before .before .before .before .axis in
+    let rotation-about = c .before .before .before .before .before .before .rotation-about in
+    let turn = c .before .before .before .before .turn in
+    let translation-of = c .before .before .translation-of in
+    rw (← spelt .ensures, not-false (spelt .result) (if1 .left), ← unprimed .ensures, not-false (unprimed .result) (if2 .left), ← axis-of .ensures, axis .given .1, ← rotation-about .ensures, turn .given .1, ← translation-of .ensures, c .enum-told3 .given .1)
+
+with-sign-requires : tie.Need-with-sign-requires
+with-sign-requires c κs = search needs
+
+returns-6 : tie.Need-returns-6
+unfolding readRun operationOfParts axisThen turnThen movedThen
+returns-6 c =
+    let args = c .before .before .before .before .before .before .before .before .before .before .before .before .before .before .before .before .before .before .args in
+    let spelt = c .before .before .before .before .before .before .before .before .before .before .before .before .before .before .before .before .spelt in
+    let if1 = c .before .before .before .before .before .before .before .before .before .before .before .before .before .before .before .if1 in
+    let unprimed = c .before .before .before .before .before .before .before .before .before .before .before .before .before .before .unprimed in
+    let if2 = c .before .before .before .before .before .before .before .before .before .before .before .before .before .if2 in
+    let axis-of = c .before .before .before .before .before .before .before .before .before .before .before .before .axis-of in
+    let axis = c .before .before .before .before .before .before .before .before .before .before .axis in
+    let rotation-about = c .before .before .before .before .before .before .before .before .rotation-about in
+    let turn = c .before .before .before .before .before .before .turn in
+    let translation-of = c .before .before .before .before .translation-of in
+    let translation = c .before .before .translation in
+    rw (← spelt .ensures, not-false (spelt .result) (if1 .left), ← unprimed .ensures, not-false (unprimed .result) (if2 .left), ← axis-of .ensures, axis .given .1, ← rotation-about .ensures, turn .given .1, ← translation-of .ensures, translation .given .1)
+    (ap (λ (r : Rotation). Operation (record { rotation = r; translation = translation .given .0 .0 }) (args .fold) (axis .given .0 .0)) (c .with-sign .ensures))
+
+pub after-letter-spec : {M : Type 1} → statement M
+after-letter-spec =
+    tie.close
+    (tie.spec
+    spelt-requires
+    returns
+    unprimed-requires
+    returns-2
+    axis-of-requires
+    enum-known-axis
+    enum-told
+    returns-3
+    rotation-about-requires
+    enum-known-turn
+    enum-told-2
+    returns-4
+    translation-of-requires
+    enum-known-translation
+    enum-told-3
+    returns-5
+    with-sign-requires
+    returns-6)

@@ -1,0 +1,105 @@
+-- The reader of one N token by 01, "From text to generators": the token cut into its parts, then refusals 5, 8, 6, 7 in this order, then the operation.
+use mathlib.Core.Bool.{Bool, true, false, cond}
+use mathlib.Core.List.{List, [], _∷_}
+use Prim.Native.Nat.{ℕ}
+use lib.Dec.{eqb}
+use Rattle.operation.specs.declared.Rotation.{Rotation}
+use Rattle.hall_token.specs.declared.Fold.{Fold}
+use Rattle.hall_token.specs.declared.FoldByte.{FoldByte}
+use Rattle.hall_token.specs.declared.FoldByte.the-variants.{Is, Other}
+use Rattle.hall_token.specs.declared.Mark.{Mark}
+use Rattle.hall_token.specs.declared.Mark.the-variants.{None, Single, Double}
+use Rattle.hall_token.specs.declared.Axis.{Axis}
+use Rattle.hall_token.specs.declared.AxisLetter.{AxisLetter}
+use Rattle.hall_token.specs.declared.AxisLetter.the-variants.{Along, Absent}
+use Rattle.hall_token.specs.declared.Previous.{Previous}
+use Rattle.hall_token.specs.declared.SettledAxis.{SettledAxis}
+use Rattle.hall_token.specs.declared.SettledAxis.the-variants.{Settled, Open}
+use Rattle.hall_token.specs.declared.Turn.{Turn}
+use Rattle.hall_token.specs.declared.Turn.the-variants.{Matrix, NoMatrix}
+use Rattle.hall_token.specs.declared.Moved.{Moved}
+use Rattle.hall_token.specs.declared.Moved.the-variants.{By, WrongDigit}
+use Rattle.hall_token.specs.declared.ParsedOperation.{ParsedOperation}
+use Rattle.hall_token.specs.declared.ParsedOperation.the-variants.{Operation, Misspelt, Primed, Unsettled, Digit}
+use Rattle.hall_token.specs.Bytes.{foldOf, markOf, letterOf}
+use Rattle.hall_token.specs.Axes.{axisOf}
+use Rattle.hall_token.specs.Matrices.{turnOf, signed}
+use Rattle.hall_token.specs.Runs.{mayStand, noPrime, every}
+use Rattle.hall_token.specs.Translations.{movedBy}
+
+-- 01's number for each case; an operation is no refusal and has 0.
+abbrev pub refusalNumber : ParsedOperation → ℕ
+refusalNumber (Operation o f a) = 0
+refusalNumber Misspelt = 5
+refusalNumber Unsettled = 6
+refusalNumber Digit = 7
+refusalNumber Primed = 8
+
+-- ---- the parts of a token, from the left
+
+-- A token's parts: whether a `-` stands first, fold, mark, letter and run. Or it is misspelt.
+pub data Parts : Type 0 where
+  parts : Bool → Fold → Mark → AxisLetter → List ℕ → Parts
+  no-parts : Parts
+
+unfoldable pub readRun : Bool → Fold → Mark → AxisLetter → List ℕ → Parts
+readRun n f m l run = cond (every mayStand run) (parts n f m l run) no-parts
+
+-- After the mark: a letter x y z `*` or none, where the byte b stands at the front of what is left.
+unfoldable pub letterThen : Bool → Fold → Mark → AxisLetter → ℕ → List ℕ → Parts
+letterThen n f m (Along d) b bs = readRun n f m (Along d) bs
+letterThen n f m Absent b bs = readRun n f m Absent (b ∷ bs)
+
+unfoldable pub readLetter : Bool → Fold → Mark → List ℕ → Parts
+readLetter n f m [] = readRun n f m Absent []
+readLetter n f m (b ∷ bs) = letterThen n f m (letterOf b) b bs
+
+-- After the fold: a mark `^` or `=`, or none.
+unfoldable pub markThen : Bool → Fold → Mark → ℕ → List ℕ → Parts
+markThen n f None b bs = readLetter n f None (b ∷ bs)
+markThen n f Single b bs = readLetter n f Single bs
+markThen n f Double b bs = readLetter n f Double bs
+
+unfoldable pub readMark : Bool → Fold → List ℕ → Parts
+readMark n f [] = readLetter n f None []
+readMark n f (b ∷ bs) = markThen n f (markOf b) b bs
+
+-- After the sign: the fold, which must be there.
+unfoldable pub foldThen : Bool → FoldByte → List ℕ → Parts
+foldThen n (Is f) bs = readMark n f bs
+foldThen n Other bs = no-parts
+
+unfoldable pub readFold : Bool → List ℕ → Parts
+readFold n [] = no-parts
+readFold n (b ∷ bs) = foldThen n (foldOf b) bs
+
+-- An optional `-` first.
+unfoldable pub readToken : List ℕ → Parts
+readToken [] = no-parts
+readToken (b ∷ bs) = cond (eqb b 45) (readFold true bs) (readFold false (b ∷ bs))
+
+-- ---- what the parts say
+
+-- With a matrix: refused 7 for a wrong digit, or the operation with its fold and axis.
+unfoldable pub movedThen : Bool → Fold → Axis → Rotation → Moved → ParsedOperation
+movedThen n f a r (By t) = Operation (record { rotation = signed n r; translation = t }) f a
+movedThen n f a r WrongDigit = Digit
+
+-- With an axis: refused 6 if the fold has no matrix about it.
+unfoldable pub turnThen : Bool → Fold → Axis → List ℕ → Turn → ParsedOperation
+turnThen n f a run (Matrix r) = movedThen n f a r (movedBy f a run)
+turnThen n f a run NoMatrix = Unsettled
+
+-- Refused 6 if the axis is not settled.
+unfoldable pub axisThen : Bool → Fold → List ℕ → SettledAxis → ParsedOperation
+axisThen n f run (Settled a) = turnThen n f a run (turnOf f a)
+axisThen n f run Open = Unsettled
+
+-- Misspelt tokens are refused 5 before all, then primed ones 8.
+unfoldable pub operationOfParts : Parts → Previous → ParsedOperation
+operationOfParts (parts n f m l run) p = cond (every noPrime run) (axisThen n f run (axisOf f m l p)) Primed
+operationOfParts no-parts p = Misspelt
+
+-- The answer to one N token, given what stands to its left.
+unfoldable pub operationToken : List ℕ → Previous → ParsedOperation
+operationToken token p = operationOfParts (readToken token) p

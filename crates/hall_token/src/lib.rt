@@ -1,0 +1,207 @@
+// One N token of a Hall symbol, read into an operation with its fold and axis, or refused.
+// Ported from data/hall_symbol.rs of moyo 0.21.0 (`parse_operation`, `parse_rotation_matrix`, `parse_translation_vector`), and changed: enums for
+// strings, twelfths for f64, refusals for panics and for what the Rust lets pass.
+
+ghost use mathlib.Core.Path.{_≡_};
+ghost use mathlib.Core.Bool.{Bool};
+ghost use Rattle.hall_token.specs.Reader.{operationToken, operationOfParts, readFold, readMark, readLetter, readRun};
+
+mod axes;
+mod bytes;
+mod matrices;
+mod translations;
+
+use axes::axis_of;
+use bytes::fold_of;
+use bytes::letter_of;
+use bytes::mark_of;
+use matrices::rotation_about;
+use matrices::with_sign;
+use operation::Rotation;
+use operation::Translation;
+use translations::spelt;
+use translations::translation_of;
+use translations::unprimed;
+
+pub enum Fold {
+    One,
+    Two,
+    Three,
+    Four,
+    Six,
+}
+
+// No mark, `^` (p in the Rust), `=` (pp in the Rust).
+pub enum Mark {
+    None,
+    Single,
+    Double,
+}
+
+// Diagonal is `*`, the direction a+b+c.
+pub enum Direction {
+    X,
+    Y,
+    Z,
+    Diagonal,
+}
+
+pub struct Axis {
+    pub mark: Mark,
+    pub direction: Direction,
+}
+
+// What stands to the left of an N token: how many N tokens, and the last one's fold and axis, which mean nothing where there is none.
+pub struct Previous {
+    pub count: usize,
+    pub fold: Fold,
+    pub axis: Axis,
+}
+
+// An operation with its fold and axis, or one of the refusals 5, 8, 6, 7 of 01 in the order in which they go.
+pub enum ParsedOperation {
+    Operation(operation::Operation, Fold, Axis),
+    Misspelt,
+    Primed,
+    Unsettled,
+    Digit,
+}
+
+// The fold that a byte spells, if it spells one.
+pub enum FoldByte {
+    Is(Fold),
+    Other,
+}
+
+// The letter of an axis, where one is written.
+pub enum AxisLetter {
+    Along(Direction),
+    Absent,
+}
+
+// What a byte of a token's run says: a screw's digit, a letter's translation, time reversal, or nothing that may stand there.
+pub enum RunByte {
+    Screw(u8),
+    Letter(Translation),
+    Prime,
+    Foreign,
+}
+
+// The place of a token among the N tokens.
+pub enum Place {
+    First,
+    Second,
+    Third,
+    Later,
+}
+
+pub enum SettledAxis {
+    Settled(Axis),
+    Open,
+}
+
+// The rotation of a fold about an axis, if there is one among the twenty.
+pub enum Turn {
+    Matrix(Rotation),
+    NoMatrix,
+}
+
+// The translation of a run, or a digit where none may stand.
+pub enum Moved {
+    By(Translation),
+    WrongDigit,
+}
+
+pub fn parse_operation(token: &[u8], previous: Previous) -> ParsedOperation
+    ensures { λ r. ⌜ r ≡ operationToken (now (token .entry)) previous ⌝ }
+{
+    if token.len() == 0 {
+        return ParsedOperation::Misspelt;
+    }
+    if token[0] == b'-' {
+        return after_sign(&token[1..], true, previous);
+    }
+    after_sign(token, false, previous)
+}
+
+fn after_sign(token: &[u8], negative: bool, previous: Previous) -> ParsedOperation
+    ensures { λ r. ⌜ r ≡ operationOfParts (readFold negative (now (token .entry))) previous ⌝ }
+{
+    if token.len() == 0 {
+        return ParsedOperation::Misspelt;
+    }
+    let FoldByte::Is(fold) = fold_of(token[0]) else {
+        return ParsedOperation::Misspelt;
+    };
+    after_fold(&token[1..], negative, fold, previous)
+}
+
+fn after_fold(token: &[u8], negative: bool, fold: Fold, previous: Previous) -> ParsedOperation
+    ensures { λ r. ⌜ r ≡ operationOfParts (readMark negative fold (now (token .entry))) previous ⌝ }
+{
+    if token.len() == 0 {
+        return after_mark(token, negative, fold, Mark::None, previous);
+    }
+    let mark = mark_of(token[0]);
+    match mark {
+        Mark::None => after_mark(token, negative, fold, Mark::None, previous),
+        Mark::Single => after_mark(&token[1..], negative, fold, Mark::Single, previous),
+        Mark::Double => after_mark(&token[1..], negative, fold, Mark::Double, previous),
+    }
+}
+
+fn after_mark(
+    token: &[u8],
+    negative: bool,
+    fold: Fold,
+    mark: Mark,
+    previous: Previous,
+) -> ParsedOperation
+    ensures { λ r. ⌜ r ≡ operationOfParts (readLetter negative fold mark (now (token .entry))) previous ⌝ }
+{
+    if token.len() == 0 {
+        return after_letter(token, negative, fold, mark, AxisLetter::Absent, previous);
+    }
+    let letter = letter_of(token[0]);
+    if let AxisLetter::Absent = letter {
+        return after_letter(token, negative, fold, mark, AxisLetter::Absent, previous);
+    }
+    after_letter(&token[1..], negative, fold, mark, letter, previous)
+}
+
+// What is left is the run. The refusals go in 01's order: 5, 8, 6, 7.
+fn after_letter(
+    run: &[u8],
+    negative: bool,
+    fold: Fold,
+    mark: Mark,
+    letter: AxisLetter,
+    previous: Previous,
+) -> ParsedOperation
+    ensures { λ r. ⌜ r ≡ operationOfParts (readRun negative fold mark letter (now (run .entry))) previous ⌝ }
+{
+    if !spelt(run) {
+        return ParsedOperation::Misspelt;
+    }
+    if !unprimed(run) {
+        return ParsedOperation::Primed;
+    }
+    let SettledAxis::Settled(axis) = axis_of(fold, mark, letter, previous) else {
+        return ParsedOperation::Unsettled;
+    };
+    let Turn::Matrix(turn) = rotation_about(fold, axis) else {
+        return ParsedOperation::Unsettled;
+    };
+    let Moved::By(translation) = translation_of(fold, axis, run) else {
+        return ParsedOperation::Digit;
+    };
+    let rotation = with_sign(negative, turn);
+    ParsedOperation::Operation(
+        operation::Operation {
+            rotation,
+            translation,
+        },
+        fold,
+        axis,
+    )
+}

@@ -1,0 +1,38 @@
+-- What the answer's case says, read off the definition of the way back.
+use mathlib.Core.Path.{sym, _∙_, ap}
+use Rattle.operation.specs.Doubles.{gridAnswer}
+use Rattle.off_grid.specs.Component.{offGridIndex}
+use borrow.Author.Needs.{needs}
+use Rattle.off_grid.proofs.off_grid_index.Statement.{statement}
+use Rattle.off_grid.proofs.off_grid_index.Tie as tie
+use Rattle.off_grid.proofs.off_grid_index.Reads as reads
+use Rattle.off_grid.proofs.off_grid_index.Lts as lts
+use Rattle.operation.proofs.doubles.from_doubles.Reads as from-doubles-reads
+
+-- src/lib.rt:16:11
+from-doubles-requires : tie.Need-from-doubles-requires
+from-doubles-requires c κs = search needs
+
+-- src/lib.rt:17:30
+enum-told : tie.Need-enum-told
+enum-told c = search needs
+
+-- src/lib.rt:19:13
+enum-known-index : tie.Need-enum-known-index
+enum-known-index c = search needs
+
+-- src/lib.rt:12:1
+returns : tie.Need-returns
+unfolding gridAnswer
+returns c =
+    ap (offGridIndex) (sym (ap gridAnswer (c .enum-told .given .1)) ∙ c .before .before .from-doubles .ensures)
+
+-- src/lib.rt:12:1
+returns-2 : tie.Need-returns-2
+unfolding gridAnswer
+returns-2 c =
+    ap (offGridIndex) (sym (ap gridAnswer (c .before .index .given .1)) ∙ c .before .before .before .from-doubles .ensures)
+
+pub off-grid-index-spec : {M : Type 1} → statement M
+off-grid-index-spec =
+    tie.close (tie.spec from-doubles-requires enum-told enum-known-index returns returns-2)

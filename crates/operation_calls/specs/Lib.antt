@@ -1,0 +1,2 @@
+-- How the test library packs a symbol's group into numbers.
+pub mod Packed

@@ -1,0 +1,90 @@
+-- The invariant: the place is that in what is left, plus what was passed.
+use mathlib.Core.Path.{_≡_, sym, ap, _∙_}
+use Prim.Native.Nat.{ℕ, _≤_, _-_, _+_}
+use native.Mathlib.Omega.{arith}
+use lib.Dec.{eqb}
+use lib.ListN.{length, take, drop}
+use lib.Seq.{getD-take, length-take-le}
+use Rattle.laws.specs.Growth.{place}
+use Rattle.space_group.specs.Places.{place-hit, place-miss, place-end}
+use Rattle.space_group.proofs.traverse.place_of.Statement.{statement}
+use Rattle.space_group.proofs.traverse.place_of.Tie as tie
+use Rattle.space_group.proofs.traverse.place_of.Reads as reads
+use Rattle.space_group.proofs.traverse.place_of.Lts as lts
+
+abbrev Inv-loop : tie.InvT-loop
+Inv-loop codes count code i₀ i = (i ≤ count) × (place eqb code (take count codes) ≡ i + place eqb code (drop i (take count codes)))
+
+abbrev μ-loop : tie.MeasureT-loop
+μ-loop codes count code i₀ i = count - i
+
+-- as many codes as are looked at
+length-of : (c : tie.Start Inv-loop μ-loop) → length (take (c .args .count) (c .args .codes .now)) ≡ c .args .count
+length-of c = length-take-le (c .args .count) (c .args .codes .now) (omega arith)
+
+-- src/traverse.rt:37:9
+loop-holds : tie.Need-loop-holds Inv-loop μ-loop
+loop-holds c = omega arith
+
+-- src/traverse.rt:41:12
+mul-if2 : tie.Need-mul-if2 Inv-loop μ-loop
+mul-if2 c = omega arith
+
+-- src/traverse.rt:41:12
+shared-slice-read-if2 : tie.Need-shared-slice-read-if2 Inv-loop μ-loop
+shared-slice-read-if2 c = omega arith
+
+-- src/traverse.rt:44:9
+add-i : tie.Need-add-i Inv-loop μ-loop
+add-i c = omega arith
+
+-- src/traverse.rt:37:9
+loop-less : tie.Need-loop-less Inv-loop μ-loop
+loop-less c = omega arith
+
+-- src/traverse.rt:37:9
+loop-again : tie.Need-loop-again Inv-loop μ-loop
+loop-again c =
+    let a = c .before .before .before .before .args in
+    let i = c .before .before .before .loop .i in
+    let s = take (a .count) (a .codes .now) in
+    let long : length s ≡ a .count = length-of (c .before .before .before .before) in
+    let e = getD-take (a .count) (a .codes .now) i 0 (omega arith) in
+    let miss = place-miss (a .code) s i (omega arith) (λ h. c .if2 .left (sym e ∙ h)) in
+    omega arith
+
+-- src/traverse.rt:32:1
+returns : tie.Need-returns Inv-loop μ-loop
+returns c =
+    let a = c .before .before .args in
+    let s = take (a .count) (a .codes .now) in
+    let long : length s ≡ a .count = length-of (c .before .before) in
+    let all : c .before .loop .i ≡ length s = omega arith in
+    let at-end = ap (λ (i : ℕ). place eqb (a .code) (drop i s)) all ∙ place-end (a .code) s in
+    omega arith
+
+-- src/traverse.rt:32:1
+returns-2 : tie.Need-returns-2 Inv-loop μ-loop
+returns-2 c =
+    let a = c .before .before .before .before .args in
+    let i = c .before .before .before .loop .i in
+    let s = take (a .count) (a .codes .now) in
+    let long : length s ≡ a .count = length-of (c .before .before .before .before) in
+    let e = getD-take (a .count) (a .codes .now) i 0 (omega arith) in
+    let hit = place-hit (a .code) s i (omega arith) (e ∙ c .if2 .taken) in
+    omega arith
+
+pub place-of-spec : {M : Type 1} → statement M
+place-of-spec =
+    tie.close
+    (tie.spec
+    Inv-loop
+    μ-loop
+    loop-holds
+    mul-if2
+    shared-slice-read-if2
+    add-i
+    loop-less
+    loop-again
+    returns
+    returns-2)

@@ -1,0 +1,18 @@
+-- The identity in every slot.
+use borrow.Author.Needs.{needs}
+use Rattle.symbol_group.proofs.refused.Statement.{statement}
+use Rattle.symbol_group.proofs.refused.Tie as tie
+use Rattle.symbol_group.proofs.refused.Reads as reads
+use Rattle.symbol_group.proofs.refused.Lts as lts
+use Rattle.operation.proofs.product.identity.Reads as identity-reads
+
+-- src/lib.rt:58:9
+identity-requires : tie.Need-identity-requires
+identity-requires c κs = search needs
+
+-- src/lib.rt:55:1
+returns : tie.Need-returns
+returns c = rw (c .identity .ensures)
+
+pub refused-spec : {M : Type 1} → statement M
+refused-spec = tie.close (tie.spec identity-requires returns)
