@@ -58,9 +58,10 @@ module _ (n : ℕ) (_·_ : ℕ → ℕ → ℕ) (e h : ℕ) (G : Group n _·_ e)
   -- the normalizer holds the elements that conjugate the subgroup to itself
   pub normalizer-member : (g : ℕ) → g < n → (member (normalizerOf n _·_ e h) g ≡ true) ↔ (conjugateOf n _·_ e h g ≡ h)
   unfolding normalizerOf
-  normalizer-member g l =
-      (λ m. eqb-true _ _ (sym (member-setOf n (λ g. eqb (conjugateOf n _·_ e h g) h) g l) ∙ m),
-        λ q. member-setOf n (λ g. eqb (conjugateOf n _·_ e h g) h) g l ∙ eq-eqb _ _ q)
+  normalizer-member g l = (
+    λ m. eqb-true _ _ (sym (member-setOf n (λ g. eqb (conjugateOf n _·_ e h g) h) g l) ∙ m),
+    λ q. member-setOf n (λ g. eqb (conjugateOf n _·_ e h g) h) g l ∙ eq-eqb _ _ q,
+  )
 
   -- it is a set of elements
   pub normalizer-below : normalizerOf n _·_ e h < 2 ^ n
@@ -72,7 +73,7 @@ module _ (n : ℕ) (_·_ : ℕ → ℕ → ℕ) (e h : ℕ) (G : Group n _·_ e)
   normalizer-subgroup = closed-set n _·_ e G (normalizerOf n _·_ e h) normalizer-below
       (normalizer-member e (G .identity-below) .1 (conjugate-set-by-identity n _·_ e G h (H .small)))
       (λ x y i j.
-        let k = member-below n (normalizerOf n _·_ e h) x normalizer-below i in
-        let l = member-below n (normalizerOf n _·_ e h) y normalizer-below j in
-        normalizer-member (x · y) (G .product-below x y k l) .1
-        (sym (conjugate-set-twice n _·_ e G h x y (H .small) k l) ∙ ap (λ (s : ℕ). conjugateOf n _·_ e s y) (normalizer-member x k .0 i) ∙ normalizer-member y l .0 j))
+      let k = member-below n (normalizerOf n _·_ e h) x normalizer-below i in
+      let l = member-below n (normalizerOf n _·_ e h) y normalizer-below j in
+      normalizer-member (x · y) (G .product-below x y k l) .1
+      (sym (conjugate-set-twice n _·_ e G h x y (H .small) k l) ∙ ap (λ (s : ℕ). conjugateOf n _·_ e s y) (normalizer-member x k .0 i) ∙ normalizer-member y l .0 j))

@@ -46,7 +46,7 @@ fn first_off(c: Centering, n: usize, generators: [Operation; 9]) -> usize
 }
 
 // The group that n generators make.
-pub fn group_of(c: Centering, n: usize, generators: [Operation; 9]) -> SpaceGroup
+pub(crate) fn group_of(c: Centering, n: usize, generators: [Operation; 9]) -> SpaceGroup
     requires { ⌜ n ≤ 9 ⌝ }
     ensures { λ r. ⌜ r ≡ answerOf c n (outcomeOf c (take n generators)) ⌝ }
 {

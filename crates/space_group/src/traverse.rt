@@ -85,7 +85,7 @@ fn overgrown() -> Grown
     }
 }
 
-pub fn traverse(c: Centering, n: usize, generators: [Operation; 9]) -> Grown
+pub(crate) fn traverse(c: Centering, n: usize, generators: [Operation; 9]) -> Grown
     requires { ⌜ n ≤ 9 ⌝ }
     ensures { λ r. ⌜ r ≡ grownOf (growth c (take n generators)) ⌝ }
 {
