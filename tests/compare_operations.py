@@ -1,11 +1,12 @@
 #!/usr/bin/env python3
 """Holds the port's groups to the recorded answers of the Rust and to the model of the rules, and to the Rust itself where a harness is given.
 
-    python3 tests/compare_operations.py PORT [--random COUNT] [--harness HARNESS] [--emulator COMMAND]
+    python3 tests/compare_operations.py PORT [--random COUNT] [--harness HARNESS [--shifted] [--beside COUNT]] [--emulator COMMAND]
 
 PORT is the program made from tests/operations.c. Every recorded symbol must be refused as the model refuses it, or have the operations
 of oracle/recorded/operations.txt, in their order and with the bits of their doubles. With --random that many random and damaged symbols
-are asked too, and those that the port accepts are compared with the Rust's own lists. Prints 'N passed, M failed'.
+are asked too, and those that the port accepts are compared with the Rust's own lists; with --shifted so are all 69,120 symbols of one N
+token, every sign and matrix under every shift, and with --beside the accepted ones of that many more random symbols. Prints 'N passed, M failed'.
 """
 
 import argparse
@@ -21,6 +22,7 @@ import model
 
 RECORDED = os.path.join(os.path.dirname(os.path.abspath(cases.__file__)), "recorded")
 RANDOM_SEED = 11
+BESIDE_SEED = 23
 
 
 def lines(name):
@@ -69,12 +71,14 @@ def main(arguments):
     parser.add_argument("port")
     parser.add_argument("--random", type=int, default=0)
     parser.add_argument("--harness")
+    parser.add_argument("--shifted", action="store_true")
+    parser.add_argument("--beside", type=int, default=0)
     parser.add_argument("--emulator", default="")
     options = parser.parse_args(arguments)
     port = options.emulator.split() + [options.port]
     expected = {text: said for text, said in recorded().items() if len(text) < 256}
+    database = [model.text_of_hex(word) for word, _ in lines("symbols.txt")[:530]]
     if options.random:
-        database = [model.text_of_hex(word) for word, _ in lines("symbols.txt")[:530]]
         for text in cases.damaged_symbols(database, options.random, RANDOM_SEED):
             if len(text) < 256:
                 expected.setdefault(text, said_by_model(text))
@@ -89,6 +93,9 @@ def main(arguments):
         else:
             failed += 1
             print("%r: the port says %s, expected %s" % (text, said[:80], expected[text][:80]))
+    more = list(cases.shifted_symbols()) if options.shifted else []
+    more += [text for text in cases.damaged_symbols(database, options.beside, BESIDE_SEED) if len(text) < 256]
+    accepted += [(text, said) for text, said in zip(more, said_by_port(port, more), strict=True) if said.startswith("0 ")]
     if options.harness:
         answers = compare.ask(options.harness, ["operations " + compare.hex_of(text) for text, _ in accepted])
         for (text, said), answer in zip(accepted, answers, strict=True):
