@@ -1,17 +1,16 @@
 -- What the list of conjugates, their conjugators and a normalizer are, in the words of group theory (document 01, "Tables and subgroups").
-use mathlib.Core.Path.{_≡_, refl, sym, ap, _∙_, subst}
-use mathlib.Core.Logic.{_⊎_, inl, inr, _↔_}
-use mathlib.Core.Bool.{Bool, true, false}
-use mathlib.Core.List.{List, _∷_, List·Memᴰ as Mem, List·Memᴰ·head as here, List·Memᴰ·tail as there, List·Memᴰ·cases-cons as cases}
+use mathlib.Core.Path.{_≡_, sym, ap, _∙_}
+use mathlib.Core.Logic.{inl, inr, _↔_}
+use mathlib.Core.Bool.{true}
+use mathlib.Core.List.{List·Memᴰ as Mem, List·Memᴰ·head as here, List·Memᴰ·tail as there, List·Memᴰ·cases-cons as cases}
 use Prim.Native.Nat.{ℕ, _^_, _<_}
 use native.Mathlib.Decide.{ℕ-discrete}
-use native.Mathlib.Omega.{arith}
 use lib.Dec.{eqb}
 use borrow.Author.Tests.{eq-eqb, eqb-true, eqb-false}
 use Rattle.laws.specs.ListOrder.{Precedes}
-use Rattle.laws.specs.Sets.{member, member-below, setOf, setOf-below, member-setOf}
+use Rattle.laws.specs.Sets.{member, member-below, setOf-below, member-setOf}
 use Rattle.laws.specs.Sorted.{Sorted}
-use Rattle.finite_group.specs.Bounded.{FirstPassing, first-least}
+use Rattle.finite_group.specs.Bounded.{first-least}
 use Rattle.finite_group.specs.ConjugateLoop.{other-conjugate, conjugate-other}
 use Rattle.finite_group.specs.Conjugates.{isOther, othersOf, conjugatesOf, conjugatorOf}
 use Rattle.finite_group.specs.Conjugation.{conjugate-below, conjugate-set-by-identity, conjugate-set-twice}
@@ -43,6 +42,7 @@ module _ (n : ℕ) (_·_ : ℕ → ℕ → ℕ) (e h : ℕ) (G : Group n _·_ e)
   unfolding othersOf
   others-sorted = listed-sorted n (isOther n _·_ e h)
 
+  -- the subgroup is not among them
   pub others-other : (s : ℕ) → Mem s (othersOf n _·_ e h) → s ≡ h → ⊥
   unfolding othersOf
   others-other s m = let (g, l, q, d) = other-conjugate n _·_ e h G H s (listed-passes n (isOther n _·_ e h) s m .1) in d
@@ -58,9 +58,10 @@ module _ (n : ℕ) (_·_ : ℕ → ℕ → ℕ) (e h : ℕ) (G : Group n _·_ e)
   -- the normalizer holds the elements that conjugate the subgroup to itself
   pub normalizer-member : (g : ℕ) → g < n → (member (normalizerOf n _·_ e h) g ≡ true) ↔ (conjugateOf n _·_ e h g ≡ h)
   unfolding normalizerOf
-  normalizer-member g l =
-      (λ m. eqb-true _ _ (sym (member-setOf n (λ g. eqb (conjugateOf n _·_ e h g) h) g l) ∙ m),
-        λ q. member-setOf n (λ g. eqb (conjugateOf n _·_ e h g) h) g l ∙ eq-eqb _ _ q)
+  normalizer-member g l = (
+    λ m. eqb-true _ _ (sym (member-setOf n (λ g. eqb (conjugateOf n _·_ e h g) h) g l) ∙ m),
+    λ q. member-setOf n (λ g. eqb (conjugateOf n _·_ e h g) h) g l ∙ eq-eqb _ _ q,
+  )
 
   -- it is a set of elements
   pub normalizer-below : normalizerOf n _·_ e h < 2 ^ n
@@ -72,7 +73,7 @@ module _ (n : ℕ) (_·_ : ℕ → ℕ → ℕ) (e h : ℕ) (G : Group n _·_ e)
   normalizer-subgroup = closed-set n _·_ e G (normalizerOf n _·_ e h) normalizer-below
       (normalizer-member e (G .identity-below) .1 (conjugate-set-by-identity n _·_ e G h (H .small)))
       (λ x y i j.
-        let k = member-below n (normalizerOf n _·_ e h) x normalizer-below i in
-        let l = member-below n (normalizerOf n _·_ e h) y normalizer-below j in
-        normalizer-member (x · y) (G .product-below x y k l) .1
-        (sym (conjugate-set-twice n _·_ e G h x y (H .small) k l) ∙ ap (λ (s : ℕ). conjugateOf n _·_ e s y) (normalizer-member x k .0 i) ∙ normalizer-member y l .0 j))
+      let k = member-below n (normalizerOf n _·_ e h) x normalizer-below i in
+      let l = member-below n (normalizerOf n _·_ e h) y normalizer-below j in
+      normalizer-member (x · y) (G .product-below x y k l) .1
+      (sym (conjugate-set-twice n _·_ e G h x y (H .small) k l) ∙ ap (λ (s : ℕ). conjugateOf n _·_ e s y) (normalizer-member x k .0 i) ∙ normalizer-member y l .0 j))

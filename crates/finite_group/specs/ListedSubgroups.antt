@@ -1,20 +1,19 @@
 -- What the lists of subgroups and of class representatives hold, in the words of group theory (document 01, "Tables and subgroups").
 use mathlib.Core.Path.{_≡_, refl, sym, ap, _∙_, subst}
-use mathlib.Core.Logic.{_⊎_, inl, inr, _↔_}
+use mathlib.Core.Logic.{inl, inr, _↔_}
 use mathlib.Core.Bool.{Bool, true, false, true≢false}
 use mathlib.Core.List.{List, List·Memᴰ as Mem}
-use Prim.Native.Nat.{ℕ, zero, suc, _+_, _^_, _<_}
+use Prim.Native.Nat.{ℕ, zero, suc, _^_, _<_}
 use native.Mathlib.Numerals.{add-one}
 use native.Mathlib.Omega.{arith}
 use native.Mathlib.Decide.{ℕ-discrete}
-use lib.ListN.{length}
 use Rattle.laws.specs.ListOrder.{Precedes, precedes-total, earlier, earlier-precedes, precedes-earlier}
 use Rattle.laws.specs.Sets.{member, member-below, setOf, setOf-below, member-setOf}
 use Rattle.laws.specs.Sorted.{Sorted}
 use Rattle.finite_group.specs.Bounded.{passes-or-fails}
 use Rattle.finite_group.specs.Conjugation.{conjugate-below, conjugate-set-back, inverse-below}
 use Rattle.finite_group.specs.Groups.{Group, inverseOf}
-use Rattle.finite_group.specs.Listing.{listed, listed-passes, passes-listed, listed-sorted, listed-unique}
+use Rattle.finite_group.specs.Listing.{listed-passes, passes-listed, listed-sorted, listed-unique}
 use Rattle.finite_group.specs.Lists.{chosen, Chosen, chosen-passes, passes-chosen, subgroupsOf, representativesOf}
 use Rattle.finite_group.specs.Representatives.{FirstConjugate, first-start, first-kept, first-taken, first-represented}
 use Rattle.finite_group.specs.SubgroupLaws.{closed-set}
@@ -34,20 +33,21 @@ module _ (n : ℕ) (_·_ : ℕ → ℕ → ℕ) (e : ℕ) where
     choice-subgroup choice C = closed-set n _·_ e G (setOf n choice) (setOf-below n choice)
         (member-setOf n choice e (G .identity-below) ∙ C .holds-identity)
         (λ x y i j.
-          let h = member-below n (setOf n choice) x (setOf-below n choice) i in
-          let k = member-below n (setOf n choice) y (setOf-below n choice) j in
-          member-setOf n choice (x · y) (G .product-below x y h k)
-          ∙ C .holds-products x y h k (sym (member-setOf n choice x h) ∙ i) (sym (member-setOf n choice y k) ∙ j))
+        let h = member-below n (setOf n choice) x (setOf-below n choice) i in
+        let k = member-below n (setOf n choice) y (setOf-below n choice) j in
+        member-setOf n choice (x · y) (G .product-below x y h k)
+        ∙ C .holds-products x y h k (sym (member-setOf n choice x h) ∙ i) (sym (member-setOf n choice y k) ∙ j))
 
     -- every subset of the elements that is a subgroup is listed: a listed number has exactly its members
     pub every-subgroup : (choice : ℕ → Bool) → SubgroupChoice choice
         → (s : ℕ) × Mem s (subgroupsOf n _·_ e) × ((i : ℕ) → i < n → member s i ≡ choice i)
     unfolding subgroupsOf
-    every-subgroup choice C =
-        (setOf n choice,
-          passes-listed n (chosen n _·_ e false) (setOf n choice) (setOf-below n choice)
-            (passes-chosen n _·_ e G false (setOf n choice) (record { subgroup = choice-subgroup choice C; first = λ q. absurd (true≢false (sym q)) })),
-          λ i h. member-setOf n choice i h)
+    every-subgroup choice C = (
+      setOf n choice,
+      passes-listed n (chosen n _·_ e false) (setOf n choice) (setOf-below n choice)
+          (passes-chosen n _·_ e G false (setOf n choice) (record { subgroup = choice-subgroup choice C; first = λ q. absurd (true≢false (sym q)) })),
+      λ i h. member-setOf n choice i h,
+    )
 
     -- nothing else is listed
     pub only-subgroups : (s : ℕ) → Mem s (subgroupsOf n _·_ e) → Subgroup n _·_ e s
@@ -72,9 +72,10 @@ module _ (n : ℕ) (_·_ : ℕ → ℕ → ℕ) (e : ℕ) where
     -- a representative is a subgroup of which no conjugate stands before it, and each such subgroup is one
     pub representatives : (s : ℕ) → Mem s (representativesOf n _·_ e) ↔ Chosen n _·_ e true s
     unfolding representativesOf
-    representatives s =
-        (λ m. chosen-passes n _·_ e G true s (listed-passes n (chosen n _·_ e true) s m .1),
-          λ C. passes-listed n (chosen n _·_ e true) s (C .subgroup .small) (passes-chosen n _·_ e G true s C))
+    representatives s = (
+      λ m. chosen-passes n _·_ e G true s (listed-passes n (chosen n _·_ e true) s m .1),
+      λ C. passes-listed n (chosen n _·_ e true) s (C .subgroup .small) (passes-chosen n _·_ e G true s C),
+    )
 
     -- the classes follow the list order
     pub representatives-sorted : Sorted Precedes (representativesOf n _·_ e)
@@ -87,10 +88,16 @@ module _ (n : ℕ) (_·_ : ℕ → ℕ → ℕ) (e : ℕ) where
     first-of s small (suc g) =
         let (r, F) = first-of s small g in
         elim (passes-or-fails (earlier n (conjugateOf n _·_ e s g) r)) [
-          | inl t ↦ (conjugateOf n _·_ e s g, λ h. subst (λ (i : ℕ). FirstConjugate n _·_ e s i (conjugateOf n _·_ e s g)) (add-one g)
-              (first-taken n _·_ e G s g r (omega arith) (F (omega arith)) (earlier-precedes n _ r t)))
-          | inr t ↦ (r, λ h. subst (λ (i : ℕ). FirstConjugate n _·_ e s i r) (add-one g)
-              (first-kept n _·_ e G s g r (F (omega arith)) (λ p. true≢false (sym (precedes-earlier n _ r (conjugate-below n _·_ e G s g) p) ∙ t))))
+          | inl t ↦ (
+            conjugateOf n _·_ e s g,
+            λ h. subst (λ (i : ℕ). FirstConjugate n _·_ e s i (conjugateOf n _·_ e s g)) (add-one g)
+                (first-taken n _·_ e G s g r (omega arith) (F (omega arith)) (earlier-precedes n _ r t)),
+          )
+          | inr t ↦ (
+            r,
+            λ h. subst (λ (i : ℕ). FirstConjugate n _·_ e s i r) (add-one g)
+                (first-kept n _·_ e G s g r (F (omega arith)) (λ p. true≢false (sym (precedes-earlier n _ r (conjugate-below n _·_ e G s g) p) ∙ t))),
+          )
         ]
 
     -- each subgroup is conjugate to a representative
@@ -108,6 +115,6 @@ module _ (n : ℕ) (_·_ : ℕ → ℕ → ℕ) (e : ℕ) where
         | inl before ↦ absurd (representatives s .0 k .first refl g h (subst (λ (z : ℕ). Precedes z s) q before))
         | inr before ↦ absurd (representatives r .0 m .first refl (inverseOf n _·_ e g) (inverse-below n _·_ e G g h)
             (subst (λ (z : ℕ). Precedes z r)
-              (sym (conjugate-set-back n _·_ e G s g (representatives s .0 k .subgroup .small) h) ∙ ap (λ (z : ℕ). conjugateOf n _·_ e z (inverseOf n _·_ e g)) (sym q)) before))
+            (sym (conjugate-set-back n _·_ e G s g (representatives s .0 k .subgroup .small) h) ∙ ap (λ (z : ℕ). conjugateOf n _·_ e z (inverseOf n _·_ e g)) (sym q)) before))
       ]
     ]
