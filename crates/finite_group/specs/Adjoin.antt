@@ -1,16 +1,14 @@
 -- Adjoining an element g to a subgroup h: the set grows by right cosets h p. It is closed when each representative r of a coset was
 -- followed by g and by the members of h; then it is the least subgroup that holds h and g. The search for subgroups can have no use
 -- for a set that would hold an element below a bound that h does not hold, so such a set is given up early.
-use mathlib.Core.Path.{_≡_, refl, sym, ap, _∙_, subst}
+use mathlib.Core.Path.{_≡_, refl, sym, ap, _∙_}
 use mathlib.Core.Logic.{_⊎_, inl, inr}
-use mathlib.Core.Bool.{Bool, true, false, _||_, _&&_, cond, true≢false}
-use Prim.Native.Nat.{ℕ, suc, _+_, _^_, _%_, _<_, _≤_}
-use native.Mathlib.Decide.{ℕ-discrete, decLt}
+use mathlib.Core.Bool.{Bool, true, false, cond, true≢false}
+use Prim.Native.Nat.{ℕ, suc, _+_, _^_, _<_, _≤_}
 use native.Mathlib.Omega.{arith}
 use lib.Bits.{bitOr, or-lt}
 use lib.Count.{ones}
 use lib.Dec.{eqb}
-use lib.Pow.{pow-lt}
 use borrow.Author.Tests.{eq-eqb, eqb-true}
 use Rattle.laws.specs.Sets.{member, member-below, member-empty, member-singleton, bounded, member-or, with-member, Subset, setOf, setOf-below, member-setOf, or-new, ones-add, ones-proper}
 use Rattle.finite_group.specs.Bounded.{or-either, or-holds-left, or-holds-right, not-passing, every, passes-every, every-passes}
@@ -133,15 +131,19 @@ module _ (n : ℕ) (_·_ : ℕ → ℕ → ℕ) (e : ℕ) (h g : ℕ) where
         coset-new : member (cosetOf n _·_ e h p) p ≡ true
         coset-new = rw (G .left-identity p (F .below)) at (coset-holds e (H .holds-identity))
 
+        -- the set with the coset
         abbrev joined : ℕ
         joined = bitOr k (cosetOf n _·_ e h p)
 
+        -- it has the old members
         joined-old : Subset k joined
         joined-old x i = member-or k _ x ∙ or-holds-left _ _ i
 
+        -- and those of the coset
         joined-coset : (x : ℕ) → member (cosetOf n _·_ e h p) x ≡ true → member joined x ≡ true
         joined-coset x i = member-or k _ x ∙ or-holds-right (member k x) _ i
 
+        -- and no others
         joined-cases : (x : ℕ) → member joined x ≡ true → (member k x ≡ true) ⊎ (member (cosetOf n _·_ e h p) x ≡ true)
         joined-cases x i = or-either _ _ (sym (member-or k _ x) ∙ i)
 
@@ -233,6 +235,7 @@ module _ (n : ℕ) (_·_ : ℕ → ℕ → ℕ) (e : ℕ) (h g : ℕ) where
       unfoldable keepers : ℕ
       keepers = setOf n (λ u. every (λ x. cond (member k x) (member k (x · u)) true) n)
 
+      -- what keeps every member is among them
       keeper-passes : (u : ℕ) → u < n → ((x : ℕ) → member k x ≡ true → member k (x · u) ≡ true) → member keepers u ≡ true
       unfolding keepers
       keeper-passes u l f = member-setOf n _ u l ∙ passes-every _ n (λ x m. either (member k x) (f x))
@@ -241,10 +244,12 @@ module _ (n : ℕ) (_·_ : ℕ → ℕ → ℕ) (e : ℕ) (h g : ℕ) where
           either true f = f refl
           either false f = refl
 
+      -- they are elements
       keeper-below : (u : ℕ) → member keepers u ≡ true → u < n
       unfolding keepers
       keeper-below u i = member-below n keepers u (setOf-below n _) i
 
+      -- each of them keeps every member
       keeper-keeps : (u : ℕ) → member keepers u ≡ true → (x : ℕ) → member k x ≡ true → member k (x · u) ≡ true
       unfolding keepers
       keeper-keeps u i x m =

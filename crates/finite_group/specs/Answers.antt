@@ -1,5 +1,5 @@
 -- What each answer says: its number of document 01, its place, and its value.
-use mathlib.Core.Bool.{Bool, true, false, cond}
+use mathlib.Core.Bool.{cond}
 use mathlib.Core.List.{List, _++_}
 use Prim.Native.Nat.{ℕ, _/_}
 use lib.Count.{ones}
@@ -65,6 +65,7 @@ listBytes l b = cond (ltb (length b / 8) (length l)) (cleared b) (written l b)
 abbrev pub subgroupsAnswer : ℕ → List ℕ → List ℕ → Answer
 subgroupsAnswer n t b = onGroup (checkOf n t) (λ e. listAnswer (subgroupsOf n (product n t) e) b)
 
+-- and what the lent bytes hold then
 abbrev pub subgroupsBytes : ℕ → List ℕ → List ℕ → List ℕ
 subgroupsBytes n t b = onBytes (checkOf n t) b (λ e. listBytes (subgroupsOf n (product n t) e) b)
 
@@ -72,6 +73,7 @@ subgroupsBytes n t b = onBytes (checkOf n t) b (λ e. listBytes (subgroupsOf n (
 abbrev pub classesAnswer : ℕ → List ℕ → List ℕ → Answer
 classesAnswer n t b = onGroup (checkOf n t) (λ e. listAnswer (representativesOf n (product n t) e) b)
 
+-- and what the lent bytes hold then
 abbrev pub classesBytes : ℕ → List ℕ → List ℕ → List ℕ
 classesBytes n t b = onBytes (checkOf n t) b (λ e. listBytes (representativesOf n (product n t) e) b)
 
@@ -102,12 +104,15 @@ permutationBytes n times e s g b =
 abbrev pub conjugateEntry : ℕ → List ℕ → ℕ → ℕ → Answer
 conjugateEntry n t s g = onGroup (checkOf n t) (λ e. conjugateAnswer n (product n t) e s g)
 
+-- the normalizer on the group of a table
 abbrev pub normalizerEntry : ℕ → List ℕ → ℕ → Answer
 normalizerEntry n t s = onGroup (checkOf n t) (λ e. normalizerAnswer n (product n t) e s)
 
+-- the permutation on the group of a table
 abbrev pub permutationEntry : ℕ → List ℕ → ℕ → ℕ → List ℕ → Answer
 permutationEntry n t s g b = onGroup (checkOf n t) (λ e. permutationAnswer n (product n t) e s g b)
 
+-- and what the lent list holds then
 abbrev pub permutationList : ℕ → List ℕ → ℕ → ℕ → List ℕ → List ℕ
 permutationList n t s g b = onBytes (checkOf n t) b (λ e. permutationBytes n (product n t) e s g b)
 
@@ -132,8 +137,10 @@ conjugatorsBytes n times e s b c =
 abbrev pub conjugatesEntry : ℕ → List ℕ → ℕ → List ℕ → List ℕ → Answer
 conjugatesEntry n t s b c = onGroup (checkOf n t) (λ e. conjugatesAnswer n (product n t) e s b c)
 
+-- and what the list of sets holds then
 abbrev pub conjugatesList : ℕ → List ℕ → ℕ → List ℕ → List ℕ → List ℕ
 conjugatesList n t s b c = onBytes (checkOf n t) b (λ e. conjugatesBytes n (product n t) e s b c)
 
+-- and the list of conjugators
 abbrev pub conjugatorsList : ℕ → List ℕ → ℕ → List ℕ → List ℕ → List ℕ
 conjugatorsList n t s b c = onBytes (checkOf n t) c (λ e. conjugatorsBytes n (product n t) e s b c)

@@ -1,10 +1,9 @@
 -- What a loop over the numbers below a bound decides: whether all of them pass a test, whether one of them does, and which is the first.
-use mathlib.Core.Path.{_≡_, refl, sym, ap, ap₂, _∙_}
+use mathlib.Core.Path.{_≡_, refl, sym, ap, _∙_}
 use mathlib.Core.Logic.{_⊎_, inl, inr}
-use mathlib.Core.Bool.{Bool, true, false, cond, not, _&&_, _||_, true≢false}
-use Prim.Native.Nat.{ℕ, zero, suc, _+_, _<_, _≤_}
+use mathlib.Core.Bool.{Bool, true, false, cond, _&&_, _||_, true≢false}
+use Prim.Native.Nat.{ℕ, zero, suc, _<_}
 use native.Mathlib.Decide.{ℕ-discrete, decLt}
-use native.Mathlib.Numerals.{add-one}
 use native.Mathlib.Omega.{arith}
 use lib.Dec.{ltb}
 use borrow.Author.Tests.{lt-ltb, le-ltb}
@@ -138,6 +137,7 @@ pub record FirstPassing (p : ℕ → Bool) (n i : ℕ) : Type 0 where
   pub passes : p i ≡ true
   pub before : (k : ℕ) → k < i → p k ≡ false
 
+-- one of the two holds
 pub first-cases : (p : ℕ → Bool) (n : ℕ) → FirstPassing p n (first p n) ⊎ ((first p n ≡ n) × ((k : ℕ) → k < n → p k ≡ false))
 unfolding first
 first-cases p zero = inr (refl, λ k h. absurd (omega arith))

@@ -1,6 +1,5 @@
 -- The conjugates of a subgroup (document 01, "Tables and subgroups"): the subgroup first with the identity as its conjugator, the others in list
 -- order, each with its smallest conjugator.
-use mathlib.Core.Path.{_≡_}
 use mathlib.Core.Bool.{Bool, not, _&&_}
 use mathlib.Core.List.{List, _∷_, map}
 use Prim.Native.Nat.{ℕ}

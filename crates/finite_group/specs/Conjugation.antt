@@ -1,35 +1,40 @@
 -- Conjugation: g⁻¹ x g is the one z with g z = x g. So conjugation by g and then by h is conjugation by g h, by the identity it changes
 -- nothing, and conjugates of subgroups are subgroups.
-use mathlib.Core.Path.{_≡_, refl, sym, ap, _∙_}
-use mathlib.Core.Bool.{Bool, true, false}
-use Prim.Native.Nat.{ℕ, _^_, _<_, _≤_}
+use mathlib.Core.Path.{_≡_, sym, ap, _∙_}
+use mathlib.Core.Bool.{true}
+use Prim.Native.Nat.{ℕ, _^_, _<_}
 use native.Mathlib.Omega.{arith}
 use lib.Count.{ones}
 use lib.Dec.{eqb}
-use Rattle.laws.specs.FiniteGroup.{cancel-left, cancel-right}
+use Rattle.laws.specs.FiniteGroup.{cancel-left}
 use Rattle.laws.specs.Sets.{member, member-below, Subset, subset-antisymmetric}
 use Rattle.finite_group.specs.Groups.{Group, inverseOf}
-use Rattle.finite_group.specs.GroupLaws.{TwoSidedInverse, group-inverse}
-use Rattle.finite_group.specs.Images.{image-below, image-holds, image-source, image-unique, image-ones}
+use Rattle.finite_group.specs.GroupLaws.{group-inverse}
+use Rattle.finite_group.specs.Images.{image-below, image-holds, image-source, image-ones}
 use Rattle.finite_group.specs.SubgroupLaws.{below-member, listed-group, closed-set}
-use Rattle.finite_group.specs.Subsets.{Subgroup, imageOf, conjugateElement, conjugateOf}
+use Rattle.finite_group.specs.Subsets.{Subgroup, conjugateElement, conjugateOf}
 
 module _ (n : ℕ) (_·_ : ℕ → ℕ → ℕ) (e : ℕ) (G : Group n _·_ e) where
   infixl 70 _·_
   -- ---- elements
 
+  -- the inverse
   abbrev inv : ℕ → ℕ
   inv g = inverseOf n _·_ e g
 
+  -- the conjugate of an element
   abbrev conj : ℕ → ℕ → ℕ
   conj x g = conjugateElement n _·_ e x g
 
+  -- an inverse is an element
   pub inverse-below : (g : ℕ) → g < n → inv g < n
   inverse-below g h = group-inverse n _·_ e G g h .below
 
+  -- it is an inverse from the left
   pub inverse-left : (g : ℕ) → g < n → inv g · g ≡ e
   inverse-left g h = group-inverse n _·_ e G g h .left
 
+  -- and from the right
   pub inverse-right : (g : ℕ) → g < n → g · inv g ≡ e
   inverse-right g h = group-inverse n _·_ e G g h .right
 
@@ -37,6 +42,7 @@ module _ (n : ℕ) (_·_ : ℕ → ℕ → ℕ) (e : ℕ) (G : Group n _·_ e) w
   pub left-cancel : (x a b : ℕ) → x < n → a < n → b < n → x · a ≡ x · b → a ≡ b
   left-cancel x a b h k l p = cancel-left eqb _·_ e (listed-group n _·_ e G) x a b (below-member n x h) (below-member n a k) (below-member n b l) p
 
+  -- a conjugate of an element is an element
   pub conjugate-element-below : (x g : ℕ) → x < n → g < n → conj x g < n
   unfolding conjugateElement
   conjugate-element-below x g h k = G .product-below _ g (G .product-below _ x (inverse-below g k) h) k
@@ -85,24 +91,29 @@ module _ (n : ℕ) (_·_ : ℕ → ℕ → ℕ) (e : ℕ) (G : Group n _·_ e) w
   pub conjugate-back : (x g : ℕ) → x < n → g < n → conj (conj x g) (inv g) ≡ x
   conjugate-back x g h k = conjugate-twice x g (inv g) h k (inverse-below g k) ∙ ap (conj x) (inverse-right g k) ∙ conjugate-by-identity x h
 
+  -- the other way round
   pub conjugate-forth : (x g : ℕ) → x < n → g < n → conj (conj x (inv g)) g ≡ x
   conjugate-forth x g h k = conjugate-twice x (inv g) g h (inverse-below g k) k ∙ ap (conj x) (inverse-left g k) ∙ conjugate-by-identity x h
 
   -- ---- sets
 
+  -- the conjugate of a set
   abbrev setConj : ℕ → ℕ → ℕ
   setConj s g = conjugateOf n _·_ e s g
 
+  -- it is a set of elements
   pub conjugate-below : (s g : ℕ) → setConj s g < 2 ^ n
   unfolding conjugateOf
   conjugate-below s g = image-below n (λ x. conj x g) s
 
+  -- it holds the conjugates of the members
   pub conjugate-holds : (s g x : ℕ) → s < 2 ^ n → g < n → member s x ≡ true → member (setConj s g) (conj x g) ≡ true
   unfolding conjugateOf
   conjugate-holds s g x small h i =
       let k = member-below n s x small i in
       image-holds n (λ x. conj x g) s x k (conjugate-element-below x g k h) i
 
+  -- and no others
   pub conjugate-source : (s g y : ℕ) → member (setConj s g) y ≡ true → (x : ℕ) × (x < n) × (member s x ≡ true) × (conj x g ≡ y)
   unfolding conjugateOf
   conjugate-source s g y i = image-source n (λ x. conj x g) s y i
@@ -130,10 +141,12 @@ module _ (n : ℕ) (_·_ : ℕ → ℕ → ℕ) (e : ℕ) (G : Group n _·_ e) w
       (λ z i. let (x, b, l, q) = conjugate-source s e z i in rw (← q, conjugate-by-identity x b) l)
       (λ z i. rw (conjugate-by-identity z (member-below n s z small i)) at (conjugate-holds s e z small (G .identity-below) i))
 
+  -- conjugation by g and then by its inverse changes no set
   pub conjugate-set-back : (s g : ℕ) → s < 2 ^ n → g < n → setConj (setConj s g) (inv g) ≡ s
   conjugate-set-back s g small h =
       conjugate-set-twice s g (inv g) small h (inverse-below g h) ∙ ap (setConj s) (inverse-right g h) ∙ conjugate-set-by-identity s small
 
+  -- nor does it the other way round
   pub conjugate-set-forth : (s g : ℕ) → s < 2 ^ n → g < n → setConj (setConj s (inv g)) g ≡ s
   conjugate-set-forth s g small h =
       conjugate-set-twice s (inv g) g small (inverse-below g h) h ∙ ap (setConj s) (inverse-left g h) ∙ conjugate-set-by-identity s small

@@ -1,11 +1,10 @@
 -- What the tests of a product say: which element is the identity, which elements have inverses, when the numbers below n are a group.
-use mathlib.Core.Path.{_≡_, refl, sym, ap, _∙_}
-use mathlib.Core.Bool.{Bool, true, false, _&&_, true≢false}
+use mathlib.Core.Path.{_≡_, sym, _∙_}
+use mathlib.Core.Bool.{true}
 use Prim.Native.Nat.{ℕ, _<_}
-use native.Mathlib.Omega.{arith}
-use lib.Dec.{eqb, ltb}
+use lib.Dec.{eqb}
 use borrow.Author.Tests.{eq-eqb, lt-ltb, ltb-true, eqb-true}
-use Rattle.finite_group.specs.Bounded.{every, first, FirstPassing, passes-every, every-passes, every-fails, and-both, both-and, first-least, first-passing, first-found, first-none}
+use Rattle.finite_group.specs.Bounded.{passes-every, every-passes, and-both, both-and, first-least, first-passing}
 use Rattle.finite_group.specs.Groups.{Group, isIdentity, identityOf, isInverse, inverseOf, hasInverses, associatesAt, associates}
 
 module _ (n : ℕ) (_·_ : ℕ → ℕ → ℕ) where
@@ -27,6 +26,7 @@ module _ (n : ℕ) (_·_ : ℕ → ℕ → ℕ) where
   unfolding isIdentity
   passes-identity e I = passes-every _ n (λ x h. both-and _ _ (eq-eqb _ _ (I .left x h)) (eq-eqb _ _ (I .right x h)))
 
+  -- what passes it is one
   pub identity-passes : (e : ℕ) → e < n → isIdentity n _·_ e ≡ true → TwoSidedIdentity e
   unfolding isIdentity
   identity-passes e h t = record {
@@ -56,6 +56,7 @@ module _ (n : ℕ) (_·_ : ℕ → ℕ → ℕ) where
   unfolding isInverse
   passes-inverse e x y I = both-and _ _ (eq-eqb _ _ (I .right)) (eq-eqb _ _ (I .left))
 
+  -- what passes it is one
   pub inverse-passes : (e x y : ℕ) → y < n → isInverse _·_ e x y ≡ true → TwoSidedInverse e x y
   unfolding isInverse
   inverse-passes e x y h t =
@@ -77,6 +78,7 @@ module _ (n : ℕ) (_·_ : ℕ → ℕ → ℕ) where
   unfolding associates associatesAt
   passes-associative f = passes-every _ n (λ x h. passes-every _ n (λ y k. passes-every _ n (λ z l. eq-eqb _ _ (f x y z h k l))))
 
+  -- a product that passes the test is associative
   pub associative-passes : associates n _·_ ≡ true → (x y z : ℕ) → x < n → y < n → z < n → x · y · z ≡ x · (y · z)
   unfolding associates associatesAt
   associative-passes t x y z h k l = eqb-true _ _ (every-passes _ n (every-passes _ n (every-passes _ n t x h) y k) z l)

@@ -4,17 +4,16 @@ use mathlib.Core.Logic.{_⊎_, inl, inr}
 use mathlib.Core.Bool.{Bool, true, false, cond, true≢false, and-true}
 use Prim.Native.Nat.{ℕ, zero, suc, _+_, _-_, _^_, _%_, _<_, _≤_}
 use native.Mathlib.Nat.{pow-suc, mod-lt}
-use native.Mathlib.Decide.{decLt}
 use native.Mathlib.Omega.{arith}
 use lib.Bits.{bitAnd, bitOr, and-mask}
 use lib.Count.{ones}
 use lib.Dec.{eqb}
 use lib.Pow.{pow-pos}
 use Rattle.laws.specs.Sets.{member, member-below, member-empty, member-and, member-setOf, setOf, Subset, subset-test}
-use Rattle.finite_group.specs.Bounded.{and-both, both-and, every, every-passes, every-fails, passes-or-fails, not-passing}
+use Rattle.finite_group.specs.Bounded.{every, every-passes, every-fails, passes-or-fails}
 use Rattle.finite_group.specs.Groups.{Group}
-use Rattle.finite_group.specs.Subsets.{Subgroup, imageOf}
-use Rattle.finite_group.specs.Adjoin.{Forced, Barred, Extension, Followed, Growing, cosetOf, product-forced, new-forced, growing-start, growing-followed, growing-add, growing-count, coset-barred, joined-new, joined-over, growing-end}
+use Rattle.finite_group.specs.Subsets.{Subgroup}
+use Rattle.finite_group.specs.Adjoin.{Forced, Barred, Extension, Growing, cosetOf, growing-followed, growing-add, growing-count, coset-barred, joined-new, joined-over, growing-end}
 use Rattle.finite_group.specs.Removal.{Without, without-old, without-cases}
 use Rattle.finite_group.specs.declared.adjoin.Growth.{Growth}
 
@@ -119,9 +118,11 @@ module _ (n : ℕ) (_·_ : ℕ → ℕ → ℕ) (e h g bound : ℕ) where
     pub count : ones rest + ones k ≤ ones waiting + ones set
 
   module _ (k waiting r : ℕ) where
+    -- g has followed
     pub sweeping-start : {first : Growth} → Grown (λ x. x ≡ r) k waiting (r · g) first → Sweeping k waiting r (first .set) (first .waiting) h
     sweeping-start F = record { state = F .state; inside = λ x i. i; by-new = F .held; by-old = λ s i. inl i; count = F .count }
 
+    -- a member follows
     pub sweeping-step : (set rest left x less : ℕ) {next : Growth} → Sweeping k waiting r set rest left → Without left x less
         → Grown (λ x. x ≡ r) set rest (r · x) next → Sweeping k waiting r (next .set) (next .waiting) less
     sweeping-step set rest left x less S W F = record {
@@ -135,6 +136,7 @@ module _ (n : ℕ) (_·_ : ℕ → ℕ → ℕ) (e h g bound : ℕ) where
       count = let a = S .count in let b = F .count in omega arith;
     }
 
+    -- all have followed
     pub sweeping-end : Group n _·_ e → Subgroup n _·_ e h → (set rest left : ℕ) → left ≡ 0 → Sweeping k waiting r set rest left
         → Swept k waiting (record { ok = true; set = set; waiting = rest })
     sweeping-end G H set rest left none S = record {

@@ -1,7 +1,7 @@
 -- The loop that makes the image of a set: the members are taken out one by one, and their values are put in.
-use mathlib.Core.Path.{_≡_, refl, sym, ap, _∙_}
+use mathlib.Core.Path.{_≡_, sym, ap, _∙_}
 use mathlib.Core.Logic.{_⊎_, inl, inr}
-use mathlib.Core.Bool.{Bool, true, false, true≢false}
+use mathlib.Core.Bool.{true, true≢false}
 use Prim.Native.Nat.{ℕ, _^_, _<_}
 use lib.Bits.{bitOr, or-lt}
 use lib.Dec.{eqb}
@@ -21,6 +21,7 @@ module _ (n : ℕ) (f : ℕ → ℕ) (s : ℕ) where
     pub into : (x : ℕ) → member s x ≡ true → (member left x ≡ true) ⊎ (member found (f x) ≡ true)
     pub from : (y : ℕ) → member found y ≡ true → (x : ℕ) × (member s x ≡ true) × (f x ≡ y)
 
+  -- all members are to come
   pub imaging-start : Imaging s 0
   imaging-start = record {
     small = pow-pos n;
@@ -29,6 +30,7 @@ module _ (n : ℕ) (f : ℕ → ℕ) (s : ℕ) where
     from = λ y i. absurd (true≢false (sym i ∙ member-empty y));
   }
 
+  -- a member is taken out and its value put in
   pub imaging-step : (left found x rest : ℕ) → Imaging left found → member left x ≡ true → Without left x rest → f x < n → Imaging rest (bitOr found (2 ^ f x))
   imaging-step left found x rest I i W h = record {
     small = or-lt n found (2 ^ f x) (I .small) (pow-lt h);
@@ -46,6 +48,7 @@ module _ (n : ℕ) (f : ℕ → ℕ) (s : ℕ) where
     ];
   }
 
+  -- no member is left
   pub imaging-end : s < 2 ^ n → (left found : ℕ) → left ≡ 0 → Imaging left found → found ≡ imageOf n f s
   imaging-end h left found e I = image-unique n f s found (I .small) h
       (λ x i. elim (I .into x i) [

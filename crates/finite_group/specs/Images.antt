@@ -1,17 +1,17 @@
 -- The image of a set under a map: its members, that it is the only set with them, and that it has no more members than the set.
-use mathlib.Core.Path.{_≡_, refl, sym, ap, _∙_, subst}
-use mathlib.Core.Bool.{Bool, true, false, _&&_, true≢false}
-use mathlib.Core.List.{List, [], _∷_, map, List·Memᴰ as Mem, List·Memᴰ·head as here, List·Memᴰ·tail as there, Memᴰ·map as mem-map, Memᴰ·cast as mem-cast}
-use Prim.Native.Nat.{ℕ, zero, suc, _^_, _<_, _≤_}
+use mathlib.Core.Path.{_≡_, refl, sym, _∙_, subst}
+use mathlib.Core.Bool.{true}
+use mathlib.Core.List.{List, map, List·Memᴰ as Mem, Memᴰ·map as mem-map, Memᴰ·cast as mem-cast}
+use Prim.Native.Nat.{ℕ, _^_, _<_, _≤_}
 use native.Mathlib.Omega.{arith}
 use lib.Count.{ones}
 use lib.Dec.{T, eqb, eqb→eq}
-use lib.ListN.{length, length-map}
+use lib.ListN.{length-map}
 use borrow.Author.Tests.{eq-eqb, eqb-true}
 use Rattle.laws.specs.Distinct.{has, Distinct, nil, cons, eqb-equivalence, has-member, Mem→has, pigeonhole}
-use Rattle.laws.specs.Sets.{member, member-below, setOf, setOf-below, member-setOf, same-members, members, member-listed, listed-member, members-sorted, ones-members, Subset, subset-antisymmetric}
+use Rattle.laws.specs.Sets.{member, member-below, setOf-below, member-setOf, members, member-listed, listed-member, members-sorted, ones-members, subset-antisymmetric}
 use Rattle.laws.specs.Sorted.{Sorted, sorted-nil, sorted-cons, StrictOrder, key-strict}
-use Rattle.finite_group.specs.Bounded.{some, passes-some, some-passes, both-and, and-both}
+use Rattle.finite_group.specs.Bounded.{passes-some, some-passes, both-and, and-both}
 use Rattle.finite_group.specs.Subsets.{imageOf}
 
 -- a strictly sorted list of numbers is without repeats

@@ -1,8 +1,8 @@
 -- From the result of the search to the answer: the list and its length, or 26 and zeros.
-use mathlib.Core.Path.{_≡_, refl, sym, ap, ap₂, _∙_}
+use mathlib.Core.Path.{_≡_, ap, _∙_}
 use mathlib.Core.Bool.{Bool}
 use mathlib.Core.List.{List, _++_}
-use Prim.Native.Nat.{ℕ, _*_, _/_, _<_, _≤_}
+use Prim.Native.Nat.{ℕ, _*_, _/_, _≤_}
 use native.Mathlib.Omega.{arith}
 use lib.ListN.{length, drop, replicate}
 use borrow.Author.Tests.{lt-ltb, le-ltb}
@@ -10,7 +10,7 @@ use Rattle.finite_group.specs.Answers.{listAnswer, listBytes}
 use Rattle.finite_group.specs.Listing.{listed}
 use Rattle.finite_group.specs.Lists.{chosen}
 use Rattle.finite_group.specs.SearchLoop.{SearchResult}
-use Rattle.finite_group.specs.Slots.{written, cleared}
+use Rattle.finite_group.specs.Slots.{cleared}
 use Rattle.finite_group.specs.declared.Answer.the-variants.{Value, Refused}
 use Rattle.finite_group.specs.declared.Refusal.the-variants.{Slots}
 use Rattle.finite_group.specs.declared.search.Found.the-variants.{Count, Full}

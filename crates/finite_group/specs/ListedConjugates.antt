@@ -1,17 +1,16 @@
 -- What the list of conjugates, their conjugators and a normalizer are, in the words of group theory (document 01, "Tables and subgroups").
-use mathlib.Core.Path.{_≡_, refl, sym, ap, _∙_, subst}
-use mathlib.Core.Logic.{_⊎_, inl, inr, _↔_}
-use mathlib.Core.Bool.{Bool, true, false}
-use mathlib.Core.List.{List, _∷_, List·Memᴰ as Mem, List·Memᴰ·head as here, List·Memᴰ·tail as there, List·Memᴰ·cases-cons as cases}
+use mathlib.Core.Path.{_≡_, sym, ap, _∙_}
+use mathlib.Core.Logic.{inl, inr, _↔_}
+use mathlib.Core.Bool.{true}
+use mathlib.Core.List.{List·Memᴰ as Mem, List·Memᴰ·head as here, List·Memᴰ·tail as there, List·Memᴰ·cases-cons as cases}
 use Prim.Native.Nat.{ℕ, _^_, _<_}
 use native.Mathlib.Decide.{ℕ-discrete}
-use native.Mathlib.Omega.{arith}
 use lib.Dec.{eqb}
 use borrow.Author.Tests.{eq-eqb, eqb-true, eqb-false}
 use Rattle.laws.specs.ListOrder.{Precedes}
-use Rattle.laws.specs.Sets.{member, member-below, setOf, setOf-below, member-setOf}
+use Rattle.laws.specs.Sets.{member, member-below, setOf-below, member-setOf}
 use Rattle.laws.specs.Sorted.{Sorted}
-use Rattle.finite_group.specs.Bounded.{FirstPassing, first-least}
+use Rattle.finite_group.specs.Bounded.{first-least}
 use Rattle.finite_group.specs.ConjugateLoop.{other-conjugate, conjugate-other}
 use Rattle.finite_group.specs.Conjugates.{isOther, othersOf, conjugatesOf, conjugatorOf}
 use Rattle.finite_group.specs.Conjugation.{conjugate-below, conjugate-set-by-identity, conjugate-set-twice}
@@ -43,6 +42,7 @@ module _ (n : ℕ) (_·_ : ℕ → ℕ → ℕ) (e h : ℕ) (G : Group n _·_ e)
   unfolding othersOf
   others-sorted = listed-sorted n (isOther n _·_ e h)
 
+  -- the subgroup is not among them
   pub others-other : (s : ℕ) → Mem s (othersOf n _·_ e h) → s ≡ h → ⊥
   unfolding othersOf
   others-other s m = let (g, l, q, d) = other-conjugate n _·_ e h G H s (listed-passes n (isOther n _·_ e h) s m .1) in d

@@ -1,20 +1,19 @@
 -- What the lists of subgroups and of class representatives hold, in the words of group theory (document 01, "Tables and subgroups").
 use mathlib.Core.Path.{_≡_, refl, sym, ap, _∙_, subst}
-use mathlib.Core.Logic.{_⊎_, inl, inr, _↔_}
+use mathlib.Core.Logic.{inl, inr, _↔_}
 use mathlib.Core.Bool.{Bool, true, false, true≢false}
 use mathlib.Core.List.{List, List·Memᴰ as Mem}
-use Prim.Native.Nat.{ℕ, zero, suc, _+_, _^_, _<_}
+use Prim.Native.Nat.{ℕ, zero, suc, _^_, _<_}
 use native.Mathlib.Numerals.{add-one}
 use native.Mathlib.Omega.{arith}
 use native.Mathlib.Decide.{ℕ-discrete}
-use lib.ListN.{length}
 use Rattle.laws.specs.ListOrder.{Precedes, precedes-total, earlier, earlier-precedes, precedes-earlier}
 use Rattle.laws.specs.Sets.{member, member-below, setOf, setOf-below, member-setOf}
 use Rattle.laws.specs.Sorted.{Sorted}
 use Rattle.finite_group.specs.Bounded.{passes-or-fails}
 use Rattle.finite_group.specs.Conjugation.{conjugate-below, conjugate-set-back, inverse-below}
 use Rattle.finite_group.specs.Groups.{Group, inverseOf}
-use Rattle.finite_group.specs.Listing.{listed, listed-passes, passes-listed, listed-sorted, listed-unique}
+use Rattle.finite_group.specs.Listing.{listed-passes, passes-listed, listed-sorted, listed-unique}
 use Rattle.finite_group.specs.Lists.{chosen, Chosen, chosen-passes, passes-chosen, subgroupsOf, representativesOf}
 use Rattle.finite_group.specs.Representatives.{FirstConjugate, first-start, first-kept, first-taken, first-represented}
 use Rattle.finite_group.specs.SubgroupLaws.{closed-set}

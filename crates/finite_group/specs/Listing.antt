@@ -1,9 +1,8 @@
 -- The list of the sets that pass a test, in list order (document 01, "Tables and subgroups"). It is given as the sorted list of all numbers
 -- below 2 ^ n that pass, which says what it is and not how it is found; it is the only list that holds these sets in this order.
-use mathlib.Core.Path.{_≡_, refl, sym, ap, _∙_}
-use mathlib.Core.Logic.{_↔_}
-use mathlib.Core.Bool.{Bool, true, false}
-use mathlib.Core.List.{List, [], _∷_, List·Memᴰ as Mem}
+use mathlib.Core.Path.{_≡_}
+use mathlib.Core.Bool.{Bool, true}
+use mathlib.Core.List.{List, List·Memᴰ as Mem}
 use Prim.Native.Nat.{ℕ, zero, suc, _^_, _<_, _≤_}
 use native.Mathlib.Omega.{arith}
 use lib.Dec.{eqb}
@@ -24,6 +23,7 @@ unfolding below
 below-sorted zero = sorted-nil
 below-sorted (suc m) = sorted-cons (λ y k. member-below-list m y k) (below-sorted m)
 
+-- that order is strict
 descending : StrictOrder (λ (x y : ℕ). y < x)
 descending = record { irreflexive = λ x h. omega arith; transitive = λ x y z h k. omega arith }
 

@@ -1,9 +1,8 @@
 -- The lists of subgroups and of class representatives (document 01, "Tables and subgroups"), for any product of the numbers below n.
 use mathlib.Core.Path.{_≡_, refl, sym, ap, _∙_}
-use mathlib.Core.Logic.{_↔_}
 use mathlib.Core.Bool.{Bool, true, false, not, _&&_, true≢false}
 use mathlib.Core.List.{List}
-use Prim.Native.Nat.{ℕ, _^_, _<_}
+use Prim.Native.Nat.{ℕ, _<_}
 use borrow.Author.Tests.{not-true}
 use Rattle.laws.specs.ListOrder.{Precedes, earlier, earlier-precedes, precedes-earlier}
 use Rattle.finite_group.specs.Bounded.{every, every-passes, passes-every, and-both, both-and, not-passing}
@@ -55,6 +54,7 @@ module _ (n : ℕ) (_·_ : ℕ → ℕ → ℕ) (e : ℕ) (G : Group n _·_ e) w
       record { subgroup = test-subgroup n _·_ e G s a; first = λ q. first-passes s b }
   chosen-passes false s t = record { subgroup = test-subgroup n _·_ e G s t; first = λ q. absurd (true≢false (sym q)) }
 
+  -- and what the words say passes
   pub passes-chosen : (classes : Bool) (s : ℕ) → Chosen n _·_ e classes s → chosen n _·_ e classes s ≡ true
   passes-chosen true s C = both-and _ _ (subgroup-test n _·_ e G s (C .subgroup)) (passes-first s (C .first refl))
   passes-chosen false s C = subgroup-test n _·_ e G s (C .subgroup)

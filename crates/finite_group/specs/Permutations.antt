@@ -3,7 +3,7 @@
 use mathlib.Core.Path.{_≡_, refl, sym, ap, ap₂, _∙_, subst}
 use mathlib.Core.Bool.{Bool, true, false, cond}
 use mathlib.Core.List.{List, [], _∷_, _++_, map, map-append, append-assoc}
-use Prim.Native.Nat.{ℕ, zero, suc, _+_, _^_, _%_, _<_, _≤_}
+use Prim.Native.Nat.{ℕ, zero, suc, _+_, _^_, _%_, _<_}
 use native.Mathlib.Numerals.{add-one}
 use native.Mathlib.Nat.{mod-lt, le-of-suc-le-suc}
 use native.Mathlib.Omega.{arith}
@@ -11,7 +11,7 @@ use lib.Count.{ones, onesIn}
 use lib.ListN.{length, getD, drop, set, length-map}
 use lib.Pow.{pow-pos}
 use lib.Seq.{drop-cons, set-at}
-use Rattle.laws.specs.Sets.{member, member-below, members, members-in, members-out, members-length, members-position, position-below, listed-member, onesIn-suc, ones-below}
+use Rattle.laws.specs.Sets.{member, members, members-in, members-out, members-length, members-position, position-below, listed-member, onesIn-suc, ones-below}
 use Rattle.laws.specs.Sorted.{at-member}
 use Rattle.finite_group.specs.Groups.{Group}
 use Rattle.finite_group.specs.Growth.{member-remainder}
@@ -93,6 +93,7 @@ module _ (n : ℕ) (_·_ : ℕ → ℕ → ℕ) (e s g : ℕ) where
   pub count-in : (x : ℕ) → member s x ≡ true → onesIn (x + 1) s ≡ onesIn x s + 1
   count-in x m = ap (λ (i : ℕ). onesIn i s) (add-one x) ∙ onesIn-suc x s ∙ ap (λ (b : Bool). onesIn x s + cond b 1 0) m
 
+  -- what is no member counts nothing
   pub count-out : (x : ℕ) → member s x ≡ false → onesIn (x + 1) s ≡ onesIn x s
   count-out x m = ap (λ (i : ℕ). onesIn i s) (add-one x) ∙ onesIn-suc x s ∙ ap (λ (b : Bool). onesIn x s + cond b 1 0) m ∙ omega arith
 

@@ -1,8 +1,8 @@
 -- A set without one of its members, as loops over the members of a set take them out.
 use mathlib.Core.Path.{_≡_, refl, sym, ap, _∙_}
 use mathlib.Core.Logic.{_⊎_, inl, inr}
-use mathlib.Core.Bool.{Bool, true, false, not, _&&_, _||_, true≢false}
-use Prim.Native.Nat.{ℕ, _+_, _^_, _<_, _≤_}
+use mathlib.Core.Bool.{Bool, true, false, not, _&&_, _||_}
+use Prim.Native.Nat.{ℕ, _+_, _^_, _<_}
 use native.Mathlib.Decide.{ℕ-discrete}
 use native.Mathlib.Omega.{arith}
 use lib.Bits.{bitOr, bitXor}
@@ -10,8 +10,8 @@ use lib.Count.{ones}
 use lib.Dec.{eqb}
 use lib.Pow.{pow-pos}
 use borrow.Author.Tests.{eq-eqb, ne-eqb, eqb-true}
-use Rattle.laws.specs.Sets.{member, member-below, member-singleton, member-difference, same-sets, or-new, member-add, ones-add, with-member, Subset}
-use Rattle.finite_group.specs.Bounded.{or-either, or-holds-left, or-holds-right}
+use Rattle.laws.specs.Sets.{member, member-singleton, member-difference, same-sets, or-new, member-add, ones-add, with-member, Subset}
+use Rattle.finite_group.specs.Bounded.{or-either, or-holds-left}
 
 -- r is s without its member i
 pub record Without (s i r : ℕ) : Type 0 where
@@ -32,9 +32,11 @@ module _ (s i : ℕ) (e : member s i ≡ true) where
   left : (j : ℕ) → member (bitXor s (2 ^ i)) j ≡ (member s j && not (eqb i j))
   left j = member-difference s (2 ^ i) j (singleton-subset s i e) ∙ ap (λ (b : Bool). member s j && not b) (member-singleton i j)
 
+  -- i is not left
   out : member (bitXor s (2 ^ i)) i ≡ false
   out = left i ∙ rw (e, eq-eqb i i refl)
 
+  -- put in again it makes the whole set
   back : (j : ℕ) → member (bitOr (bitXor s (2 ^ i)) (2 ^ i)) j ≡ member s j
   back j = with-member (bitXor s (2 ^ i)) i j ∙ elim (ℕ-discrete i j) [
     | yes q ↦ rw (← q, eq-eqb i i refl, e, out)

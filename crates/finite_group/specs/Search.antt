@@ -8,7 +8,7 @@ use mathlib.Core.Bool.{Bool, true, false, true≢false}
 use mathlib.Core.List.{List, [], _∷_, _++_, append-assoc, List·Memᴰ as Mem, List·Memᴰ·head as here, List·Memᴰ·tail as there, List·Memᴰ·not-nil as not-nil, List·Memᴰ·cases-cons as cases, List·Memᴰ·append-cases as append-cases, Memᴰ·append-left as mem-left, Memᴰ·append-right as mem-right, Memᴰ·cast as mem-cast}
 use Prim.Native.Nat.{ℕ, zero, suc, _+_, _*_, _/_, _^_, _<_, _≤_}
 use native.Mathlib.Decide.{ℕ-discrete, decLt}
-use native.Mathlib.Nat.{le-of-suc-le-suc, lt-of-lt-of-le}
+use native.Mathlib.Nat.{lt-of-lt-of-le}
 use native.Mathlib.Omega.{arith}
 use lib.Count.{ones}
 use lib.ListN.{length, getD, take, drop, length-append, length-drop, take-append-drop}
@@ -20,7 +20,7 @@ use Rattle.laws.specs.Sets.{member, member-below, Subset, subset-antisymmetric,
 use Rattle.laws.specs.Sorted.{Sorted, sorted-cons, sorted-append, append-sorted-left, append-sorted-right, append-sorted-across, at-member, before-all}
 use Rattle.finite_group.specs.Adjoin.{Barred, Extension}
 use Rattle.finite_group.specs.Bounded.{passes-or-fails}
-use Rattle.finite_group.specs.Conjugation.{conjugate-subset, conjugate-set-by-identity, conjugate-set-twice, conjugate-set-back, conjugate-set-forth, conjugate-subgroup, conjugate-below, conjugate-holds, conjugate-source, conjugate-forth, conjugate-element-below, inverse-below, conjugate-by-identity}
+use Rattle.finite_group.specs.Conjugation.{conjugate-subset, conjugate-set-by-identity, conjugate-set-twice, conjugate-set-back, conjugate-set-forth, conjugate-subgroup, conjugate-below, conjugate-holds, conjugate-forth, conjugate-element-below, inverse-below, conjugate-by-identity}
 use Rattle.finite_group.specs.Groups.{Group, inverseOf}
 use Rattle.finite_group.specs.Insertion.{Place, Inserted, present, full, added}
 use Rattle.finite_group.specs.Lists.{Chosen}
@@ -28,7 +28,6 @@ use Rattle.finite_group.specs.Slots.{packed, bytesOf, movedUp, slotAt, W
 use Rattle.finite_group.specs.Subsets.{Subgroup, conjugateOf, conjugateElement}
 use Rattle.finite_group.specs.declared.search.Found.{Found}
 use Rattle.finite_group.specs.declared.search.Found.the-variants.{Count, Full as Overflow}
-use Rattle.finite_group.specs.declared.slots.Insertion.{Insertion}
 use Rattle.finite_group.specs.declared.slots.Insertion.the-variants.{Present, Full, Added}
 
 -- ---- lists
@@ -170,6 +169,7 @@ module _ (n : ℕ) (_·_ : ℕ → ℕ → ℕ) (e : ℕ) (classes : Bool) where
     chosen-word s C = let wide : n ≤ 64 = omega arith in lt-of-lt-of-le (C .subgroup .small) (pow-mono wide)
 
     module _ (came b l : List ℕ) (count : ℕ) (H : Holding came b l count) where
+      -- all of them do
       holding-words : Words l
       holding-words s m = chosen-word s (H .chosen s m)
 
@@ -181,11 +181,13 @@ module _ (n : ℕ) (_·_ : ℕ → ℕ → ℕ) (e : ℕ) (classes : Bool) where
 
       -- a set that is put in
       module _ (m p : ℕ) (C : Chosen n _·_ e classes m) (P : Place b count m p) (apart : p < count → slotAt b p ≡ m → ⊥) where
+        -- those before the place stand before m
         place-before : (i : ℕ) → i < p → Precedes (getD l i 0) m
         place-before i h =
             let k = P .inside in
             earlier-precedes 64 _ m (subst (λ (s : ℕ). earlier 64 s m ≡ true) (holding-slot i (omega arith)) (P .before i h))
 
+        -- m stands before the one at the place
         place-after : p < length l → Precedes m (getD l p 0)
         place-after h =
             let k : p < count = let q = H .size in omega arith in
@@ -196,6 +198,7 @@ module _ (n : ℕ) (_·_ : ℕ → ℕ → ℕ) (e : ℕ) (classes : Bool) where
               | inr f ↦ absurd (true≢false (sym (precedes-earlier 64 _ m word f) ∙ subst (λ (z : ℕ). earlier 64 z m ≡ false) s (P .after k)))
             ]
 
+        -- the place is one of the list
         place-inside : p ≤ length l
         place-inside = let k = P .inside in let q = H .size in omega arith
 
@@ -203,6 +206,7 @@ module _ (n : ℕ) (_·_ : ℕ → ℕ → ℕ) (e : ℕ) (classes : Bool) where
         pub holding-sorted : Sorted Precedes (insertAt p m l)
         holding-sorted = insert-sorted p m l (H .sorted) place-inside place-before place-after
 
+        -- the sets stay chosen
         pub holding-chosen : (s : ℕ) → Mem s (insertAt p m l) → Chosen n _·_ e classes s
         holding-chosen s k = elim (insert-source p m l k) [ inl q ↦ rw q C | inr j ↦ H .chosen s j ]
 
@@ -254,10 +258,12 @@ module _ (n : ℕ) (_·_ : ℕ → ℕ → ℕ) (e : ℕ) (classes : Bool) where
       inserted-present (present q p k s) =
           counted front (subst (λ (x : List ℕ). Holding came x (front ++ h ∷ tail) count) (sym q) H) (λ z i. i) (done _ (holding-present came b (front ++ h ∷ tail) count H m p k s) (λ z i. i))
 
+      -- no slot was free
       pub inserted-full : {exit : List ℕ} → Inserted b count m exit Full → Progress came front tail exit h Done Overflow
       inserted-full (full q none p Q apart) =
           overflow (front ++ h ∷ tail) count (subst (λ (x : List ℕ). Holding came x (front ++ h ∷ tail) count) (sym q) H) (holding-full came b (front ++ h ∷ tail) count H m p C Q apart same none)
 
+      -- the set was put in
       pub inserted-added : {exit : List ℕ} → Inserted b count m exit Added → Progress came front tail exit h Done (Count (count + 1))
       inserted-added {exit} (added room p Q apart q) =
           let at = place-front p Q in
@@ -339,31 +345,39 @@ module _ (n : ℕ) (_·_ : ℕ → ℕ → ℕ) (e : ℕ) (classes : Bool) where
 
       -- an element of S that is new extends the listed set
       module _ (i : ℕ) (I : Inside i) (m : member S i ≡ true) where
+        -- the listed set
         abbrev old : ℕ
         old = I .set
 
-        abbrev x : ℕ
-        x = I .conjugator
+        -- its conjugator
+        abbrev mover : ℕ
+        mover = I .conjugator
 
+        -- and the way back
         abbrev back : ℕ
-        back = inverseOf n _·_ e x
+        back = inverseOf n _·_ e mover
 
-        -- the element that x conjugates to i
-        abbrev g : ℕ
-        g = conjugateElement n _·_ e i back
+        -- the element that mover conjugates to i
+        abbrev source : ℕ
+        source = conjugateElement n _·_ e i back
 
-        i-below : i < n
-        i-below = member-below n S i (T .small) m
+        -- i is an element
+        element-below : i < n
+        element-below = member-below n S i (T .small) m
 
+        -- so is the way back
         back-below : back < n
-        back-below = inverse-below n _·_ e G x (I .below)
+        back-below = inverse-below n _·_ e G mover (I .below)
 
-        g-below : g < n
-        g-below = conjugate-element-below n _·_ e G i back i-below back-below
+        -- and so is what is conjugated to i
+        source-below : source < n
+        source-below = conjugate-element-below n _·_ e G i back element-below back-below
 
-        g-forth : conjugateElement n _·_ e g x ≡ i
-        g-forth = conjugate-forth n _·_ e G i x i-below (I .below)
+        -- the conjugator takes it to i
+        source-forth : conjugateElement n _·_ e source mover ≡ i
+        source-forth = conjugate-forth n _·_ e G i mover element-below (I .below)
 
+        -- the listed set is one of elements
         small-old : old < 2 ^ n
         small-old = C .chosen old (I .listed) .subgroup .small
 
@@ -371,46 +385,48 @@ module _ (n : ℕ) (_·_ : ℕ → ℕ → ℕ) (e : ℕ) (classes : Bool) where
         abbrev behind : ℕ
         behind = conjugateOf n _·_ e S back
 
+        -- the listed set lies inside it
         old-behind : Subset old behind
-        old-behind = subst (λ (s : ℕ). Subset s behind) (conjugate-set-back n _·_ e G old x small-old (I .below))
+        old-behind = subst (λ (s : ℕ). Subset s behind) (conjugate-set-back n _·_ e G old mover small-old (I .below))
             (conjugate-subset n _·_ e G _ S back (T .small) back-below (I .within))
 
         -- the extension, which is listed, lies inside
-        extended-inside : (k : ℕ) → Extension n _·_ e old g k → Listed l k → Inside (suc i)
+        extended-inside : (k : ℕ) → Extension n _·_ e old source k → Listed l k → Inside (suc i)
         extended-inside k E L = record {
           set = L .set;
           listed = L .listed;
-          conjugator = L .conjugator · x;
-          below = G .product-below _ x (L .below) (I .below);
+          conjugator = L .conjugator · mover;
+          below = G .product-below _ mover (L .below) (I .below);
           same = λ q. ap₂ _·_ (L .same q) (I .same q) ∙ G .left-identity e (G .identity-below);
           within = λ z j. inner z (subst (λ (s : ℕ). member s z ≡ true) whole j);
           covers = λ j h u. subst (λ (s : ℕ). member s j ≡ true) (sym whole) (elim (ℕ-discrete j i) [
-            | yes q ↦ subst (λ (z : ℕ). member (conjugateOf n _·_ e k x) z ≡ true) (g-forth ∙ sym q) (conjugate-holds n _·_ e G k x g (E .subgroup .small) (I .below) (E .adjoined))
-            | no q ↦ conjugate-subset n _·_ e G old k x (E .subgroup .small) (I .below) (E .over) j (I .covers j (omega arith) u)
+            | yes q ↦ subst (λ (z : ℕ). member (conjugateOf n _·_ e k mover) z ≡ true) (source-forth ∙ sym q) (conjugate-holds n _·_ e G k mover source (E .subgroup .small) (I .below) (E .adjoined))
+            | no q ↦ conjugate-subset n _·_ e G old k mover (E .subgroup .small) (I .below) (E .over) j (I .covers j (omega arith) u)
           ]);
         }
           where
-            whole : conjugateOf n _·_ e (L .set) (L .conjugator · x) ≡ conjugateOf n _·_ e k x
-            whole = sym (conjugate-set-twice n _·_ e G (L .set) (L .conjugator) x (C .chosen _ (L .listed) .subgroup .small) (L .below) (I .below))
-                ∙ ap (λ (s : ℕ). conjugateOf n _·_ e s x) (sym (L .conjugate))
+            whole : conjugateOf n _·_ e (L .set) (L .conjugator · mover) ≡ conjugateOf n _·_ e k mover
+            whole = sym (conjugate-set-twice n _·_ e G (L .set) (L .conjugator) mover (C .chosen _ (L .listed) .subgroup .small) (L .below) (I .below))
+                ∙ ap (λ (s : ℕ). conjugateOf n _·_ e s mover) (sym (L .conjugate))
 
-            inner : Subset (conjugateOf n _·_ e k x) S
-            inner = subst (λ (s : ℕ). Subset (conjugateOf n _·_ e k x) s) (conjugate-set-forth n _·_ e G S x (T .small) (I .below))
-                (conjugate-subset n _·_ e G k behind x (conjugate-below n _·_ e G S back) (I .below)
+            inner : Subset (conjugateOf n _·_ e k mover) S
+            inner = subst (λ (s : ℕ). Subset (conjugateOf n _·_ e k mover) s) (conjugate-set-forth n _·_ e G S mover (T .small) (I .below))
+                (conjugate-subset n _·_ e G k behind mover (conjugate-below n _·_ e G S back) (I .below)
                 (E .least behind (conjugate-subgroup n _·_ e G S back back-below T) old-behind (conjugate-holds n _·_ e G S back i (T .small) back-below m)))
 
         -- an extension that was passed over cannot lie inside
-        barred-inside : classes ≡ false → Barred n _·_ e old g g → ⊥
+        barred-inside : classes ≡ false → Barred n _·_ e old source source → ⊥
         barred-inside q B =
-            let trivially : conjugateOf n _·_ e old x ≡ old = ap (conjugateOf n _·_ e old) (I .same q) ∙ conjugate-set-by-identity n _·_ e G old small-old in
-            let same-element : g ≡ i = sym (conjugate-by-identity n _·_ e G g g-below) ∙ ap (conjugateElement n _·_ e g) (sym (I .same q)) ∙ g-forth in
+            let trivially : conjugateOf n _·_ e old mover ≡ old = ap (conjugateOf n _·_ e old) (I .same q) ∙ conjugate-set-by-identity n _·_ e G old small-old in
+            let same-element : source ≡ i = sym (conjugate-by-identity n _·_ e G source source-below) ∙ ap (conjugateElement n _·_ e source) (sym (I .same q)) ∙ source-forth in
             let over : Subset old S = subst (λ (s : ℕ). Subset s S) trivially (I .within) in
             let held = B .forced .held S T over (rw same-element m) in
             let low : B .element < i = let h = B .low in omega arith in
             true≢false (sym (subst (λ (s : ℕ). member s (B .element) ≡ true) trivially (I .covers (B .element) low held)) ∙ B .new)
 
+        -- so the listed set reaches one element further
         inside-new : Inside (suc i)
-        inside-new = elim (C .settled old g (I .listed) g-below) [
+        inside-new = elim (C .settled old source (I .listed) source-below) [
           | inl (k, E, L) ↦ extended-inside k E L
           | inr (q, B) ↦ absurd (barred-inside q B)
         ]

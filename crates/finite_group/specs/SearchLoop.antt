@@ -1,12 +1,11 @@
 -- The loops of the search: what each of them keeps, and what the search answers in the end.
 use mathlib.Core.Path.{_≡_, refl, sym, ap, ap₂, _∙_, subst}
-use mathlib.Core.Logic.{_⊎_, inl, inr}
-use mathlib.Core.Bool.{Bool, true, false, cond, true≢false}
-use mathlib.Core.List.{List, [], _∷_, _++_, append-assoc, append-nil, List·Memᴰ as Mem, List·Memᴰ·head as here, List·Memᴰ·tail as there, List·Memᴰ·cases-cons as cases, List·Memᴰ·not-nil as not-nil, List·Memᴰ·eq-of-singleton as mem-one, Memᴰ·append-right as mem-right}
-use Prim.Native.Nat.{ℕ, zero, suc, _+_, _*_, _-_, _/_, _^_, _<_, _≤_}
+use mathlib.Core.Logic.{inl, inr}
+use mathlib.Core.Bool.{Bool, true, false, cond}
+use mathlib.Core.List.{List, [], _∷_, _++_, List·Memᴰ as Mem, List·Memᴰ·head as here, List·Memᴰ·cases-cons as cases, List·Memᴰ·not-nil as not-nil, List·Memᴰ·eq-of-singleton as mem-one, Memᴰ·append-right as mem-right}
+use Prim.Native.Nat.{ℕ, suc, _+_, _*_, _-_, _/_, _^_, _<_, _≤_}
 use native.Mathlib.Decide.{decLt}
 use native.Mathlib.Omega.{arith}
-use lib.Count.{ones}
 use lib.ListN.{length, getD, take, drop, length-append, length-drop}
 use lib.Pow.{pow-lt}
 use lib.Seq.{split-at, drop-at, drop-append-add, drop-drop}
@@ -16,12 +15,11 @@ use Rattle.laws.specs.Sorted.{sorted-one, at-member}
 use Rattle.finite_group.specs.Adjoin.{Barred, Extension, singleton-self, singleton-only}
 use Rattle.finite_group.specs.Conjugation.{conjugate-source, conjugate-holds, conjugate-of-identity}
 use Rattle.finite_group.specs.Groups.{Group}
-use Rattle.finite_group.specs.Growth.{Adjoined}
 use Rattle.finite_group.specs.Insertion.{Inserted, added}
 use Rattle.finite_group.specs.Listing.{listed, listed-unique, listed-longest}
 use Rattle.finite_group.specs.Lists.{Chosen, chosen, chosen-passes, passes-chosen}
 use Rattle.finite_group.specs.Representatives.{Represented}
-use Rattle.finite_group.specs.Search.{Holding, holding-slot, Complete, complete-listed, Listed, Settled, TooMany, Progress, counted, overflow, settled-more, own-extension, listed-itself, extension-precedes, inserted-present, inserted-full, inserted-added}
+use Rattle.finite_group.specs.Search.{Holding, holding-slot, Complete, complete-listed, Settled, TooMany, Progress, counted, overflow, settled-more, own-extension, listed-itself, extension-precedes, inserted-present, inserted-full, inserted-added}
 use Rattle.finite_group.specs.Slots.{packed, packed-left-over, bytesOf, slotAt, written}
 use Rattle.finite_group.specs.SubgroupLaws.{closed-set}
 use Rattle.finite_group.specs.Subsets.{Subgroup, conjugateOf}
@@ -92,9 +90,11 @@ module _ (n : ℕ) (_·_ : ℕ → ℕ → ℕ) (e : ℕ) (classes : Bool) where
         },
       )
 
+      -- what Done asks
       done : (before : List ℕ) (l : List ℕ) → Mem m l → ((s : ℕ) → Mem s before → Mem s l) → (j : ℕ) → g ≤ j → j < g + 1 → Settled n _·_ e classes l h j
       done before l i f = one-element (λ j. Settled n _·_ e classes l h j) g (represented-settled l i)
 
+      -- the representative stands before h
       precedes : Precedes m h
       precedes = extension-precedes n _·_ e classes G h g k m E new (R .count)
 
@@ -106,6 +106,7 @@ module _ (n : ℕ) (_·_ : ℕ → ℕ → ℕ) (e : ℕ) (classes : Bool) where
             inserted-present n _·_ e classes limit came b front tail h count H same m (R .chosen) precedes _ (done (front ++ h ∷ tail)) I;
       }
 
+      -- no slot was free
       pub extended-full : (count : ℕ) (b exit : List ℕ) → Inserted b count m exit Full → Extended h g (g + 1) count b exit Overflow
       extended-full count b exit I = record {
         room = tt;
@@ -113,6 +114,7 @@ module _ (n : ℕ) (_·_ : ℕ → ℕ → ℕ) (e : ℕ) (classes : Bool) where
             inserted-full n _·_ e classes limit came b front tail h count H same m (R .chosen) precedes _ (done (front ++ h ∷ tail)) I;
       }
 
+      -- the representative was put in
       pub extended-added : (count : ℕ) (b exit : List ℕ) → 8 * (count + 1) ≤ length exit → Inserted b count m exit Added
           → Extended h g (g + 1) count b exit (Count (count + 1))
       extended-added count b exit room I = record {
@@ -182,12 +184,14 @@ module _ (n : ℕ) (_·_ : ℕ → ℕ → ℕ) (e : ℕ) (classes : Bool) where
         (subst (λ (z : ℕ). member (conjugateOf n _·_ e (2 ^ e) g) z ≡ true) (conjugate-of-identity n _·_ e G g h)
         (conjugate-holds n _·_ e G (2 ^ e) g e (trivial-subgroup .small) h (singleton-self e))))
 
+    -- so it is chosen
     trivial-chosen : Chosen n _·_ e classes (2 ^ e)
     trivial-chosen = record {
       subgroup = trivial-subgroup;
       first = λ q g h p. precedes-irreflexive (2 ^ e) (subst (λ (z : ℕ). Precedes z (2 ^ e)) (trivial-conjugate g h) p);
     }
 
+    -- and so is each member of the list that holds only it
     only-trivial : (s : ℕ) → Mem s (2 ^ e ∷ []) → Chosen n _·_ e classes s
     only-trivial s m = rw (mem-one m) trivial-chosen
 
@@ -213,6 +217,7 @@ module _ (n : ℕ) (_·_ : ℕ → ℕ → ℕ) (e : ℕ) (classes : Bool) where
         (λ s m. (M .chosen s m .subgroup .small, passes-chosen n _·_ e G classes s (M .chosen s m))) in
         omega arith
 
+    -- so the search has overflowed
     pub none-result : (came : List ℕ) → length came < 8 → SearchResult came came Overflow
     none-result came h = (too-many _ (searching-none came h), refl)
 
@@ -221,9 +226,11 @@ module _ (n : ℕ) (_·_ : ℕ → ℕ → ℕ) (e : ℕ) (classes : Bool) where
     left-over came b l count H = packed-left-over came b l count (H .size) (H .room) (H .bytes)
 
     module _ (came b : List ℕ) (count done : ℕ) (S : Searching came b count done) (more : done < count) where
+      -- the place of the last set that is not settled
       abbrev at : ℕ
       at = count - 1 - done
 
+      -- it is a place of the list
       at-below : at < length (S .list)
       at-below = let q = S .holding .size in omega arith
 
@@ -231,6 +238,7 @@ module _ (n : ℕ) (_·_ : ℕ → ℕ → ℕ) (e : ℕ) (classes : Bool) where
       pub searching-slot : slotAt b at ≡ getD (S .list) at 0
       searching-slot = holding-slot n _·_ e classes limit came b (S .list) count (S .holding) at (omega arith)
 
+      -- the set there is a subgroup
       pub searching-subgroup : Subgroup n _·_ e (slotAt b at)
       searching-subgroup = rw searching-slot (S .holding .chosen _ (at-member Precedes (S .list) at 0 at-below) .subgroup)
 
@@ -314,6 +322,7 @@ module _ (n : ℕ) (_·_ : ℕ → ℕ → ℕ) (e : ℕ) (classes : Bool) where
           let far : i ≡ 8 + (i - 8) = omega arith in
           ap₂ (λ (j : ℕ) (x : List ℕ). drop j x) far q ∙ drop-append-add (bytesOf m) (drop 8 came) (i - 8) ∙ drop-drop (i - 8) 8 came ∙ ap (λ (j : ℕ). drop j came) (sym far)
 
+      -- they are equally many
       restart-length : length b ≡ length came
       restart-length = ap length q ∙ length-append (bytesOf m) (drop 8 came) ∙ omega (arith, length-drop 8 came)
 
@@ -321,6 +330,7 @@ module _ (n : ℕ) (_·_ : ℕ → ℕ → ℕ) (e : ℕ) (classes : Bool) where
       pub restart-start : m ≡ 2 ^ e → Searching b b 1 0
       restart-start first = searching-start b b (omega (arith, restart-length)) (q ∙ ap₂ (λ (i : ℕ) (l : List ℕ). bytesOf i ++ l) first (sym (restart-drop 8 (omega arith))))
 
+      -- the result of the loop is the result of the search
       pub restart : (exit : List ℕ) (r : Found) → SearchResult b exit r → SearchResult came exit r
       unfolding written
       restart exit (Count count) (x, y, z) =

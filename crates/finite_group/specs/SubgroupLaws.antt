@@ -1,17 +1,16 @@
 -- A set of elements that holds the identity and products is a subgroup: inverses follow. The test of a subgroup says exactly that.
-use mathlib.Core.Path.{_≡_, refl, sym, ap, _∙_}
-use mathlib.Core.Logic.{_⊎_, inl, inr, _↔_}
-use mathlib.Core.Bool.{Bool, true, false, cond, _&&_, true≢false}
-use mathlib.Core.List.{List, [], _∷_, List·Memᴰ as Mem, List·Memᴰ·head as here, List·Memᴰ·tail as there, List·Memᴰ·not-nil as not-nil}
-use Prim.Native.Nat.{ℕ, zero, suc, _^_, _<_, _≤_}
+use mathlib.Core.Path.{_≡_, refl}
+use mathlib.Core.Bool.{Bool, true, false, cond}
+use mathlib.Core.List.{List, [], _∷_, List·Memᴰ as Mem, List·Memᴰ·head as here, List·Memᴰ·tail as there}
+use Prim.Native.Nat.{ℕ, zero, suc, _^_, _<_}
 use native.Mathlib.Decide.{ℕ-discrete}
 use native.Mathlib.Omega.{arith}
-use lib.Dec.{T, eqb, ltb, eqb→eq}
+use lib.Dec.{eqb, ltb, eqb→eq}
 use borrow.Author.Tests.{lt-ltb, ltb-true}
-use Rattle.laws.specs.Distinct.{has, Distinct, nil, cons, eqb-decides, has-member}
+use Rattle.laws.specs.Distinct.{Distinct, nil, cons, eqb-decides, has-member}
 use Rattle.laws.specs.FiniteGroup.{Group as ListedGroup, closed-inverse}
-use Rattle.laws.specs.Sets.{member, member-below, setOf, setOf-below, member-setOf}
-use Rattle.finite_group.specs.Bounded.{every, and-both, both-and, every-passes, passes-every, passes-or-fails}
+use Rattle.laws.specs.Sets.{member, member-below}
+use Rattle.finite_group.specs.Bounded.{and-both, both-and, every-passes, passes-every}
 use Rattle.finite_group.specs.Groups.{Group}
 use Rattle.finite_group.specs.Subsets.{Subgroup, holdsRow, isSubgroup}
 

@@ -1,18 +1,15 @@
 -- Laws of tables: the place of a cell, and what the check of a table says, refusal by refusal.
-use mathlib.Core.Path.{_≡_, refl, sym, ap, _∙_}
-use mathlib.Core.Logic.{_⊎_, inl, inr, _↔_}
-use mathlib.Core.Bool.{Bool, true, false, cond, _&&_, true≢false}
+use mathlib.Core.Path.{_≡_}
+use mathlib.Core.Bool.{true}
 use mathlib.Core.List.{List}
 use Prim.Native.Nat.{ℕ, _+_, _*_, _<_, _≤_}
 use native.Mathlib.Nat.{mul-le-mul}
-use native.Mathlib.Omega.{arith}
 use lib.Arith.{digits-lt}
 use lib.Dec.{eqb, ltb}
 use lib.ListN.{length, getD}
-use borrow.Author.Tests.{eq-eqb, ne-eqb, lt-ltb, le-ltb, eqb-true, eqb-false, ltb-true, ltb-false}
-use Rattle.finite_group.specs.Bounded.{every, first, FirstPassing, passes-every, every-passes, and-both, both-and, first-cases, first-least, first-passing, first-found, passes-or-fails, not-passing}
-use Rattle.finite_group.specs.Groups.{Group, isIdentity, identityOf, isInverse, inverseOf, hasInverses, associatesAt, associates}
-use Rattle.finite_group.specs.Table.{product, Cells, goodCells, checkOf}
+use borrow.Author.Tests.{eq-eqb, lt-ltb, eqb-true, ltb-true}
+use Rattle.finite_group.specs.Bounded.{every, passes-every, every-passes, and-both, both-and}
+use Rattle.finite_group.specs.Table.{product, Cells, goodCells}
 
 -- ---- cells
 

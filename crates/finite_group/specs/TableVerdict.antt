@@ -1,16 +1,16 @@
 -- When a table is accepted and when it is refused (document 01, refusals 21 to 25), in the words of group theory: of any bytes exactly one of
 -- the cases holds, and the check gives that one.
-use mathlib.Core.Path.{_≡_, refl, sym, ap, _∙_}
+use mathlib.Core.Path.{_≡_, sym, _∙_}
 use mathlib.Core.Logic.{_⊎_, inl, inr, _↔_}
-use mathlib.Core.Bool.{Bool, true, false, cond, _&&_, true≢false}
+use mathlib.Core.Bool.{true, false, true≢false}
 use mathlib.Core.List.{List}
 use Prim.Native.Nat.{ℕ, _<_, _≤_}
 use native.Mathlib.Decide.{ℕ-discrete, decLt}
 use native.Mathlib.Omega.{arith}
-use lib.Dec.{eqb, ltb}
-use borrow.Author.Tests.{eq-eqb, ne-eqb, lt-ltb, le-ltb, eqb-true, eqb-false, ltb-true, ltb-false}
+use lib.Dec.{ltb}
+use borrow.Author.Tests.{eq-eqb, ne-eqb, lt-ltb, le-ltb, eqb-false, ltb-true}
 use Rattle.finite_group.specs.Bounded.{every-passes, passes-every, every-fails, fails-every, passes-or-fails, not-passing}
-use Rattle.finite_group.specs.Groups.{Group, identityOf, inverseOf, hasInverses, associatesAt, associates}
+use Rattle.finite_group.specs.Groups.{Group, identityOf, hasInverses, associatesAt, associates}
 use Rattle.finite_group.specs.GroupLaws.{TwoSidedIdentity, TwoSidedInverse, identity-found, found-identity, found-inverse, inverse-found, associative-passes, passes-associative, group-made, group-identity, group-inverses}
 use Rattle.finite_group.specs.Table.{product, Cells, goodCells, checkOf, GroupTable}
 use Rattle.finite_group.specs.TableLaws.{good-cells, cells-good, product-below}

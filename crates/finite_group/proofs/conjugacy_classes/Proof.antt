@@ -1,14 +1,10 @@
 -- The check of the table, then the list.
-use mathlib.Core.Path.{_≡_, refl, sym, _∙_}
+use mathlib.Core.Path.{refl, sym, _∙_}
 use borrow.Author.Needs.{needs}
 use Rattle.finite_group.specs.Lists.{representativesOf}
 use Rattle.finite_group.specs.TableVerdict.{checked-table}
 use Rattle.finite_group.proofs.conjugacy_classes.Statement.{statement}
 use Rattle.finite_group.proofs.conjugacy_classes.Tie as tie
-use Rattle.finite_group.proofs.conjugacy_classes.Reads as reads
-use Rattle.finite_group.proofs.conjugacy_classes.Lts as lts
-use Rattle.finite_group.proofs.search.list_sets.Reads as list-sets-reads
-use Rattle.finite_group.proofs.table.from_table.Reads as from-table-reads
 
 from-table-requires : tie.Need-from-table-requires
 from-table-requires c κs = search needs

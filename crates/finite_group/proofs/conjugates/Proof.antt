@@ -1,13 +1,9 @@
 -- The check of the table, then the answer on its group.
-use mathlib.Core.Path.{_≡_, refl, sym, _∙_}
+use mathlib.Core.Path.{refl, sym, _∙_}
 use borrow.Author.Needs.{needs}
 use Rattle.finite_group.specs.TableVerdict.{checked-table}
 use Rattle.finite_group.proofs.conjugates.Statement.{statement}
 use Rattle.finite_group.proofs.conjugates.Tie as tie
-use Rattle.finite_group.proofs.conjugates.Reads as reads
-use Rattle.finite_group.proofs.conjugates.Lts as lts
-use Rattle.finite_group.proofs.conjugate_list.conjugates_in.Reads as conjugates-in-reads
-use Rattle.finite_group.proofs.table.from_table.Reads as from-table-reads
 
 from-table-requires : tie.Need-from-table-requires
 from-table-requires c κs = search needs

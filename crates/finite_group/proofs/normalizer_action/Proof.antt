@@ -1,13 +1,9 @@
 -- The check of the table, then the answer on its group.
-use mathlib.Core.Path.{_≡_, refl, sym, _∙_}
+use mathlib.Core.Path.{refl, sym, _∙_}
 use borrow.Author.Needs.{needs}
 use Rattle.finite_group.specs.TableVerdict.{checked-table}
 use Rattle.finite_group.proofs.normalizer_action.Statement.{statement}
 use Rattle.finite_group.proofs.normalizer_action.Tie as tie
-use Rattle.finite_group.proofs.normalizer_action.Reads as reads
-use Rattle.finite_group.proofs.normalizer_action.Lts as lts
-use Rattle.finite_group.proofs.permutation.permutation_in.Reads as permutation-in-reads
-use Rattle.finite_group.proofs.table.from_table.Reads as from-table-reads
 
 from-table-requires : tie.Need-from-table-requires
 from-table-requires c κs = search needs

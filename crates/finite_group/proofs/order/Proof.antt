@@ -3,9 +3,6 @@ use mathlib.Core.Path.{sym, _∙_}
 use borrow.Author.Needs.{needs}
 use Rattle.finite_group.proofs.order.Statement.{statement}
 use Rattle.finite_group.proofs.order.Tie as tie
-use Rattle.finite_group.proofs.order.Reads as reads
-use Rattle.finite_group.proofs.order.Lts as lts
-use Rattle.finite_group.proofs.table.from_table.Reads as from-table-reads
 
 from-table-requires : tie.Need-from-table-requires
 from-table-requires c κs = search needs

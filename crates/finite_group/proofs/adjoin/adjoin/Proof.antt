@@ -1,12 +1,11 @@
 -- The invariant is the state of the growth with no representative being followed. Each turn takes one representative out of those that
 -- wait, and each that comes in makes the set larger.
 -- a representative less waits
-use mathlib.Core.Path.{_≡_, refl, sym, ap, _∙_, subst}
-use mathlib.Core.Bool.{Bool, true, false}
-use Prim.Native.Nat.{ℕ, _+_, _-_, _≤_, _<_, _^_}
+use mathlib.Core.Path.{_≡_}
+use mathlib.Core.Bool.{true}
+use Prim.Native.Nat.{ℕ, _+_, _-_, _<_, _^_}
 use native.Mathlib.Omega.{arith}
 use lib.Count.{ones, ones-le}
-use borrow.Author.Needs.{needs}
 use borrow.Author.Tests.{not-true, not-false}
 use Rattle.laws.specs.Sets.{member, member-below, bounded, shifted-one}
 use Rattle.finite_group.specs.Adjoin.{Growing, growing-start}
@@ -16,11 +15,6 @@ use Rattle.finite_group.specs.Removal.{Without, without-old, without-one
 use Rattle.finite_group.specs.Table.{product}
 use Rattle.finite_group.proofs.adjoin.adjoin.Statement.{statement}
 use Rattle.finite_group.proofs.adjoin.adjoin.Tie as tie
-use Rattle.finite_group.proofs.adjoin.adjoin.Reads as reads
-use Rattle.finite_group.proofs.adjoin.adjoin.Lts as lts
-use Rattle.finite_group.proofs.adjoin.swept.Reads as swept-reads
-use Rattle.finite_group.proofs.sets.lowest.Reads as lowest-reads
-use Rattle.finite_group.proofs.sets.without.Reads as without-reads
 
 fewer : (n k waiting r rest : ℕ) → k < 2 ^ n → ((x : ℕ) → member waiting x ≡ true → member k x ≡ true) → member waiting r ≡ true
     → Without waiting r rest → ones waiting ≡ ones rest + 1

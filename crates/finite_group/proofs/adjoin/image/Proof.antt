@@ -1,24 +1,16 @@
 -- The invariant: the members still to come, and the values of the others.
 -- (a x) b
-use mathlib.Core.Path.{_≡_, refl, sym, ap, _∙_, subst}
-use mathlib.Core.Bool.{true}
+use mathlib.Core.Path.{_≡_, ap, _∙_}
 use mathlib.Core.List.{List}
-use Prim.Native.Nat.{ℕ, _<_, _^_}
+use Prim.Native.Nat.{ℕ, _^_}
 use native.Mathlib.Omega.{arith}
 use lib.Bits.{bitOr}
-use borrow.Author.Needs.{needs}
-use Rattle.laws.specs.Sets.{member, member-below}
+use Rattle.laws.specs.Sets.{member-below}
 use Rattle.finite_group.specs.ImageLoop.{Imaging, imaging-start, imaging-step, imaging-end}
 use Rattle.finite_group.specs.Removal.{without-less}
 use Rattle.finite_group.specs.Table.{product}
 use Rattle.finite_group.proofs.adjoin.image.Statement.{statement}
 use Rattle.finite_group.proofs.adjoin.image.Tie as tie
-use Rattle.finite_group.proofs.adjoin.image.Reads as reads
-use Rattle.finite_group.proofs.adjoin.image.Lts as lts
-use Rattle.finite_group.proofs.sets.lowest.Reads as lowest-reads
-use Rattle.finite_group.proofs.sets.with_element.Reads as with-element-reads
-use Rattle.finite_group.proofs.sets.without.Reads as without-reads
-use Rattle.finite_group.proofs.table.cell.Reads as cell-reads
 
 abbrev value : List ℕ → ℕ → ℕ → ℕ → ℕ → ℕ
 value t n a b x = product n t (product n t a x) b

@@ -1,23 +1,14 @@
 -- The invariant: the members of h still to come, and the state of the growth.
-use mathlib.Core.Path.{_≡_, refl, sym, ap, _∙_, subst}
-use mathlib.Core.Bool.{Bool, true, false}
-use Prim.Native.Nat.{ℕ, _<_}
+use mathlib.Core.Path.{_≡_}
 use native.Mathlib.Omega.{arith}
-use borrow.Author.Needs.{needs}
 use borrow.Author.Tests.{not-true, not-false}
 use Rattle.laws.specs.Sets.{member-below}
-use Rattle.finite_group.specs.Adjoin.{Forced, product-forced, new-forced, old-forced}
-use Rattle.finite_group.specs.Growth.{Taken, Sweeping, taken-grown, taken-barred, swept-barred, sweeping-start, sweeping-step, sweeping-end}
+use Rattle.finite_group.specs.Adjoin.{product-forced, new-forced, old-forced}
+use Rattle.finite_group.specs.Growth.{Sweeping, taken-grown, taken-barred, swept-barred, sweeping-start, sweeping-step, sweeping-end}
 use Rattle.finite_group.specs.Removal.{without-less}
 use Rattle.finite_group.specs.Table.{product}
 use Rattle.finite_group.proofs.adjoin.swept.Statement.{statement}
 use Rattle.finite_group.proofs.adjoin.swept.Tie as tie
-use Rattle.finite_group.proofs.adjoin.swept.Reads as reads
-use Rattle.finite_group.proofs.adjoin.swept.Lts as lts
-use Rattle.finite_group.proofs.adjoin.taken.Reads as taken-reads
-use Rattle.finite_group.proofs.sets.lowest.Reads as lowest-reads
-use Rattle.finite_group.proofs.sets.without.Reads as without-reads
-use Rattle.finite_group.proofs.table.cell.Reads as cell-reads
 
 abbrev Inv-loop : tie.InvT-loop
 Inv-loop t n e h g bound k waiting r set₀ rest₀ left₀ set rest left = Sweeping n (product n t) e h g bound k waiting r set rest left

@@ -1,25 +1,19 @@
 -- Three returns, one for each case of `Taken`. The members of the coset below the bound are its remainder by 2 ^ bound.
-use mathlib.Core.Path.{_≡_, refl, sym, ap, _∙_, subst}
-use mathlib.Core.Bool.{Bool, true, false}
-use Prim.Native.Nat.{ℕ, _*_, _%_, _^_, _<_}
+use mathlib.Core.Path.{_≡_, refl, sym, _∙_}
+use mathlib.Core.Bool.{true, false}
+use Prim.Native.Nat.{_%_, _^_, _<_}
 use native.Mathlib.Omega.{arith}
-use lib.Bits.{bitAnd, bitOr}
+use lib.Bits.{bitAnd}
 use lib.Dec.{eqb}
 use lib.Pow.{pow-pos}
 use borrow.Author.Needs.{needs}
 use borrow.Author.Tests.{not-true, not-false}
-use Rattle.laws.specs.Sets.{member, shifted-one}
+use Rattle.laws.specs.Sets.{shifted-one}
 use Rattle.finite_group.specs.Adjoin.{cosetOf}
-use Rattle.finite_group.specs.Growth.{Taken, seen, barred, joins, within-passes, within-fails}
+use Rattle.finite_group.specs.Growth.{seen, barred, joins, within-passes, within-fails}
 use Rattle.finite_group.specs.Table.{product}
 use Rattle.finite_group.proofs.adjoin.taken.Statement.{statement}
 use Rattle.finite_group.proofs.adjoin.taken.Tie as tie
-use Rattle.finite_group.proofs.adjoin.taken.Reads as reads
-use Rattle.finite_group.proofs.adjoin.taken.Lts as lts
-use Rattle.finite_group.proofs.adjoin.image.Reads as image-reads
-use Rattle.finite_group.proofs.sets.contains.Reads as contains-reads
-use Rattle.finite_group.proofs.sets.with_element.Reads as with-element-reads
-use Rattle.finite_group.proofs.sets.within.Reads as within-reads
 
 contains-requires : tie.Need-contains-requires
 contains-requires c κs = search needs

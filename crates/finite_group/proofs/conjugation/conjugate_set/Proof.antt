@@ -1,18 +1,12 @@
 -- The image under x ↦ (g⁻¹ x) g.
-use mathlib.Core.Path.{_≡_, ap, _∙_}
+use mathlib.Core.Path.{ap, _∙_}
 use Prim.Native.Nat.{ℕ}
-use native.Mathlib.Omega.{arith}
 use borrow.Author.Needs.{needs}
 use Rattle.finite_group.specs.Conjugation.{inverse-below}
-use Rattle.finite_group.specs.Groups.{inverseOf}
 use Rattle.finite_group.specs.Subsets.{imageOf, conjugateElement, conjugateOf}
 use Rattle.finite_group.specs.Table.{product}
 use Rattle.finite_group.proofs.conjugation.conjugate_set.Statement.{statement}
 use Rattle.finite_group.proofs.conjugation.conjugate_set.Tie as tie
-use Rattle.finite_group.proofs.conjugation.conjugate_set.Reads as reads
-use Rattle.finite_group.proofs.conjugation.conjugate_set.Lts as lts
-use Rattle.finite_group.proofs.adjoin.image.Reads as image-reads
-use Rattle.finite_group.proofs.table.inverse.Reads as inverse-reads
 
 inverse-requires : tie.Need-inverse-requires
 inverse-requires c κs = search needs

@@ -1,20 +1,15 @@
 -- The invariant: a conjugate, before which none of those tried so far stands.
-use mathlib.Core.Path.{_≡_, refl, sym, ap, _∙_, subst}
+use mathlib.Core.Path.{_≡_, sym, _∙_, subst}
 use mathlib.Core.Logic.{⊎-elim}
-use mathlib.Core.Bool.{true, false, true≢false}
-use Prim.Native.Nat.{ℕ, _≤_, _-_, _+_, _<_, _^_}
+use mathlib.Core.Bool.{true≢false}
+use Prim.Native.Nat.{ℕ, _≤_, _-_, _+_, _<_}
 use native.Mathlib.Omega.{arith}
 use borrow.Author.Needs.{needs}
 use Rattle.laws.specs.ListOrder.{Precedes, earlier-precedes, precedes-earlier}
 use Rattle.finite_group.specs.Representatives.{FirstConjugate, first-start, first-kept, first-taken, conjugate-word}
-use Rattle.finite_group.specs.Subsets.{conjugateOf}
 use Rattle.finite_group.specs.Table.{product}
 use Rattle.finite_group.proofs.conjugation.first_conjugate.Statement.{statement}
 use Rattle.finite_group.proofs.conjugation.first_conjugate.Tie as tie
-use Rattle.finite_group.proofs.conjugation.first_conjugate.Reads as reads
-use Rattle.finite_group.proofs.conjugation.first_conjugate.Lts as lts
-use Rattle.finite_group.proofs.conjugation.conjugate_set.Reads as conjugate-set-reads
-use Rattle.finite_group.proofs.sets.precedes.Reads as precedes-reads
 
 abbrev Inv-loop : tie.InvT-loop
 Inv-loop t n e s best₀ g₀ best g = (g ≤ n) × FirstConjugate n (product n t) e s g best

@@ -1,13 +1,9 @@
 -- The two cases.
-use mathlib.Core.Path.{_≡_}
 use borrow.Author.Needs.{needs}
 use borrow.Author.Tests.{not-true, not-false}
 use Rattle.finite_group.specs.Representatives.{first-represented, itself-represented}
 use Rattle.finite_group.proofs.conjugation.representative.Statement.{statement}
 use Rattle.finite_group.proofs.conjugation.representative.Tie as tie
-use Rattle.finite_group.proofs.conjugation.representative.Reads as reads
-use Rattle.finite_group.proofs.conjugation.representative.Lts as lts
-use Rattle.finite_group.proofs.conjugation.first_conjugate.Reads as first-conjugate-reads
 
 returns : tie.Need-returns
 returns c = itself-represented _ _ _ (c .before .before .pre .0 .group) _ _ (not-true _ (c .if1 .taken)) (c .before .before .pre .1)

@@ -1,9 +1,9 @@
 -- The tests of the definition, then zeros or the positions.
-use mathlib.Core.Path.{_≡_, refl, sym, ap, _∙_}
+use mathlib.Core.Path.{_≡_, sym, ap, _∙_}
 use mathlib.Core.List.{List, _++_, append-nil}
 use Prim.Native.Nat.{ℕ}
 use native.Mathlib.Omega.{arith}
-use lib.Count.{ones, ones-le}
+use lib.Count.{ones-le}
 use lib.ListN.{length, drop, replicate}
 use lib.Seq.{drop-length}
 use borrow.Author.Needs.{needs}
@@ -12,12 +12,6 @@ use Rattle.finite_group.specs.Answers.{permutationAnswer, permutationByt
 use Rattle.finite_group.specs.SubgroupLaws.{test-subgroup}
 use Rattle.finite_group.proofs.permutation.permutation_in.Statement.{statement}
 use Rattle.finite_group.proofs.permutation.permutation_in.Tie as tie
-use Rattle.finite_group.proofs.permutation.permutation_in.Reads as reads
-use Rattle.finite_group.proofs.permutation.permutation_in.Lts as lts
-use Rattle.finite_group.proofs.conjugation.conjugate_set.Reads as conjugate-set-reads
-use Rattle.finite_group.proofs.permutation.permute.Reads as permute-reads
-use Rattle.finite_group.proofs.slots.clear.Reads as clear-reads
-use Rattle.finite_group.proofs.subgroup.is_subgroup.Reads as is-subgroup-reads
 
 is-subgroup-requires : tie.Need-is-subgroup-requires
 is-subgroup-requires c κs = (c .before .before .pre .cells, c .before .before .pre .group .identity-below)

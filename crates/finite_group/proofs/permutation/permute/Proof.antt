@@ -1,26 +1,18 @@
 -- The invariant: the positions of the members below x stand in front, and i counts them.
 use mathlib.Core.Path.{_≡_, refl, sym, ap, ap₂, _∙_}
-use mathlib.Core.Bool.{true, false}
 use mathlib.Core.List.{List, _++_}
-use Prim.Native.Nat.{ℕ, _≤_, _<_, _-_, _+_}
+use Prim.Native.Nat.{ℕ, _≤_, _-_, _+_}
 use native.Mathlib.Omega.{arith}
-use lib.Count.{onesIn, ones}
+use lib.Count.{onesIn}
 use lib.ListN.{length, set, drop, length-set}
-use borrow.Author.Needs.{needs}
 use borrow.Author.Tests.{not-true, not-false}
-use Rattle.laws.specs.Sets.{member, members, ones-below}
+use Rattle.laws.specs.Sets.{members, ones-below}
 use Rattle.finite_group.specs.Conjugation.{inverse-below}
 use Rattle.finite_group.specs.Permutations.{positionOf, permutationOf, permuted, permuted-in, permuted-out, count-in, count-out, count-room}
 use Rattle.finite_group.specs.Subsets.{conjugateElement}
 use Rattle.finite_group.specs.Table.{product}
 use Rattle.finite_group.proofs.permutation.permute.Statement.{statement}
 use Rattle.finite_group.proofs.permutation.permute.Tie as tie
-use Rattle.finite_group.proofs.permutation.permute.Reads as reads
-use Rattle.finite_group.proofs.permutation.permute.Lts as lts
-use Rattle.finite_group.proofs.permutation.position.Reads as position-reads
-use Rattle.finite_group.proofs.sets.contains.Reads as contains-reads
-use Rattle.finite_group.proofs.table.cell.Reads as cell-reads
-use Rattle.finite_group.proofs.table.inverse.Reads as inverse-reads
 
 abbrev Inv-loop : tie.InvT-loop
 Inv-loop list₀ t n e s g back i₀ x₀ list i x = (x ≤ n) × (i ≡ onesIn x s) × (length list ≡ length list₀) × (list ≡ permuted n (product n t) e s g x list₀)

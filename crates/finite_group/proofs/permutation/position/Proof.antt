@@ -1,5 +1,5 @@
 -- The ones of the remainder are the members below y.
-use mathlib.Core.Path.{_≡_, ap, _∙_}
+use mathlib.Core.Path.{ap, _∙_}
 use Prim.Native.Nat.{ℕ, _%_, _^_}
 use native.Mathlib.Omega.{arith}
 use native.Mathlib.Nat.{mod-lt}
@@ -10,8 +10,6 @@ use Rattle.laws.specs.Sets.{shifted-one}
 use Rattle.finite_group.specs.Permutations.{position-ones}
 use Rattle.finite_group.proofs.permutation.position.Statement.{statement}
 use Rattle.finite_group.proofs.permutation.position.Tie as tie
-use Rattle.finite_group.proofs.permutation.position.Reads as reads
-use Rattle.finite_group.proofs.permutation.position.Lts as lts
 
 shl-result : tie.Need-shl-result
 shl-result c = search needs

@@ -1,7 +1,6 @@
 -- The invariant: the extensions by the elements below g were put in.
-use mathlib.Core.Path.{_≡_, refl, sym, ap, _∙_, subst}
-use mathlib.Core.List.{List}
-use Prim.Native.Nat.{ℕ, _≤_, _<_, _+_, _-_}
+use mathlib.Core.Path.{_≡_, refl, _∙_, subst}
+use Prim.Native.Nat.{ℕ, _≤_, _+_, _-_}
 use native.Mathlib.Omega.{arith}
 use lib.ListN.{length}
 use borrow.Author.Needs.{needs}
@@ -10,9 +9,6 @@ use Rattle.finite_group.specs.Table.{product}
 use Rattle.finite_group.specs.declared.search.Found.the-variants.{Count, Full}
 use Rattle.finite_group.proofs.search.extend.Statement.{statement}
 use Rattle.finite_group.proofs.search.extend.Tie as tie
-use Rattle.finite_group.proofs.search.extend.Reads as reads
-use Rattle.finite_group.proofs.search.extend.Lts as lts
-use Rattle.finite_group.proofs.search.extend_by.Reads as extend-by-reads
 
 abbrev Inv-loop : tie.InvT-loop
 Inv-loop sets₀ t n e classes count h c₀ g₀ sets c g = (g ≤ n) × (length sets ≡ length sets₀) × Extended n (product n t) e classes h 0 g count sets₀ sets (Count c)

@@ -1,24 +1,14 @@
 -- Each return is a case of the step: g is a member; the extension is passed over; its representative is there, finds no slot, or is put in.
 -- the bound is at most n
-use mathlib.Core.Path.{_≡_, refl, sym, ap, _∙_, subst}
+use mathlib.Core.Path.{_≡_, sym, _∙_}
 use mathlib.Core.Bool.{Bool, true, false, cond}
-use Prim.Native.Nat.{ℕ, _≤_, _<_, _+_, _*_}
+use Prim.Native.Nat.{ℕ, _≤_, _<_}
 use native.Mathlib.Omega.{arith}
 use lib.ListN.{length}
 use borrow.Author.Needs.{needs}
-use Rattle.finite_group.specs.Adjoin.{Barred}
-use Rattle.finite_group.specs.Growth.{Adjoined}
-use Rattle.finite_group.specs.SearchLoop.{Extended, extended-settled, member-settled, barred-settled, extended-present, extended-full, extended-added, inserted-room}
-use Rattle.finite_group.specs.Table.{product}
+use Rattle.finite_group.specs.SearchLoop.{extended-settled, member-settled, barred-settled, extended-present, extended-full, extended-added, inserted-room}
 use Rattle.finite_group.proofs.search.extend_by.Statement.{statement}
 use Rattle.finite_group.proofs.search.extend_by.Tie as tie
-use Rattle.finite_group.proofs.search.extend_by.Reads as reads
-use Rattle.finite_group.proofs.search.extend_by.Lts as lts
-use Rattle.finite_group.proofs.adjoin.adjoin.Reads as adjoin-reads
-use Rattle.finite_group.proofs.conjugation.representative.Reads as representative-reads
-use Rattle.finite_group.proofs.search.bound_of.Reads as bound-of-reads
-use Rattle.finite_group.proofs.sets.contains.Reads as contains-reads
-use Rattle.finite_group.proofs.slots.insert.Reads as insert-reads
 
 bound-le : (classes : Bool) (g n : ℕ) → g < n → cond classes 0 g ≤ n
 bound-le true g n h = omega arith

@@ -1,6 +1,5 @@
 -- The two results of the search.
-use mathlib.Core.Path.{_≡_, refl, sym, ap, _∙_}
-use Prim.Native.Nat.{ℕ}
+use mathlib.Core.Path.{_≡_}
 use native.Mathlib.Omega.{arith}
 use lib.ListN.{length}
 use borrow.Author.Needs.{needs}
@@ -8,10 +7,6 @@ use Rattle.finite_group.specs.ListAnswers.{answer-count, answer-full}
 use Rattle.finite_group.specs.Table.{product}
 use Rattle.finite_group.proofs.search.list_sets.Statement.{statement}
 use Rattle.finite_group.proofs.search.list_sets.Tie as tie
-use Rattle.finite_group.proofs.search.list_sets.Reads as reads
-use Rattle.finite_group.proofs.search.list_sets.Lts as lts
-use Rattle.finite_group.proofs.search.search.Reads as search-reads
-use Rattle.finite_group.proofs.slots.clear.Reads as clear-reads
 
 search-requires : tie.Need-search-requires
 search-requires c κs = search needs

@@ -1,22 +1,15 @@
 -- The invariant is `Searching`. Each turn settles one set more, and there are no more sets than slots.
-use mathlib.Core.Path.{_≡_, refl, sym, ap, _∙_, subst}
-use mathlib.Core.List.{List, _++_}
-use Prim.Native.Nat.{ℕ, _≤_, _<_, _+_, _-_, _*_, _^_}
+use mathlib.Core.Path.{_≡_, refl, _∙_}
+use Prim.Native.Nat.{_<_, _-_}
 use native.Mathlib.Omega.{arith}
-use lib.ListN.{length, take, drop}
+use lib.ListN.{length}
 use borrow.Author.Needs.{needs}
 use Rattle.laws.specs.Sets.{shifted-one}
-use Rattle.finite_group.specs.SearchLoop.{Searching, none-result, searching-slot, searching-subgroup, searching-next, searching-overflow, searching-end, restart, restart-start}
-use Rattle.finite_group.specs.Slots.{bytesOf}
+use Rattle.finite_group.specs.SearchLoop.{Searching, none-result, searching-subgroup, searching-next, searching-overflow, searching-end, restart, restart-start}
 use Rattle.finite_group.specs.Table.{product}
 use Rattle.finite_group.specs.declared.search.Found.the-variants.{Count, Full}
 use Rattle.finite_group.proofs.search.search.Statement.{statement}
 use Rattle.finite_group.proofs.search.search.Tie as tie
-use Rattle.finite_group.proofs.search.search.Reads as reads
-use Rattle.finite_group.proofs.search.search.Lts as lts
-use Rattle.finite_group.proofs.search.extend.Reads as extend-reads
-use Rattle.finite_group.proofs.slots.set_slot.Reads as set-slot-reads
-use Rattle.finite_group.proofs.slots.slot.Reads as slot-reads
 
 abbrev Inv-loop : tie.InvT-loop
 Inv-loop sets₀ t n e classes count₀ done₀ sets count done = (length sets₀ ≡ length sets) × Searching n (product n t) e classes sets₀ sets count done

@@ -4,8 +4,6 @@ use borrow.Author.Needs.{needs}
 use Rattle.laws.specs.Sets.{member}
 use Rattle.finite_group.proofs.sets.contains.Statement.{statement}
 use Rattle.finite_group.proofs.sets.contains.Tie as tie
-use Rattle.finite_group.proofs.sets.contains.Reads as reads
-use Rattle.finite_group.proofs.sets.contains.Lts as lts
 
 shr-result : tie.Need-shr-result
 shr-result c = search needs

@@ -1,13 +1,10 @@
 -- The trailing zeros' count is the lowest member.
 use mathlib.Core.Path.{_≡_}
-use Prim.Native.Nat.{ℕ}
 use native.Mathlib.Omega.{arith}
 use lib.Count.{trailing-le}
 use Rattle.laws.specs.Sets.{trailing-member, trailing-some}
 use Rattle.finite_group.proofs.sets.lowest.Statement.{statement}
 use Rattle.finite_group.proofs.sets.lowest.Tie as tie
-use Rattle.finite_group.proofs.sets.lowest.Reads as reads
-use Rattle.finite_group.proofs.sets.lowest.Lts as lts
 
 cast-result : tie.Need-cast-result
 cast-result c = omega (arith, trailing-le 64 (c .args .s))

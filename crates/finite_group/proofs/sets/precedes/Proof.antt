@@ -5,9 +5,6 @@ use borrow.Author.Tests.{lt-ltb, le-ltb}
 use Rattle.laws.specs.ListOrder.{earlier}
 use Rattle.finite_group.proofs.sets.precedes.Statement.{statement}
 use Rattle.finite_group.proofs.sets.precedes.Tie as tie
-use Rattle.finite_group.proofs.sets.precedes.Reads as reads
-use Rattle.finite_group.proofs.sets.precedes.Lts as lts
-use Rattle.finite_group.proofs.sets.contains.Reads as contains-reads
 
 returns : tie.Need-returns
 unfolding earlier

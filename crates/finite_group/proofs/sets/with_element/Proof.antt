@@ -5,8 +5,6 @@ use borrow.Author.Needs.{needs}
 use Rattle.laws.specs.Sets.{shifted-one}
 use Rattle.finite_group.proofs.sets.with_element.Statement.{statement}
 use Rattle.finite_group.proofs.sets.with_element.Tie as tie
-use Rattle.finite_group.proofs.sets.with_element.Reads as reads
-use Rattle.finite_group.proofs.sets.with_element.Lts as lts
 
 shl-result : tie.Need-shl-result
 shl-result c = search needs

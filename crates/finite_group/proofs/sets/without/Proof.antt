@@ -4,8 +4,6 @@ use Rattle.laws.specs.Sets.{shifted-one}
 use Rattle.finite_group.specs.Removal.{xor-without}
 use Rattle.finite_group.proofs.sets.without.Statement.{statement}
 use Rattle.finite_group.proofs.sets.without.Tie as tie
-use Rattle.finite_group.proofs.sets.without.Reads as reads
-use Rattle.finite_group.proofs.sets.without.Lts as lts
 
 shl-result : tie.Need-shl-result
 shl-result c = search needs

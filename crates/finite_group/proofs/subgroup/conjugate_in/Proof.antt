@@ -1,15 +1,10 @@
 -- The tests of the definition.
-use mathlib.Core.Path.{_≡_, sym, ap, _∙_}
-use borrow.Author.Needs.{needs}
+use mathlib.Core.Path.{sym, _∙_}
 use borrow.Author.Tests.{not-true, not-false, lt-ltb, le-ltb}
 use Rattle.finite_group.specs.Answers.{conjugateAnswer}
 use Rattle.finite_group.specs.SubgroupLaws.{test-subgroup}
 use Rattle.finite_group.proofs.subgroup.conjugate_in.Statement.{statement}
 use Rattle.finite_group.proofs.subgroup.conjugate_in.Tie as tie
-use Rattle.finite_group.proofs.subgroup.conjugate_in.Reads as reads
-use Rattle.finite_group.proofs.subgroup.conjugate_in.Lts as lts
-use Rattle.finite_group.proofs.conjugation.conjugate_set.Reads as conjugate-set-reads
-use Rattle.finite_group.proofs.subgroup.is_subgroup.Reads as is-subgroup-reads
 
 is-subgroup-requires : tie.Need-is-subgroup-requires
 is-subgroup-requires c κs = (c .before .pre .cells, c .before .pre .group .identity-below)

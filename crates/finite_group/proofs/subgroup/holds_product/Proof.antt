@@ -1,16 +1,9 @@
 -- Two tests.
-use mathlib.Core.Path.{_≡_, sym, ap, _∙_}
-use Prim.Native.Nat.{ℕ}
-use native.Mathlib.Omega.{arith}
+use mathlib.Core.Path.{sym, _∙_}
 use borrow.Author.Needs.{needs}
 use borrow.Author.Tests.{not-true, not-false}
-use Rattle.laws.specs.Sets.{member}
 use Rattle.finite_group.proofs.subgroup.holds_product.Statement.{statement}
 use Rattle.finite_group.proofs.subgroup.holds_product.Tie as tie
-use Rattle.finite_group.proofs.subgroup.holds_product.Reads as reads
-use Rattle.finite_group.proofs.subgroup.holds_product.Lts as lts
-use Rattle.finite_group.proofs.sets.contains.Reads as contains-reads
-use Rattle.finite_group.proofs.table.cell.Reads as cell-reads
 
 contains-requires : tie.Need-contains-requires
 contains-requires c κs = search needs

@@ -1,14 +1,9 @@
 -- Two tests.
-use mathlib.Core.Path.{_≡_, sym, ap, _∙_}
-use Prim.Native.Nat.{ℕ}
+use mathlib.Core.Path.{sym, _∙_}
 use borrow.Author.Needs.{needs}
 use borrow.Author.Tests.{not-true, not-false}
 use Rattle.finite_group.proofs.subgroup.holds_products.Statement.{statement}
 use Rattle.finite_group.proofs.subgroup.holds_products.Tie as tie
-use Rattle.finite_group.proofs.subgroup.holds_products.Reads as reads
-use Rattle.finite_group.proofs.subgroup.holds_products.Lts as lts
-use Rattle.finite_group.proofs.sets.contains.Reads as contains-reads
-use Rattle.finite_group.proofs.subgroup.holds_row.Reads as holds-row-reads
 
 contains-requires : tie.Need-contains-requires
 contains-requires c κs = search needs

@@ -1,5 +1,5 @@
 -- The loop passes the members whose products with x are held.
-use mathlib.Core.Path.{_≡_, sym, ap, _∙_}
+use mathlib.Core.Path.{_≡_, sym, _∙_}
 use mathlib.Core.Bool.{true, cond}
 use Prim.Native.Nat.{ℕ, _≤_, _<_, _-_}
 use native.Mathlib.Omega.{arith}
@@ -12,9 +12,6 @@ use Rattle.finite_group.specs.Subsets.{holdsRow}
 use Rattle.finite_group.specs.Table.{product}
 use Rattle.finite_group.proofs.subgroup.holds_row.Statement.{statement}
 use Rattle.finite_group.proofs.subgroup.holds_row.Tie as tie
-use Rattle.finite_group.proofs.subgroup.holds_row.Reads as reads
-use Rattle.finite_group.proofs.subgroup.holds_row.Lts as lts
-use Rattle.finite_group.proofs.subgroup.holds_product.Reads as holds-product-reads
 
 abbrev Inv-loop : tie.InvT-loop
 Inv-loop t n s x y₀ y = (y ≤ n) × ((i : ℕ) → i < y → cond (member s i) (member s (product n t x i)) true ≡ true)

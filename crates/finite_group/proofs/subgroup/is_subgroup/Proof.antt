@@ -1,22 +1,17 @@
 -- The tests of the definition; the loop passes the members whose products are held.
-use mathlib.Core.Path.{_≡_, refl, sym, ap, _∙_}
-use mathlib.Core.Bool.{Bool, true, false, cond, _&&_}
+use mathlib.Core.Path.{_≡_, sym, _∙_}
+use mathlib.Core.Bool.{true, cond}
 use Prim.Native.Nat.{ℕ, _≤_, _<_, _-_, _^_}
 use native.Mathlib.Omega.{arith}
 use lib.Dec.{ltb}
 use borrow.Author.Count.{below-more}
-use borrow.Author.Needs.{needs}
 use borrow.Author.Tests.{not-true, not-false, lt-ltb, le-ltb}
 use Rattle.laws.specs.Sets.{member, shifted-one}
-use Rattle.finite_group.specs.Bounded.{every, fails-every, passes-every, and-fails-left, and-fails, both-and}
+use Rattle.finite_group.specs.Bounded.{fails-every, passes-every, and-fails-left, and-fails, both-and}
 use Rattle.finite_group.specs.Subsets.{holdsRow, isSubgroup}
 use Rattle.finite_group.specs.Table.{product}
 use Rattle.finite_group.proofs.subgroup.is_subgroup.Statement.{statement}
 use Rattle.finite_group.proofs.subgroup.is_subgroup.Tie as tie
-use Rattle.finite_group.proofs.subgroup.is_subgroup.Reads as reads
-use Rattle.finite_group.proofs.subgroup.is_subgroup.Lts as lts
-use Rattle.finite_group.proofs.sets.contains.Reads as contains-reads
-use Rattle.finite_group.proofs.subgroup.holds_products.Reads as holds-products-reads
 
 abbrev Inv-loop : tie.InvT-loop
 Inv-loop t n e s x₀ x = (x ≤ n) × ((i : ℕ) → i < x → cond (member s i) (holdsRow n (product n t) s i) true ≡ true)

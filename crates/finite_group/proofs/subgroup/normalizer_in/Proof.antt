@@ -1,15 +1,10 @@
 -- The tests of the definition.
-use mathlib.Core.Path.{_≡_, sym, ap, _∙_}
-use borrow.Author.Needs.{needs}
+use mathlib.Core.Path.{sym, _∙_}
 use borrow.Author.Tests.{not-true, not-false}
 use Rattle.finite_group.specs.Answers.{normalizerAnswer}
 use Rattle.finite_group.specs.SubgroupLaws.{test-subgroup}
 use Rattle.finite_group.proofs.subgroup.normalizer_in.Statement.{statement}
 use Rattle.finite_group.proofs.subgroup.normalizer_in.Tie as tie
-use Rattle.finite_group.proofs.subgroup.normalizer_in.Reads as reads
-use Rattle.finite_group.proofs.subgroup.normalizer_in.Lts as lts
-use Rattle.finite_group.proofs.subgroup.is_subgroup.Reads as is-subgroup-reads
-use Rattle.finite_group.proofs.subgroup.normalizer_set.Reads as normalizer-set-reads
 
 is-subgroup-requires : tie.Need-is-subgroup-requires
 is-subgroup-requires c κs = (c .before .pre .cells, c .before .pre .group .identity-below)

@@ -4,19 +4,15 @@ use mathlib.Core.Path.{_≡_, refl, sym, ap, _∙_}
 use mathlib.Core.Logic.{⊎-elim}
 use mathlib.Core.Bool.{Bool}
 use mathlib.Core.List.{List}
-use Prim.Native.Nat.{ℕ, _≤_, _-_, _+_, _<_}
+use Prim.Native.Nat.{ℕ, _≤_, _-_, _<_}
 use native.Mathlib.Omega.{arith}
 use lib.Dec.{eqb}
-use borrow.Author.Needs.{needs}
 use borrow.Author.Tests.{eq-eqb, ne-eqb}
 use Rattle.laws.specs.Sets.{setOf, setOf-in, setOf-out, setOf-room, shifted-one}
 use Rattle.finite_group.specs.Subsets.{conjugateOf, normalizerOf}
 use Rattle.finite_group.specs.Table.{product}
 use Rattle.finite_group.proofs.subgroup.normalizer_set.Statement.{statement}
 use Rattle.finite_group.proofs.subgroup.normalizer_set.Tie as tie
-use Rattle.finite_group.proofs.subgroup.normalizer_set.Reads as reads
-use Rattle.finite_group.proofs.subgroup.normalizer_set.Lts as lts
-use Rattle.finite_group.proofs.conjugation.conjugate_set.Reads as conjugate-set-reads
 
 abbrev keeps : List ℕ → ℕ → ℕ → ℕ → ℕ → Bool
 keeps t n e s g = eqb (conjugateOf n (product n t) e s g) s

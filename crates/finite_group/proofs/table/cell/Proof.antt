@@ -6,8 +6,6 @@ use Rattle.finite_group.specs.Table.{product}
 use Rattle.finite_group.specs.TableLaws.{cell-place}
 use Rattle.finite_group.proofs.table.cell.Statement.{statement}
 use Rattle.finite_group.proofs.table.cell.Tie as tie
-use Rattle.finite_group.proofs.table.cell.Reads as reads
-use Rattle.finite_group.proofs.table.cell.Lts as lts
 
 mul-result : tie.Need-mul-result
 mul-result c = let h = cell-place (c .args .n) (c .args .i) (c .args .j) (c .pre .0 .limit) (c .pre .1) (c .pre .2) in omega arith

@@ -1,19 +1,11 @@
 -- Each return rewrites the definition with the tests that led to it.
-use mathlib.Core.Path.{_≡_, refl, sym, ap, _∙_}
-use Prim.Native.Nat.{ℕ}
-use native.Mathlib.Omega.{arith}
+use mathlib.Core.Path.{sym, _∙_}
 use borrow.Author.Needs.{needs}
 use borrow.Author.Tests.{eq-eqb, ne-eqb, lt-ltb, le-ltb, not-true, not-false}
 use Rattle.finite_group.specs.Table.{checkOf}
 use Rattle.finite_group.specs.TableLaws.{good-cells}
 use Rattle.finite_group.proofs.table.from_table.Statement.{statement}
 use Rattle.finite_group.proofs.table.from_table.Tie as tie
-use Rattle.finite_group.proofs.table.from_table.Reads as reads
-use Rattle.finite_group.proofs.table.from_table.Lts as lts
-use Rattle.finite_group.proofs.table.good_cells.Reads as good-cells-reads
-use Rattle.finite_group.proofs.table.has_inverses.Reads as has-inverses-reads
-use Rattle.finite_group.proofs.table.identity_of.Reads as identity-of-reads
-use Rattle.finite_group.proofs.table.is_associative.Reads as is-associative-reads
 
 returns : tie.Need-returns
 unfolding checkOf

@@ -1,19 +1,17 @@
 -- The loop passes the cells that are below n.
-use mathlib.Core.Path.{_≡_, refl, sym, ap, _∙_}
+use mathlib.Core.Path.{_≡_, sym}
 use mathlib.Core.Bool.{true}
 use Prim.Native.Nat.{ℕ, _≤_, _<_, _-_, _*_}
 use native.Mathlib.Omega.{arith}
 use lib.Dec.{ltb, eqb}
 use lib.ListN.{length, getD}
-use borrow.Author.Count.{below-none, below-more}
+use borrow.Author.Count.{below-more}
 use borrow.Author.Tests.{eq-eqb, ne-eqb, lt-ltb, le-ltb}
 use Rattle.finite_group.specs.Bounded.{fails-every, passes-every, and-fails, and-fails-left, both-and}
 use Rattle.finite_group.specs.Table.{goodCells}
 use Rattle.finite_group.specs.TableLaws.{square-limit}
 use Rattle.finite_group.proofs.table.good_cells.Statement.{statement}
 use Rattle.finite_group.proofs.table.good_cells.Tie as tie
-use Rattle.finite_group.proofs.table.good_cells.Reads as reads
-use Rattle.finite_group.proofs.table.good_cells.Lts as lts
 
 abbrev Inv-loop : tie.InvT-loop
 Inv-loop t n k₀ k = (k ≤ length t) × ((i : ℕ) → i < k → ltb (getD t i 0) n ≡ true)

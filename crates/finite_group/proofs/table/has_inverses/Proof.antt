@@ -1,5 +1,5 @@
 -- The loop passes elements that have an inverse.
-use mathlib.Core.Path.{_≡_, refl, sym, ap, _∙_}
+use mathlib.Core.Path.{_≡_, sym}
 use mathlib.Core.Bool.{true}
 use Prim.Native.Nat.{ℕ, _≤_, _<_, _-_}
 use native.Mathlib.Omega.{arith}
@@ -12,9 +12,6 @@ use Rattle.finite_group.specs.Groups.{inverseOf, hasInverses}
 use Rattle.finite_group.specs.Table.{product}
 use Rattle.finite_group.proofs.table.has_inverses.Statement.{statement}
 use Rattle.finite_group.proofs.table.has_inverses.Tie as tie
-use Rattle.finite_group.proofs.table.has_inverses.Reads as reads
-use Rattle.finite_group.proofs.table.has_inverses.Lts as lts
-use Rattle.finite_group.proofs.table.inverse.Reads as inverse-reads
 
 abbrev Inv-loop : tie.InvT-loop
 Inv-loop t n e x₀ x = (x ≤ n) × ((i : ℕ) → i < x → ltb (inverseOf n (product n t) e i) n ≡ true)

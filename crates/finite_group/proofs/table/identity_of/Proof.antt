@@ -1,5 +1,5 @@
 -- The search passes elements that are no identity, and is left at the first that is one.
-use mathlib.Core.Path.{_≡_, refl, sym, ap, _∙_}
+use mathlib.Core.Path.{_≡_, sym, _∙_}
 use mathlib.Core.Bool.{false}
 use Prim.Native.Nat.{ℕ, _≤_, _<_, _-_}
 use native.Mathlib.Omega.{arith}
@@ -10,9 +10,6 @@ use Rattle.finite_group.specs.Groups.{isIdentity, identityOf}
 use Rattle.finite_group.specs.Table.{product}
 use Rattle.finite_group.proofs.table.identity_of.Statement.{statement}
 use Rattle.finite_group.proofs.table.identity_of.Tie as tie
-use Rattle.finite_group.proofs.table.identity_of.Reads as reads
-use Rattle.finite_group.proofs.table.identity_of.Lts as lts
-use Rattle.finite_group.proofs.table.is_identity.Reads as is-identity-reads
 
 abbrev Inv-loop : tie.InvT-loop
 Inv-loop t n e₀ e = (e ≤ n) × ((i : ℕ) → i < e → isIdentity n (product n t) i ≡ false)

@@ -1,5 +1,5 @@
 -- The search passes elements that are no inverse, and is left at the first that is one.
-use mathlib.Core.Path.{_≡_, refl, sym, ap, _∙_}
+use mathlib.Core.Path.{_≡_, sym, _∙_}
 use mathlib.Core.Bool.{false}
 use Prim.Native.Nat.{ℕ, _≤_, _<_, _-_}
 use native.Mathlib.Omega.{arith}
@@ -10,9 +10,6 @@ use Rattle.finite_group.specs.Groups.{isInverse, inverseOf}
 use Rattle.finite_group.specs.Table.{product}
 use Rattle.finite_group.proofs.table.inverse.Statement.{statement}
 use Rattle.finite_group.proofs.table.inverse.Tie as tie
-use Rattle.finite_group.proofs.table.inverse.Reads as reads
-use Rattle.finite_group.proofs.table.inverse.Lts as lts
-use Rattle.finite_group.proofs.table.is_inverse.Reads as is-inverse-reads
 
 abbrev Inv-loop : tie.InvT-loop
 Inv-loop t n e x y₀ y = (y ≤ n) × ((i : ℕ) → i < y → isInverse (product n t) e x i ≡ false)

@@ -1,10 +1,10 @@
 -- The three loops pass triples that associate. The one that does not is left by the label, with the flag down.
 -- whether i and j associate with each k
 -- whether i associates with each j and k
-use mathlib.Core.Path.{_≡_, refl, sym, ap, _∙_}
-use mathlib.Core.Bool.{Bool, true, false}
+use mathlib.Core.Path.{_≡_, refl, sym, _∙_}
+use mathlib.Core.Bool.{Bool, true}
 use mathlib.Core.List.{List}
-use Prim.Native.Nat.{ℕ, _≤_, _-_, _+_, _<_}
+use Prim.Native.Nat.{ℕ, _≤_, _-_, _<_}
 use native.Mathlib.Omega.{arith}
 use borrow.Author.Count.{below-more}
 use borrow.Author.Needs.{needs}
@@ -14,9 +14,6 @@ use Rattle.finite_group.specs.Groups.{associatesAt, associates}
 use Rattle.finite_group.specs.Table.{product}
 use Rattle.finite_group.proofs.table.is_associative.Statement.{statement}
 use Rattle.finite_group.proofs.table.is_associative.Tie as tie
-use Rattle.finite_group.proofs.table.is_associative.Reads as reads
-use Rattle.finite_group.proofs.table.is_associative.Lts as lts
-use Rattle.finite_group.proofs.table.cell.Reads as cell-reads
 
 abbrev pair : List ℕ → ℕ → ℕ → ℕ → Bool
 pair t n i j = every (λ k. associatesAt (product n t) i j k) n

@@ -1,5 +1,5 @@
 -- The loop passes the elements that e leaves as they are from both sides.
-use mathlib.Core.Path.{_≡_, refl, sym, ap, _∙_}
+use mathlib.Core.Path.{_≡_, sym, _∙_}
 use mathlib.Core.Bool.{true, _&&_}
 use Prim.Native.Nat.{ℕ, _≤_, _<_, _-_}
 use native.Mathlib.Omega.{arith}
@@ -12,9 +12,6 @@ use Rattle.finite_group.specs.Groups.{isIdentity}
 use Rattle.finite_group.specs.Table.{product}
 use Rattle.finite_group.proofs.table.is_identity.Statement.{statement}
 use Rattle.finite_group.proofs.table.is_identity.Tie as tie
-use Rattle.finite_group.proofs.table.is_identity.Reads as reads
-use Rattle.finite_group.proofs.table.is_identity.Lts as lts
-use Rattle.finite_group.proofs.table.cell.Reads as cell-reads
 
 abbrev Inv-loop : tie.InvT-loop
 Inv-loop t n e x₀ x = (x ≤ n) × ((i : ℕ) → i < x → (eqb (product n t e i) i && eqb (product n t i e) i) ≡ true)

@@ -1,16 +1,11 @@
 -- Both products are compared with the identity.
-use mathlib.Core.Path.{_≡_, sym, ap, _∙_}
-use lib.Dec.{eqb}
-use Prim.Native.Nat.{ℕ}
+use mathlib.Core.Path.{sym, _∙_}
 use borrow.Author.Needs.{needs}
 use borrow.Author.Tests.{eq-eqb, ne-eqb}
 use Rattle.finite_group.specs.Bounded.{and-fails-left}
 use Rattle.finite_group.specs.Groups.{isInverse}
 use Rattle.finite_group.proofs.table.is_inverse.Statement.{statement}
 use Rattle.finite_group.proofs.table.is_inverse.Tie as tie
-use Rattle.finite_group.proofs.table.is_inverse.Reads as reads
-use Rattle.finite_group.proofs.table.is_inverse.Lts as lts
-use Rattle.finite_group.proofs.table.cell.Reads as cell-reads
 
 cell-requires : tie.Need-cell-requires
 cell-requires c κs = search needs
