@@ -9,67 +9,51 @@ use Rattle.centering.proofs.difference.Tie as tie
 use Rattle.centering.proofs.difference.Reads as reads
 use Rattle.centering.proofs.difference.Lts as lts
 
--- src/lib.rt:133:14
 cast-t3 : tie.Need-cast-t3
 cast-t3 c = search needs
 
--- src/lib.rt:133:33
 cast-t4 : tie.Need-cast-t4
 cast-t4 c = search needs
 
--- src/lib.rt:133:27
 mul-t5 : tie.Need-mul-t5
 mul-t5 c = search needs
 
--- src/lib.rt:133:14
 add-t6 : tie.Need-add-t6
 add-t6 c = search needs
 
--- src/lib.rt:133:12
 cast-t8 : tie.Need-cast-t8
 cast-t8 c = search needs
 
--- src/lib.rt:134:14
 cast-t9 : tie.Need-cast-t9
 cast-t9 c = search needs
 
--- src/lib.rt:134:33
 cast-t10 : tie.Need-cast-t10
 cast-t10 c = search needs
 
--- src/lib.rt:134:27
 mul-t11 : tie.Need-mul-t11
 mul-t11 c = search needs
 
--- src/lib.rt:134:14
 add-t12 : tie.Need-add-t12
 add-t12 c = search needs
 
--- src/lib.rt:134:12
 cast-t14 : tie.Need-cast-t14
 cast-t14 c = search needs
 
--- src/lib.rt:135:14
 cast-t15 : tie.Need-cast-t15
 cast-t15 c = search needs
 
--- src/lib.rt:135:33
 cast-t16 : tie.Need-cast-t16
 cast-t16 c = search needs
 
--- src/lib.rt:135:27
 mul-t17 : tie.Need-mul-t17
 mul-t17 c = search needs
 
--- src/lib.rt:135:14
 add-t18 : tie.Need-add-t18
 add-t18 c = search needs
 
--- src/lib.rt:135:12
 cast-t20 : tie.Need-cast-t20
 cast-t20 c = search needs
 
--- src/lib.rt:129:1
 returns : tie.Need-returns
 unfolding differenceOf vectorOf plus opposite
 returns c = simp residue-difference

@@ -10,55 +10,42 @@ use Rattle.centering.proofs.is_point.Lts as lts
 use Rattle.centering.proofs.Centering.lattice_points.Reads as lattice-points-reads
 use Rattle.centering.proofs.same.Reads as same-reads
 
--- src/lib.rt:142:9
 lattice-points-requires : tie.Need-lattice-points-requires
 lattice-points-requires c κs = search needs
 
--- src/lib.rt:144:16
 array-copy-out-same : tie.Need-array-copy-out-same
 array-copy-out-same c = search needs
 
--- src/lib.rt:144:8
 same-requires : tie.Need-same-requires
 same-requires c κs = search needs
 
--- src/lib.rt:145:9
 returns : tie.Need-returns
 returns c = search-found _ _ (c .before .before .before .before .lattice-points .ensures) _ _ 0 (lit< tt) (sym (c .before .same .ensures) ∙ c .if1 .taken)
 
--- src/lib.rt:147:16
 array-copy-out-same-2 : tie.Need-array-copy-out-same-2
 array-copy-out-same-2 c = search needs
 
--- src/lib.rt:147:8
 same-requires-2 : tie.Need-same-requires-2
 same-requires-2 c κs = search needs
 
--- src/lib.rt:148:9
 returns-2 : tie.Need-returns-2
 returns-2 c = search-found _ _ (c .before .before .before .before .before .before .before .lattice-points .ensures) _ _ 1 (lit< tt) (sym (c .before .same2 .ensures) ∙ c .if2 .taken)
 
--- src/lib.rt:150:16
 array-copy-out-same-3 : tie.Need-array-copy-out-same-3
 array-copy-out-same-3 c = search needs
 
--- src/lib.rt:150:8
 same-requires-3 : tie.Need-same-requires-3
 same-requires-3 c κs = search needs
 
--- src/lib.rt:151:9
 returns-3 : tie.Need-returns-3
 returns-3 c = search-found _ _ (c .before .before .before .before .before .before .before .before .before .before .lattice-points .ensures) _ _ 2 (lit< tt) (sym (c .before .same3 .ensures) ∙ c .if3 .taken)
 
--- src/lib.rt:153:13
 array-copy-out-same-4 : tie.Need-array-copy-out-same-4
 array-copy-out-same-4 c = search needs
 
--- src/lib.rt:153:5
 same-requires-4 : tie.Need-same-requires-4
 same-requires-4 c κs = search needs
 
--- src/lib.rt:139:1
 returns-4 : tie.Need-returns-4
 returns-4 c =
     c .same4 .ensures ∙

@@ -26,33 +26,26 @@ Inv-loop c r count points i₀ i =
 abbrev μ-loop : tie.MeasureT-loop
 μ-loop c r count points i₀ i = count - i
 
--- src/lib.rt:202:9
 lattice-points-requires : tie.Need-lattice-points-requires Inv-loop μ-loop
 lattice-points-requires c κs = search needs
 
--- src/lib.rt:206:5
 loop-holds : tie.Need-loop-holds Inv-loop μ-loop
 loop-holds c =
     let a = c .before .before .args in
     (count-range (a .c) .0, count-is (a .c) _ (c .before .lattice-points .ensures), keeps-start (a .c) (a .r))
 
--- src/lib.rt:207:35
 mul-rotated : tie.Need-mul-rotated Inv-loop μ-loop
 mul-rotated c = omega (arith, count-range (c .before .before .before .before .args .c))
 
--- src/lib.rt:207:35
 array-copy-out-rotated : tie.Need-array-copy-out-rotated Inv-loop μ-loop
 array-copy-out-rotated c = omega (arith, count-range (c .before .before .before .before .args .c))
 
--- src/lib.rt:207:24
 rotated-requires : tie.Need-rotated-requires Inv-loop μ-loop
 rotated-requires c κs = search needs
 
--- src/lib.rt:207:13
 contains-requires : tie.Need-contains-requires Inv-loop μ-loop
 contains-requires c κs = search needs
 
--- src/lib.rt:208:13
 returns : tie.Need-returns Inv-loop μ-loop
 returns c =
     let a = c .before .before .before .before .before .before .before .before .args in
@@ -64,15 +57,12 @@ returns c =
     ap (staysIn (a .c) (a .r)) (point-at (a .c) _ (c .before .before .before .before .before .before .before .lattice-points .ensures) i _ (omega arith))) in
     sym (all-fails (staysIn (a .c) (a .r)) (pointsOf (a .c)) zeroTriple i (omega arith) (test ∙ not-true (c .before .contains .result) (c .if1 .taken))) ∙ c .before .before .before .before .before .loop .inv .2
 
--- src/lib.rt:210:9
 add-i : tie.Need-add-i Inv-loop μ-loop
 add-i c = omega arith
 
--- src/lib.rt:206:5
 loop-less : tie.Need-loop-less Inv-loop μ-loop
 loop-less c = omega arith
 
--- src/lib.rt:206:5
 loop-again : tie.Need-loop-again Inv-loop μ-loop
 loop-again c =
     let a = c .before .before .before .before .before .before .before .before .args in
@@ -84,7 +74,6 @@ loop-again c =
     ap (staysIn (a .c) (a .r)) (point-at (a .c) _ (c .before .before .before .before .before .before .before .lattice-points .ensures) i _ (omega arith))) in
     (omega arith, c .before .before .before .before .before .loop .inv .1, sym (all-step (staysIn (a .c) (a .r)) (pointsOf (a .c)) zeroTriple i (omega arith) (test ∙ not-false (c .before .contains .result) (c .if1 .left))) ∙ c .before .before .before .before .before .loop .inv .2)
 
--- src/lib.rt:199:1
 returns-2 : tie.Need-returns-2 Inv-loop μ-loop
 returns-2 c =
     let a = c .before .before .before .before .args in

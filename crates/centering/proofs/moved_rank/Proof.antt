@@ -9,59 +9,45 @@ use Rattle.centering.proofs.moved_rank.Tie as tie
 use Rattle.centering.proofs.moved_rank.Reads as reads
 use Rattle.centering.proofs.moved_rank.Lts as lts
 
--- src/lib.rt:175:14
 cast-x : tie.Need-cast-x
 cast-x c = search needs
 
--- src/lib.rt:175:27
 cast-x-2 : tie.Need-cast-x-2
 cast-x-2 c = search needs
 
--- src/lib.rt:175:14
 add-x : tie.Need-add-x
 add-x c = search needs
 
--- src/lib.rt:176:14
 cast-y : tie.Need-cast-y
 cast-y c = search needs
 
--- src/lib.rt:176:27
 cast-y-2 : tie.Need-cast-y-2
 cast-y-2 c = search needs
 
--- src/lib.rt:176:14
 add-y : tie.Need-add-y
 add-y c = search needs
 
--- src/lib.rt:177:14
 cast-z : tie.Need-cast-z
 cast-z c = search needs
 
--- src/lib.rt:177:27
 cast-z-2 : tie.Need-cast-z-2
 cast-z-2 c = search needs
 
--- src/lib.rt:177:14
 add-z : tie.Need-add-z
 add-z c = search needs
 
--- src/lib.rt:178:5
 mul-result : tie.Need-mul-result
 mul-result c = search needs
 
--- src/lib.rt:178:15
 mul-result-2 : tie.Need-mul-result-2
 mul-result-2 c = search needs
 
--- src/lib.rt:178:5
 add-result : tie.Need-add-result
 add-result c = search needs
 
--- src/lib.rt:178:5
 add-result-2 : tie.Need-add-result-2
 add-result-2 c = search needs
 
--- src/lib.rt:172:1
 returns : tie.Need-returns
 unfolding rank _⊕_
 returns c = (refl, omega arith)

@@ -7,19 +7,15 @@ use Rattle.centering.proofs.of_rank.Tie as tie
 use Rattle.centering.proofs.of_rank.Reads as reads
 use Rattle.centering.proofs.of_rank.Lts as lts
 
--- src/lib.rt:195:12
 cast-t3 : tie.Need-cast-t3
 cast-t3 c = search needs
 
--- src/lib.rt:196:12
 cast-t6 : tie.Need-cast-t6
 cast-t6 c = search needs
 
--- src/lib.rt:197:12
 cast-t8 : tie.Need-cast-t8
 cast-t8 c = search needs
 
--- src/lib.rt:190:1
 returns : tie.Need-returns
 unfolding unrank
 returns c = refl

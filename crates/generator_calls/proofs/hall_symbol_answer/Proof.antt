@@ -11,60 +11,46 @@ use Rattle.hall_symbol.proofs.HallSymbol.new.Reads as new-reads
 use Rattle.hall_symbol.proofs.refusal.Refusal.number.Reads as number-reads
 use Rattle.hall_symbol.proofs.refusal.Refusal.place.Reads as place-reads
 
--- src/lib.rt:15:9
 new-requires : tie.Need-new-requires
 new-requires c κs = search needs
 
--- src/lib.rt:20:28
 enum-told : tie.Need-enum-told
 enum-told c = search needs
 
--- src/lib.rt:20:28
 byte-requires : tie.Need-byte-requires
 byte-requires c κs = search needs
 
--- src/lib.rt:20:28
 cast-result : tie.Need-cast-result
 cast-result c = search needs
 
--- src/lib.rt:20:27
 mul-result : tie.Need-mul-result
 mul-result c = search needs
 
--- src/lib.rt:20:27
 add-result : tie.Need-add-result
 add-result c = search needs
 
--- src/lib.rt:21:25
 enum-known-answer : tie.Need-enum-known-answer
 enum-known-answer c = search needs
 
--- src/lib.rt:22:14
 number-requires : tie.Need-number-requires
 number-requires c κs = search needs
 
--- src/lib.rt:22:14
 cast-result-2 : tie.Need-cast-result-2
 cast-result-2 c = search needs
 
--- src/lib.rt:22:13
 mul-result-2 : tie.Need-mul-result-2
 mul-result-2 c = search needs
 
--- src/lib.rt:22:50
 place-requires : tie.Need-place-requires
 place-requires c κs = search needs
 
--- src/lib.rt:22:13
 add-result-2 : tie.Need-add-result-2
 add-result-2 c = search needs
 
--- src/lib.rt:11:1
 returns : tie.Need-returns
 returns c =
     packed-symbol (c .before .before .before .new .result) (c .byte .result) (c .before .enum-told .given .1) (c .byte .ensures) ∙ ap packedAnswer (c .before .before .before .new .ensures)
 
--- src/lib.rt:11:1
 returns-2 : tie.Need-returns-2
 returns-2 c =
     packed-refused (c .before .before .before .before .before .new .result) _ (c .before .number .result) (c .place .result) (c .before .before .before .answer .given .1) (c .before .number .ensures) (c .place .ensures) ∙ ap packedAnswer (c .before .before .before .before .before .new .ensures)

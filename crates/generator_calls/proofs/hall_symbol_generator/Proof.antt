@@ -8,67 +8,51 @@ use Rattle.generator_calls.proofs.hall_symbol_generator.Lts as lts
 use Rattle.hall_symbol.proofs.HallSymbol.new.Reads as new-reads
 use Rattle.operation.proofs.code.rotation_code.Reads as rotation-code-reads
 
--- src/lib.rt:32:9
 new-requires : tie.Need-new-requires
 new-requires c κs = search needs
 
--- src/lib.rt:35:9
 returns : tie.Need-returns
 returns c = simp (le-ltb _ _ (c .if1 .taken))
 
--- src/lib.rt:38:13
 mul-o : tie.Need-mul-o
 mul-o c = search needs
 
--- src/lib.rt:38:13
 array-copy-out-o : tie.Need-array-copy-out-o
 array-copy-out-o c = search needs
 
--- src/lib.rt:41:6
 rotation-code-requires : tie.Need-rotation-code-requires
 rotation-code-requires c κs = search needs
 
--- src/lib.rt:41:6
 cast-result : tie.Need-cast-result
 cast-result c = search needs
 
--- src/lib.rt:41:5
 mul-result : tie.Need-mul-result
 mul-result c = search needs
 
--- src/lib.rt:42:12
 cast-result-2 : tie.Need-cast-result-2
 cast-result-2 c = search needs
 
--- src/lib.rt:42:11
 mul-result-2 : tie.Need-mul-result-2
 mul-result-2 c = search needs
 
--- src/lib.rt:41:5
 add-result : tie.Need-add-result
 add-result c = search needs
 
--- src/lib.rt:43:12
 cast-result-3 : tie.Need-cast-result-3
 cast-result-3 c = search needs
 
--- src/lib.rt:43:11
 mul-result-3 : tie.Need-mul-result-3
 mul-result-3 c = search needs
 
--- src/lib.rt:41:5
 add-result-2 : tie.Need-add-result-2
 add-result-2 c = search needs
 
--- src/lib.rt:44:11
 cast-result-4 : tie.Need-cast-result-4
 cast-result-4 c = search needs
 
--- src/lib.rt:41:5
 add-result-3 : tie.Need-add-result-3
 add-result-3 c = search needs
 
--- src/lib.rt:28:1
 returns-2 : tie.Need-returns-2
 returns-2 c =
     simp (c .before .before .before .rotation-code .ensures, ← c .before .before .before .before .before .before .before .before .before .new .ensures, lt-ltb _ _ (c .before .before .before .before .before .before .before .if1 .left))

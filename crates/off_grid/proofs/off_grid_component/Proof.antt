@@ -9,25 +9,20 @@ use Rattle.off_grid.proofs.off_grid_component.Reads as reads
 use Rattle.off_grid.proofs.off_grid_component.Lts as lts
 use Rattle.operation.proofs.doubles.from_doubles.Reads as from-doubles-reads
 
--- src/lib.rt:30:11
 from-doubles-requires : tie.Need-from-doubles-requires
 from-doubles-requires c κs = search needs
 
--- src/lib.rt:31:30
 enum-told : tie.Need-enum-told
 enum-told c = search needs
 
--- src/lib.rt:34:13
 enum-known-component : tie.Need-enum-known-component
 enum-known-component c = search needs
 
--- src/lib.rt:26:1
 returns : tie.Need-returns
 unfolding gridAnswer
 returns c =
     ap (offGridComponent (c .before .before .before .args .x)) (sym (ap gridAnswer (c .enum-told .given .1)) ∙ c .before .before .from-doubles .ensures)
 
--- src/lib.rt:26:1
 returns-2 : tie.Need-returns-2
 unfolding gridAnswer
 returns-2 c =

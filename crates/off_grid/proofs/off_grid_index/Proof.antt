@@ -9,25 +9,20 @@ use Rattle.off_grid.proofs.off_grid_index.Reads as reads
 use Rattle.off_grid.proofs.off_grid_index.Lts as lts
 use Rattle.operation.proofs.doubles.from_doubles.Reads as from-doubles-reads
 
--- src/lib.rt:16:11
 from-doubles-requires : tie.Need-from-doubles-requires
 from-doubles-requires c κs = search needs
 
--- src/lib.rt:17:30
 enum-told : tie.Need-enum-told
 enum-told c = search needs
 
--- src/lib.rt:19:13
 enum-known-index : tie.Need-enum-known-index
 enum-known-index c = search needs
 
--- src/lib.rt:12:1
 returns : tie.Need-returns
 unfolding gridAnswer
 returns c =
     ap (offGridIndex) (sym (ap gridAnswer (c .enum-told .given .1)) ∙ c .before .before .from-doubles .ensures)
 
--- src/lib.rt:12:1
 returns-2 : tie.Need-returns-2
 unfolding gridAnswer
 returns-2 c =

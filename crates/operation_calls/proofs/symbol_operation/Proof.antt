@@ -10,77 +10,59 @@ use Rattle.operation_calls.proofs.symbol_operation.Lts as lts
 use Rattle.operation.proofs.code.rotation_code.Reads as rotation-code-reads
 use Rattle.symbol_group.proofs.operation_at.Reads as operation-at-reads
 
--- src/lib.rt:29:11
 operation-at-requires : tie.Need-operation-at-requires
 operation-at-requires c κs = search needs
 
--- src/lib.rt:30:36
 enum-known-o : tie.Need-enum-known-o
 enum-known-o c = search needs
 
--- src/lib.rt:33:14
 rotation-code-requires : tie.Need-rotation-code-requires
 rotation-code-requires c κs = search needs
 
--- src/lib.rt:33:14
 cast-result : tie.Need-cast-result
 cast-result c = search needs
 
--- src/lib.rt:33:13
 mul-result : tie.Need-mul-result
 mul-result c = search needs
 
--- src/lib.rt:34:20
 cast-result-2 : tie.Need-cast-result-2
 cast-result-2 c = search needs
 
--- src/lib.rt:34:19
 mul-result-2 : tie.Need-mul-result-2
 mul-result-2 c = search needs
 
--- src/lib.rt:33:13
 add-result : tie.Need-add-result
 add-result c = search needs
 
--- src/lib.rt:35:20
 cast-result-3 : tie.Need-cast-result-3
 cast-result-3 c = search needs
 
--- src/lib.rt:35:19
 mul-result-3 : tie.Need-mul-result-3
 mul-result-3 c = search needs
 
--- src/lib.rt:33:13
 add-result-2 : tie.Need-add-result-2
 add-result-2 c = search needs
 
--- src/lib.rt:36:19
 cast-result-4 : tie.Need-cast-result-4
 cast-result-4 c = search needs
 
--- src/lib.rt:33:13
 add-result-3 : tie.Need-add-result-3
 add-result-3 c = search needs
 
--- src/lib.rt:38:37
 enum-told : tie.Need-enum-told
 enum-told c = search needs
 
--- src/lib.rt:39:40
 enum-told-2 : tie.Need-enum-told-2
 enum-told-2 c = search needs
 
--- src/lib.rt:25:1
 returns : tie.Need-returns
 returns c =
     ap (λ (n : ℕ). n * 4096 + c .before .before .before .before .before .before .before .o .given .0 .0 .translation .x % 16 * 256 + c .before .before .before .before .before .before .before .o .given .0 .0 .translation .y % 16 * 16 + c .before .before .before .before .before .before .before .o .given .0 .0 .translation .z % 16) (c .before .before .before .rotation-code .ensures) ∙
     ap packedOperation (sym (c .before .before .before .before .before .before .before .o .given .1) ∙ c .before .before .before .before .before .before .before .before .before .operation-at .ensures)
 
--- src/lib.rt:25:1
 returns-2 : tie.Need-returns-2
 returns-2 c = ap packedOperation (sym (c .enum-told .given .1) ∙ c .before .before .operation-at .ensures)
 
--- src/lib.rt:25:1
 returns-3 : tie.Need-returns-3
 returns-3 c = ap packedOperation (sym (c .enum-told2 .given .1) ∙ c .before .before .operation-at .ensures)
 

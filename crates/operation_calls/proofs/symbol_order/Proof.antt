@@ -11,43 +11,33 @@ use Rattle.symbol_group.proofs.order.Reads as order-reads
 use Rattle.symbol_group.proofs.refusal.Refusal.number.Reads as number-reads
 use Rattle.symbol_group.proofs.refusal.Refusal.place.Reads as place-reads
 
--- src/lib.rt:16:11
 order-requires : tie.Need-order-requires
 order-requires c κs = search needs
 
--- src/lib.rt:17:25
 enum-known-n : tie.Need-enum-known-n
 enum-known-n c = search needs
 
--- src/lib.rt:18:30
 enum-known-refusal : tie.Need-enum-known-refusal
 enum-known-refusal c = search needs
 
--- src/lib.rt:19:14
 number-requires : tie.Need-number-requires
 number-requires c κs = search needs
 
--- src/lib.rt:19:14
 cast-result : tie.Need-cast-result
 cast-result c = search needs
 
--- src/lib.rt:19:13
 mul-result : tie.Need-mul-result
 mul-result c = search needs
 
--- src/lib.rt:19:50
 place-requires : tie.Need-place-requires
 place-requires c κs = search needs
 
--- src/lib.rt:19:13
 add-result : tie.Need-add-result
 add-result c = search needs
 
--- src/lib.rt:12:1
 returns : tie.Need-returns
 returns c = ap packedOrder (sym (c .before .n .given .1) ∙ c .before .before .before .order .ensures)
 
--- src/lib.rt:12:1
 returns-2 : tie.Need-returns-2
 returns-2 c =
     ap₂ (λ (n p : ℕ). n * 65536 + p % 65536) (c .before .number .ensures) (c .place .ensures) ∙

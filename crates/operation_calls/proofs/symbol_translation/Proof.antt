@@ -9,45 +9,36 @@ use Rattle.operation_calls.proofs.symbol_translation.Reads as reads
 use Rattle.operation_calls.proofs.symbol_translation.Lts as lts
 use Rattle.symbol_group.proofs.translation_at.Reads as translation-at-reads
 
--- src/lib.rt:48:11
 translation-at-requires : tie.Need-translation-at-requires
 translation-at-requires c κs = search needs
 
--- src/lib.rt:49:36
 enum-known-d : tie.Need-enum-known-d
 enum-known-d c = search needs
 
--- src/lib.rt:51:17
 returns : tie.Need-returns
 returns c =
     let a = c .before .before .before .before .before .before .args .axis in
     sym (ap (componentOf a) (sym (c .before .before .before .before .translation-at .ensures) ∙ c .before .before .d .given .1) ∙ simp (eq-eqb _ _ (c .if1 .taken)))
 
--- src/lib.rt:54:17
 returns-2 : tie.Need-returns-2
 returns-2 c =
     let a = c .before .before .before .before .before .before .before .args .axis in
     sym (ap (componentOf a) (sym (c .before .before .before .before .before .translation-at .ensures) ∙ c .before .before .before .d .given .1) ∙ simp (ne-eqb _ _ (c .before .if1 .left), eq-eqb _ _ (c .if2 .taken)))
 
--- src/lib.rt:58:39
 enum-told : tie.Need-enum-told
 enum-told c = search needs
 
--- src/lib.rt:59:42
 enum-told-2 : tie.Need-enum-told-2
 enum-told-2 c = search needs
 
--- src/lib.rt:44:1
 returns-3 : tie.Need-returns-3
 returns-3 c =
     let a = c .before .before .before .before .before .before .before .args .axis in
     sym (ap (componentOf a) (sym (c .before .before .before .before .before .translation-at .ensures) ∙ c .before .before .before .d .given .1) ∙ simp (ne-eqb _ _ (c .before .if1 .left), ne-eqb _ _ (c .if2 .left)))
 
--- src/lib.rt:44:1
 returns-4 : tie.Need-returns-4
 returns-4 c = ap (componentOf (c .before .before .before .before .args .axis)) (sym (c .enum-told .given .1) ∙ c .before .before .translation-at .ensures)
 
--- src/lib.rt:44:1
 returns-5 : tie.Need-returns-5
 returns-5 c = ap (componentOf (c .before .before .before .before .args .axis)) (sym (c .enum-told2 .given .1) ∙ c .before .before .translation-at .ensures)
 

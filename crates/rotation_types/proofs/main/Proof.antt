@@ -13,31 +13,24 @@ Inv-loop line₀ line = line ≤ 243
 abbrev μ-loop : tie.MeasureT-loop
 μ-loop line₀ line = 243 - line
 
--- src/main.rt:67:5
 loop-holds : tie.Need-loop-holds Inv-loop μ-loop
 loop-holds c = omega arith
 
--- src/main.rt:68:20
 mul-write-line : tie.Need-mul-write-line Inv-loop μ-loop
 mul-write-line c = omega arith
 
--- src/main.rt:68:9
 write-line-requires : tie.Need-write-line-requires Inv-loop μ-loop
 write-line-requires c κs = omega arith
 
--- src/main.rt:67:9
 add-line : tie.Need-add-line Inv-loop μ-loop
 add-line c = omega arith
 
--- src/main.rt:67:5
 loop-less : tie.Need-loop-less Inv-loop μ-loop
 loop-less c = omega arith
 
--- src/main.rt:67:5
 loop-again : tie.Need-loop-again Inv-loop μ-loop
 loop-again c = omega arith
 
--- src/main.rt:66:1
 returns : tie.Need-returns Inv-loop μ-loop
 returns c = omega arith
 

@@ -17,47 +17,36 @@ Inv-loop first line₀ i₀ line i = (i ≤ 81) × (length line ≡ 82)
 abbrev μ-loop : tie.MeasureT-loop
 μ-loop first line₀ i₀ line i = 81 - i
 
--- src/main.rt:60:5
 loop-holds : tie.Need-loop-holds Inv-loop μ-loop
 loop-holds c = omega arith
 
--- src/main.rt:61:37
 cast-character : tie.Need-cast-character Inv-loop μ-loop
 cast-character c = omega arith
 
--- src/main.rt:61:29
 add-character : tie.Need-add-character Inv-loop μ-loop
 add-character c = omega arith
 
--- src/main.rt:61:19
 character-requires : tie.Need-character-requires Inv-loop μ-loop
 character-requires c κs = search needs
 
--- src/main.rt:61:9
 array-write-line : tie.Need-array-write-line Inv-loop μ-loop
 array-write-line c = omega arith
 
--- src/main.rt:60:9
 add-i : tie.Need-add-i Inv-loop μ-loop
 add-i c = omega arith
 
--- src/main.rt:60:5
 loop-less : tie.Need-loop-less Inv-loop μ-loop
 loop-less c = omega arith
 
--- src/main.rt:60:5
 loop-again : tie.Need-loop-again Inv-loop μ-loop
 loop-again c = (omega arith, simp length-set (c .before .before .loop .inv .1))
 
--- src/main.rt:63:34
 slice-aggregate-write-all : tie.Need-slice-aggregate-write-all Inv-loop μ-loop
 slice-aggregate-write-all c = omega arith
 
--- src/main.rt:63:5
 write-all-requires : tie.Need-write-all-requires Inv-loop μ-loop
 write-all-requires c κs = search needs
 
--- src/main.rt:56:1
 returns : tie.Need-returns Inv-loop μ-loop
 returns c = omega arith
 

@@ -10,29 +10,23 @@ use Rattle.symbol_group.proofs.group_of.Lts as lts
 use Rattle.space_group.proofs.SpaceGroup.new.Reads as new-reads
 use Rattle.symbol_group.proofs.refused.Reads as refused-reads
 
--- src/lib.rt:73:9
 new-requires : tie.Need-new-requires
 new-requires c κs = search needs
 
--- src/lib.rt:76:38
 enum-known-answer : tie.Need-enum-known-answer
 enum-known-answer c = search needs
 
--- src/lib.rt:76:50
 refused-requires : tie.Need-refused-requires
 refused-requires c κs = search needs
 
--- src/lib.rt:78:17
 enum-told : tie.Need-enum-told
 enum-told c = search needs
 
--- src/lib.rt:70:1
 returns : tie.Need-returns
 returns c =
     let a = c .before .before .before .before .before .args in
     c .refused .ensures ∙ group-refused (a .centering) (take (a .n) (a .generators)) (c .before .before .before .before .new .result) (c .before .before .before .before .new .ensures) (c .before .before .answer .given .0 .0) (c .before .before .answer .given .1)
 
--- src/lib.rt:70:1
 returns-2 : tie.Need-returns-2
 returns-2 c =
     let a = c .before .before .before .before .before .args in

@@ -9,19 +9,15 @@ use Rattle.symbol_group.proofs.operation_at.Reads as reads
 use Rattle.symbol_group.proofs.operation_at.Lts as lts
 use Rattle.symbol_group.proofs.SymbolGroup.new.Reads as new-reads
 
--- src/lib.rt:125:9
 new-requires : tie.Need-new-requires
 new-requires c κs = search needs
 
--- src/lib.rt:128:25
 enum-known-answer : tie.Need-enum-known-answer
 enum-known-answer c = search needs
 
--- src/lib.rt:130:16
 enum-told : tie.Need-enum-told
 enum-told c = search needs
 
--- src/lib.rt:131:17
 returns : tie.Need-returns
 returns c = operation-past (c .before .before .before .before .before .before .args .text .now) (c .before .before .before .before .new .result) (c .before .before .before .before .new .ensures) (c .before .before .enum-told .given .1) (c .before .before .before .before .before .before .args .index) (c .if1 .taken)
 
@@ -29,19 +25,15 @@ returns c = operation-past (c .before .before .before .before .before .before .a
 in-slots : (c : tie.After-operations) → c .before .before .before .before .before .before .before .args .index < 48
 in-slots c = index-small (c .before .before .before .before .before .before .before .args .text .now) (c .before .before .before .before .before .new .result) (c .before .before .before .before .before .new .ensures) (c .before .before .before .enum-told .given .1) (c .before .before .before .before .before .before .before .args .index) (c .before .if1 .left)
 
--- src/lib.rt:134:40
 mul-t9 : tie.Need-mul-t9
 mul-t9 c = let small = in-slots c in omega arith
 
--- src/lib.rt:134:40
 array-copy-out-t12 : tie.Need-array-copy-out-t12
 array-copy-out-t12 c = in-slots c
 
--- src/lib.rt:122:1
 returns-2 : tie.Need-returns-2
 returns-2 c = operation-refused (c .before .before .before .before .before .args .text .now) (c .before .before .before .new .result) (c .before .before .before .new .ensures) (c .before .answer .given .0 .0) (c .before .before .before .before .before .args .index) (c .before .answer .given .1)
 
--- src/lib.rt:122:1
 returns-3 : tie.Need-returns-3
 returns-3 c = operation-given (c .before .before .before .before .before .before .before .before .args .text .now) (c .before .before .before .before .before .before .new .result) (c .before .before .before .before .before .before .new .ensures) (c .before .before .before .before .enum-told .given .1) (c .before .before .before .before .before .before .before .before .args .index) _ (c .before .before .if1 .left)
 

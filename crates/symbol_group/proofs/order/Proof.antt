@@ -7,23 +7,18 @@ use Rattle.symbol_group.proofs.order.Reads as reads
 use Rattle.symbol_group.proofs.order.Lts as lts
 use Rattle.symbol_group.proofs.SymbolGroup.new.Reads as new-reads
 
--- src/lib.rt:113:9
 new-requires : tie.Need-new-requires
 new-requires c κs = search needs
 
--- src/lib.rt:116:26
 enum-told : tie.Need-enum-told
 enum-told c = search needs
 
--- src/lib.rt:117:25
 enum-known-answer : tie.Need-enum-known-answer
 enum-known-answer c = search needs
 
--- src/lib.rt:110:1
 returns : tie.Need-returns
 returns c = order-given (c .before .before .before .before .args .text .now) (c .before .before .new .result) (c .before .before .new .ensures) (c .enum-told .given .1)
 
--- src/lib.rt:110:1
 returns-2 : tie.Need-returns-2
 returns-2 c = order-refused (c .before .before .before .before .before .args .text .now) (c .before .before .before .new .result) (c .before .before .before .new .ensures) (c .before .answer .given .0 .0) (c .before .answer .given .1)
 

@@ -11,35 +11,27 @@ use Rattle.symbol_group.proofs.translation_at.Lts as lts
 use Rattle.operation.proofs.doubles.to_doubles.Reads as to-doubles-reads
 use Rattle.symbol_group.proofs.operation_at.Reads as operation-at-reads
 
--- src/lib.rt:143:9
 operation-at-requires : tie.Need-operation-at-requires
 operation-at-requires c κs = search needs
 
--- src/lib.rt:145:34
 enum-known-found : tie.Need-enum-known-found
 enum-known-found c = search needs
 
--- src/lib.rt:146:37
 enum-told : tie.Need-enum-told
 enum-told c = search needs
 
--- src/lib.rt:147:36
 enum-known-found-2 : tie.Need-enum-known-found-2
 enum-known-found-2 c = search needs
 
--- src/lib.rt:147:69
 to-doubles-requires : tie.Need-to-doubles-requires
 to-doubles-requires c κs = search needs
 
--- src/lib.rt:140:1
 returns : tie.Need-returns
 returns c = translation-found (c .before .before .before .before .before .args .text .now) (c .before .before .before .before .before .args .index) (c .before .before .before .operation-at .result) (Refused (c .before .found .given .0 .0)) (c .before .before .before .operation-at .ensures) (c .before .found .given .1)
 
--- src/lib.rt:140:1
 returns-2 : tie.Need-returns-2
 returns-2 c = translation-found (c .before .before .before .before .args .text .now) (c .before .before .before .before .args .index) (c .before .before .operation-at .result) PastEnd (c .before .before .operation-at .ensures) (c .enum-told .given .1)
 
--- src/lib.rt:140:1
 returns-3 : tie.Need-returns-3
 returns-3 c = ap Doubles (c .to-doubles .ensures) ∙ translation-found (c .before .before .before .before .before .before .args .text .now) (c .before .before .before .before .before .before .args .index) (c .before .before .before .before .operation-at .result) (Operation (c .before .before .found2 .given .0 .0)) (c .before .before .before .before .operation-at .ensures) (c .before .before .found2 .given .1)
 

@@ -9,15 +9,12 @@ use Rattle.centering.proofs.Centering.congruent.Lts as lts
 use Rattle.centering.proofs.difference.Reads as difference-reads
 use Rattle.centering.proofs.is_point.Reads as is-point-reads
 
--- src/lib.rt:112:24
 difference-requires : tie.Need-difference-requires
 difference-requires c κs = search needs
 
--- src/lib.rt:112:9
 is-point-requires : tie.Need-is-point-requires
 is-point-requires c κs = search needs
 
--- src/lib.rt:109:5
 returns : tie.Need-returns
 unfolding congruentOf differenceOf
 returns c = c .is-point .ensures ∙ rw (c .before .difference .ensures)

@@ -1,7 +1,7 @@
+-- What `is_point` finds of the difference.
 use Rattle.laws.specs.Distinct.{has}
 use Rattle.laws.specs.Lattice.{sameTriple}
 use Rattle.centering.specs.Letters.{pointsOf}
--- What `is_point` finds of the difference.
 use mathlib.Core.Path.{_∙_, ap}
 use Rattle.centering.specs.Lattices.{containsOf, tripleOf, difference-origin}
 use borrow.Author.Needs.{needs}
@@ -12,15 +12,12 @@ use Rattle.centering.proofs.Centering.contains.Lts as lts
 use Rattle.centering.proofs.difference.Reads as difference-reads
 use Rattle.centering.proofs.is_point.Reads as is-point-reads
 
--- src/lib.rt:105:24
 difference-requires : tie.Need-difference-requires
 difference-requires c κs = search needs
 
--- src/lib.rt:105:9
 is-point-requires : tie.Need-is-point-requires
 is-point-requires c κs = search needs
 
--- src/lib.rt:102:5
 returns : tie.Need-returns
 unfolding containsOf
 returns c =

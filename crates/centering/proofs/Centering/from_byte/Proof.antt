@@ -1,3 +1,4 @@
+-- Each arm fixes the byte, and the definition computes at that byte.
 use mathlib.Core.Path.{sym, ap}
 use borrow.Author.Tests.{ne-eqb}
 use Rattle.centering.specs.Letters.{letterOf, letterAmong}
@@ -6,42 +7,34 @@ use Rattle.centering.proofs.Centering.from_byte.Tie as tie
 use Rattle.centering.proofs.Centering.from_byte.Reads as reads
 use Rattle.centering.proofs.Centering.from_byte.Lts as lts
 
--- src/lib.rt:24:5
 returns : tie.Need-returns
 unfolding letterOf letterAmong
 returns c = sym (ap letterOf (c .match .keys1))
 
--- src/lib.rt:24:5
 returns-2 : tie.Need-returns-2
 unfolding letterOf letterAmong
 returns-2 c = sym (ap letterOf (c .match .keys2))
 
--- src/lib.rt:24:5
 returns-3 : tie.Need-returns-3
 unfolding letterOf letterAmong
 returns-3 c = sym (ap letterOf (c .match .keys3))
 
--- src/lib.rt:24:5
 returns-4 : tie.Need-returns-4
 unfolding letterOf letterAmong
 returns-4 c = sym (ap letterOf (c .match .keys4))
 
--- src/lib.rt:24:5
 returns-5 : tie.Need-returns-5
 unfolding letterOf letterAmong
 returns-5 c = sym (ap letterOf (c .match .keys5))
 
--- src/lib.rt:24:5
 returns-6 : tie.Need-returns-6
 unfolding letterOf letterAmong
 returns-6 c = sym (ap letterOf (c .match .keys6))
 
--- src/lib.rt:24:5
 returns-7 : tie.Need-returns-7
 unfolding letterOf letterAmong
 returns-7 c = sym (ap letterOf (c .match .keys7))
 
--- src/lib.rt:24:5
 returns-8 : tie.Need-returns-8
 unfolding letterOf letterAmong
 returns-8 c =

@@ -9,41 +9,32 @@ use Rattle.centering.proofs.Centering.keeps.Lts as lts
 use Rattle.centering.proofs.keeps_points.Reads as keeps-points-reads
 use Rattle.operation.proofs.rotation_type.identify_handedness.Reads as identify-handedness-reads
 
--- src/lib.rt:131:15
 identify-handedness-requires : tie.Need-identify-handedness-requires
 identify-handedness-requires c κs = search needs
 
--- src/lib.rt:132:35
 enum-told : tie.Need-enum-told
 enum-told c = search needs
 
--- src/lib.rt:132:35
 keeps-points-requires : tie.Need-keeps-points-requires
 keeps-points-requires c κs = search needs
 
--- src/lib.rt:133:37
 enum-told-2 : tie.Need-enum-told-2
 enum-told-2 c = search needs
 
--- src/lib.rt:133:37
 keeps-points-requires-2 : tie.Need-keeps-points-requires-2
 keeps-points-requires-2 c κs = search needs
 
--- src/lib.rt:134:36
 enum-told-3 : tie.Need-enum-told-3
 enum-told-3 c = search needs
 
--- src/lib.rt:128:5
 returns : tie.Need-returns
 unfolding keepsOf
 returns c = simp (sym (c .before .before .before .identify-handedness .ensures) ∙ c .before .enum-told .given .1) (c .keeps-points .ensures)
 
--- src/lib.rt:128:5
 returns-2 : tie.Need-returns-2
 unfolding keepsOf
 returns-2 c = simp (sym (c .before .before .before .identify-handedness .ensures) ∙ c .before .enum-told2 .given .1) (c .keeps-points2 .ensures)
 
--- src/lib.rt:128:5
 returns-3 : tie.Need-returns-3
 unfolding keepsOf
 returns-3 c = simp (sym (c .before .before .identify-handedness .ensures) ∙ c .enum-told3 .given .1)

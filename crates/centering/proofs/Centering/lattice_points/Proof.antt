@@ -8,65 +8,51 @@ use Rattle.centering.proofs.Centering.lattice_points.Tie as tie
 use Rattle.centering.proofs.Centering.lattice_points.Reads as reads
 use Rattle.centering.proofs.Centering.lattice_points.Lts as lts
 
--- src/lib.rt:32:29
 enum-told : tie.Need-enum-told
 enum-told c = search needs
 
--- src/lib.rt:32:29
 enum-told-2 : tie.Need-enum-told-2
 enum-told-2 c = search needs
 
--- src/lib.rt:32:29
 enum-told-3 : tie.Need-enum-told-3
 enum-told-3 c = search needs
 
--- src/lib.rt:32:29
 enum-told-4 : tie.Need-enum-told-4
 enum-told-4 c = search needs
 
--- src/lib.rt:32:29
 enum-told-5 : tie.Need-enum-told-5
 enum-told-5 c = search needs
 
--- src/lib.rt:32:29
 enum-told-6 : tie.Need-enum-told-6
 enum-told-6 c = search needs
 
--- src/lib.rt:32:29
 enum-told-7 : tie.Need-enum-told-7
 enum-told-7 c = search needs
 
--- src/lib.rt:64:5
 returns : tie.Need-returns
 unfolding latticePointsOf filled
 returns c = sym (ap latticePointsOf (c .enum-told .given .1))
 
--- src/lib.rt:64:5
 returns-2 : tie.Need-returns-2
 unfolding latticePointsOf filled
 returns-2 c = sym (ap latticePointsOf (c .enum-told2 .given .1))
 
--- src/lib.rt:64:5
 returns-3 : tie.Need-returns-3
 unfolding latticePointsOf filled
 returns-3 c = sym (ap latticePointsOf (c .enum-told3 .given .1))
 
--- src/lib.rt:64:5
 returns-4 : tie.Need-returns-4
 unfolding latticePointsOf filled
 returns-4 c = sym (ap latticePointsOf (c .enum-told4 .given .1))
 
--- src/lib.rt:64:5
 returns-5 : tie.Need-returns-5
 unfolding latticePointsOf filled
 returns-5 c = sym (ap latticePointsOf (c .enum-told5 .given .1))
 
--- src/lib.rt:64:5
 returns-6 : tie.Need-returns-6
 unfolding latticePointsOf filled
 returns-6 c = sym (ap latticePointsOf (c .enum-told6 .given .1))
 
--- src/lib.rt:64:5
 returns-7 : tie.Need-returns-7
 unfolding latticePointsOf filled
 returns-7 c = sym (ap latticePointsOf (c .enum-told7 .given .1))

@@ -12,59 +12,45 @@ use Rattle.centering.proofs.lesser.Reads as lesser-reads
 use Rattle.centering.proofs.moved_rank.Reads as moved-rank-reads
 use Rattle.centering.proofs.of_rank.Reads as of-rank-reads
 
--- src/lib.rt:114:13
 lattice-points-requires : tie.Need-lattice-points-requires
 lattice-points-requires c κs = search needs
 
--- src/lib.rt:116:35
 array-copy-out-moved-rank : tie.Need-array-copy-out-moved-rank
 array-copy-out-moved-rank c = search needs
 
--- src/lib.rt:116:13
 moved-rank-requires : tie.Need-moved-rank-requires
 moved-rank-requires c κs = search needs
 
--- src/lib.rt:117:36
 array-copy-out-moved-rank-2 : tie.Need-array-copy-out-moved-rank-2
 array-copy-out-moved-rank-2 c = search needs
 
--- src/lib.rt:117:13
 moved-rank-requires-2 : tie.Need-moved-rank-requires-2
 moved-rank-requires-2 c κs = search needs
 
--- src/lib.rt:118:35
 array-copy-out-moved-rank-3 : tie.Need-array-copy-out-moved-rank-3
 array-copy-out-moved-rank-3 c = search needs
 
--- src/lib.rt:118:13
 moved-rank-requires-3 : tie.Need-moved-rank-requires-3
 moved-rank-requires-3 c κs = search needs
 
--- src/lib.rt:119:36
 array-copy-out-moved-rank-4 : tie.Need-array-copy-out-moved-rank-4
 array-copy-out-moved-rank-4 c = search needs
 
--- src/lib.rt:119:13
 moved-rank-requires-4 : tie.Need-moved-rank-requires-4
 moved-rank-requires-4 c κs = search needs
 
--- src/lib.rt:120:46
 lesser-requires : tie.Need-lesser-requires
 lesser-requires c κs = search needs
 
--- src/lib.rt:120:31
 lesser-requires-2 : tie.Need-lesser-requires-2
 lesser-requires-2 c κs = search needs
 
--- src/lib.rt:120:17
 lesser-requires-3 : tie.Need-lesser-requires-3
 lesser-requires-3 c κs = search needs
 
--- src/lib.rt:120:9
 of-rank-requires : tie.Need-of-rank-requires
 of-rank-requires c κs = search needs
 
--- src/lib.rt:111:5
 returns : tie.Need-returns
 returns c =
     c .of-rank .ensures ∙

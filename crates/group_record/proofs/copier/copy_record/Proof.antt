@@ -12,27 +12,21 @@ use Rattle.group_record.proofs.copier.copy_record.Lts as lts
 use Rattle.group_record.proofs.copier.place_read.Reads as place-read-reads
 use Rattle.group_record.proofs.reader.read_record.Reads as read-record-reads
 
--- src/copier.rt:19:9
 read-record-requires : tie.Need-read-record-requires
 read-record-requires c κs = search needs
 
--- src/copier.rt:22:41
 enum-told : tie.Need-enum-told
 enum-told c = search needs
 
--- src/copier.rt:22:30
 place-read-requires : tie.Need-place-read-requires
 place-read-requires c κs = read-writable (c .before .before .before .before .before .before .args .bytes .now) _ (λ i. omega (arith, c .before .before .before .before .before .shared-slice-known .given i)) (c .before .before .before .read-record .ensures) (c .before .enum-told .given .1)
 
--- src/copier.rt:23:26
 enum-known-answer : tie.Need-enum-known-answer
 enum-known-answer c = search needs
 
--- src/copier.rt:16:1
 same-length : tie.Need-same-length
 same-length c = search needs
 
--- src/copier.rt:16:1
 returns : tie.Need-returns
 returns c =
     let a = c .before .before .before .before .before .before .before .before .before .args in
@@ -43,7 +37,6 @@ returns c =
       placed .1 ∙ buffer-by (a .bytes .now) (a .out .now) (a .start) _ read Accepted told,
     )
 
--- src/copier.rt:16:1
 returns-2 : tie.Need-returns-2
 returns-2 c =
     let a = c .before .before .before .before .before .before .args in

@@ -8,26 +8,21 @@ use Rattle.group_record.proofs.copier.place_read.Reads as reads
 use Rattle.group_record.proofs.copier.place_read.Lts as lts
 use Rattle.group_record.proofs.writer.place_group.Reads as place-group-reads
 
--- src/copier.rt:34:9
 place-group-requires : tie.Need-place-group-requires
 place-group-requires c κs = search needs
 
--- src/copier.rt:35:9
 same-length : tie.Need-same-length
 same-length c = search needs
 
--- src/copier.rt:35:9
 returns : tie.Need-returns
 returns c =
     let placed = c .before .before .before .place-group in
     let none = sym (placed .ensures .0) ∙ not-true (placed .result) (c .if1 .taken) in
     (rw none, placed .ensures .1)
 
--- src/copier.rt:27:1
 same-length-2 : tie.Need-same-length-2
 same-length-2 c = search needs
 
--- src/copier.rt:27:1
 returns-2 : tie.Need-returns-2
 returns-2 c =
     let placed = c .before .before .before .place-group in

@@ -21,35 +21,27 @@ Inv-loop bytes c n operations₀ i₀ operations i = (i ≤ n) × (operations �
 abbrev μ-loop : tie.MeasureT-loop
 μ-loop bytes c n operations₀ i₀ operations i = n - i
 
--- src/reader.rt:294:27
 identity-requires : tie.Need-identity-requires Inv-loop μ-loop
 identity-requires c κs = search needs
 
--- src/reader.rt:296:5
 loop-holds : tie.Need-loop-holds Inv-loop μ-loop
 loop-holds c = (omega arith, rw (c .identity .ensures) (sym (filled-start (c .before .before .args .n) (c .before .before .args .bytes .now))))
 
--- src/reader.rt:297:25
 operation-at-requires : tie.Need-operation-at-requires Inv-loop μ-loop
 operation-at-requires c κs = omega arith
 
--- src/reader.rt:297:9
 mul-operations : tie.Need-mul-operations Inv-loop μ-loop
 mul-operations c = omega arith
 
--- src/reader.rt:297:9
 array-set-from-operations : tie.Need-array-set-from-operations Inv-loop μ-loop
 array-set-from-operations c = omega arith
 
--- src/reader.rt:298:9
 add-i : tie.Need-add-i Inv-loop μ-loop
 add-i c = omega arith
 
--- src/reader.rt:296:5
 loop-less : tie.Need-loop-less Inv-loop μ-loop
 loop-less c = omega arith
 
--- src/reader.rt:296:5
 loop-again : tie.Need-loop-again Inv-loop μ-loop
 loop-again c =
     let a = c .before .before .before .before .before .args in
@@ -58,7 +50,6 @@ loop-again c =
       rw (l .inv .1, c .operation-at .ensures) (filled-next (a .n) (a .bytes .now) (l .i) (omega arith) (omega arith)),
     )
 
--- src/reader.rt:290:1
 returns : tie.Need-returns Inv-loop μ-loop
 unfolding acceptedGroup
 returns c =

@@ -10,24 +10,19 @@ use Rattle.centering.proofs.Centering.congruent.Reads as congruent-reads
 use Rattle.group_record.proofs.reader.item_code.Reads as item-code-reads
 use Rattle.group_record.proofs.reader.item_translation.Reads as item-translation-reads
 
--- src/reader.rt:284:16
 item-code-requires : tie.Need-item-code-requires
 item-code-requires c κs = search needs
 
--- src/reader.rt:285:9
 returns : tie.Need-returns
 unfolding alikeItems
 returns c = simp (← c .before .item-code .ensures, ne-eqb _ _ (c .if1 .taken))
 
--- src/reader.rt:287:20
 item-translation-requires : tie.Need-item-translation-requires
 item-translation-requires c κs = search needs
 
--- src/reader.rt:287:5
 congruent-requires : tie.Need-congruent-requires
 congruent-requires c κs = search needs
 
--- src/reader.rt:280:1
 returns-2 : tie.Need-returns-2
 unfolding alikeItems
 returns-2 c = simp (← c .before .before .before .item-code .ensures, eq-eqb _ _ (c .before .before .if1 .left), ← c .before .item-translation .ensures) (c .congruent .ensures)

@@ -9,20 +9,16 @@ use Rattle.group_record.proofs.reader.are_items.Lts as lts
 use Rattle.group_record.proofs.reader.codes_ascend.Reads as codes-ascend-reads
 use Rattle.group_record.proofs.reader.items_fit.Reads as items-fit-reads
 
--- src/reader.rt:152:9
 items-fit-requires : tie.Need-items-fit-requires
 items-fit-requires c κs = search needs
 
--- src/reader.rt:153:9
 returns : tie.Need-returns
 unfolding areItems
 returns c = simp (← c .before .items-fit .ensures, not-true (c .before .items-fit .result) (c .if1 .taken))
 
--- src/reader.rt:155:5
 codes-ascend-requires : tie.Need-codes-ascend-requires
 codes-ascend-requires c κs = search needs
 
--- src/reader.rt:148:1
 returns-2 : tie.Need-returns-2
 unfolding areItems
 returns-2 c = simp (← c .before .before .items-fit .ensures, not-false (c .before .before .items-fit .result) (c .before .if1 .left)) (c .codes-ascend .ensures)

@@ -19,27 +19,21 @@ Inv-loop bytes n i₀ i = (i < n) × (ascending itemBefore (drop i (itemsOf n by
 abbrev μ-loop : tie.MeasureT-loop
 μ-loop bytes n i₀ i = n - i
 
--- src/reader.rt:201:5
 loop-holds : tie.Need-loop-holds Inv-loop μ-loop
 loop-holds c = (omega arith, refl)
 
--- src/reader.rt:201:11
 add-loop : tie.Need-add-loop Inv-loop μ-loop
 add-loop c = omega arith
 
--- src/reader.rt:202:29
 add-item-code : tie.Need-add-item-code Inv-loop μ-loop
 add-item-code c = omega arith
 
--- src/reader.rt:202:12
 item-code-requires : tie.Need-item-code-requires Inv-loop μ-loop
 item-code-requires c κs = omega arith
 
--- src/reader.rt:202:39
 item-code-requires-2 : tie.Need-item-code-requires-2 Inv-loop μ-loop
 item-code-requires-2 c κs = omega arith
 
--- src/reader.rt:203:13
 returns : tie.Need-returns Inv-loop μ-loop
 returns c =
     let a = c .before .before .before .before .before .before .args in
@@ -47,15 +41,12 @@ returns c =
     let fails = le-ltb (itemAt (a .bytes .now) (l .i) .code) (itemAt (a .bytes .now) (l .i + 1) .code) (omega (arith, c .before .before .item-code .ensures, c .before .item-code2 .ensures, c .if1 .taken)) in
     sym (ascending-stop (a .n) (a .bytes .now) (l .i) (omega arith) fails) ∙ l .inv .1
 
--- src/reader.rt:205:9
 add-i : tie.Need-add-i Inv-loop μ-loop
 add-i c = omega arith
 
--- src/reader.rt:201:5
 loop-less : tie.Need-loop-less Inv-loop μ-loop
 loop-less c = omega arith
 
--- src/reader.rt:201:5
 loop-again : tie.Need-loop-again Inv-loop μ-loop
 loop-again c =
     let a = c .before .before .before .before .before .before .args in
@@ -65,7 +56,6 @@ loop-again c =
       sym (ascending-next (a .n) (a .bytes .now) (l .i) (omega arith) holds) ∙ l .inv .1,
     )
 
--- src/reader.rt:196:1
 returns-2 : tie.Need-returns-2 Inv-loop μ-loop
 returns-2 c =
     let a = c .before .before .before .args in

@@ -7,15 +7,12 @@ use Rattle.group_record.proofs.reader.from_end.Tie as tie
 use Rattle.group_record.proofs.reader.from_end.Reads as reads
 use Rattle.group_record.proofs.reader.from_end.Lts as lts
 
--- src/reader.rt:61:11
 sub-result : tie.Need-sub-result
 sub-result c = search needs
 
--- src/reader.rt:61:5
 shared-slice-read-result : tie.Need-shared-slice-read-result
 shared-slice-read-result c = search needs
 
--- src/reader.rt:57:1
 returns : tie.Need-returns
 unfolding fromEnd
 returns c = refl

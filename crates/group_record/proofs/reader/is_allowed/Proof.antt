@@ -15,15 +15,12 @@ use Rattle.group_record.proofs.reader.is_listed.Reads as is-listed-read
 use Rattle.group_record.proofs.reader.members_allowed.Reads as members-allowed-reads
 use Rattle.operation.proofs.product.identity.Reads as identity-reads
 
--- src/reader.rt:215:32
 identity-requires : tie.Need-identity-requires
 identity-requires c κs = search needs
 
--- src/reader.rt:215:9
 is-listed-requires : tie.Need-is-listed-requires
 is-listed-requires c κs = search needs
 
--- src/reader.rt:216:9
 returns : tie.Need-returns
 unfolding isAllowed
 returns c =
@@ -31,11 +28,9 @@ returns c =
     let same = ap (λ (f : Operation). has (alikeItems (a .c)) (itemOf f) (itemsOf (a .n) (a .bytes .now))) (sym (c .before .before .identity .ensures)) ∙ sym (c .before .is-listed .ensures) in
     simp (same, not-true (c .before .is-listed .result) (c .if1 .taken))
 
--- src/reader.rt:218:5
 members-allowed-requires : tie.Need-members-allowed-requires
 members-allowed-requires c κs = search needs
 
--- src/reader.rt:211:1
 returns-2 : tie.Need-returns-2
 unfolding isAllowed
 returns-2 c =

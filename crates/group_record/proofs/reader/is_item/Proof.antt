@@ -14,28 +14,22 @@ use Rattle.group_record.proofs.reader.item_code.Reads as item-code-read
 use Rattle.group_record.proofs.reader.item_translation.Reads as item-translation-reads
 use Rattle.group_record.proofs.reader.same.Reads as same-reads
 
--- src/reader.rt:177:17
 item-code-requires : tie.Need-item-code-requires
 item-code-requires c κs = search needs
 
--- src/reader.rt:178:9
 returns : tie.Need-returns
 unfolding isItem
 returns c = simp (← c .before .item-code .ensures, le-ltb _ 19683 (c .if1 .taken))
 
--- src/reader.rt:180:9
 item-translation-requires : tie.Need-item-translation-requires
 item-translation-requires c κs = search needs
 
--- src/reader.rt:181:10
 smallest-requires : tie.Need-smallest-requires
 smallest-requires c κs = search needs
 
--- src/reader.rt:181:5
 same-requires : tie.Need-same-requires
 same-requires c κs = search needs
 
--- src/reader.rt:173:1
 returns-2 : tie.Need-returns-2
 returns-2 c = c .same .ensures ∙ rw (c .before .smallest .ensures, c .before .before .item-translation .ensures) (item-by-smallest _ _ (omega (arith, c .before .before .before .before .item-code .ensures)))
 

@@ -21,19 +21,15 @@ Inv-loop bytes c n f code i₀ i = (i ≤ n) × (has (alikeItems c) (itemOf f) (
 abbrev μ-loop : tie.MeasureT-loop
 μ-loop bytes c n f code i₀ i = n - i
 
--- src/reader.rt:269:9
 rotation-code-requires : tie.Need-rotation-code-requires Inv-loop μ-loop
 rotation-code-requires c κs = search needs
 
--- src/reader.rt:271:5
 loop-holds : tie.Need-loop-holds Inv-loop μ-loop
 loop-holds c = (omega arith, refl)
 
--- src/reader.rt:272:12
 alike-requires : tie.Need-alike-requires Inv-loop μ-loop
 alike-requires c κs = omega arith
 
--- src/reader.rt:273:13
 returns : tie.Need-returns Inv-loop μ-loop
 returns c =
     let a = c .before .before .before .before .before .before .args in
@@ -41,15 +37,12 @@ returns c =
     let code = c .before .before .before .before .rotation-code .ensures in
     sym (has-stop (a .n) (a .bytes .now) (alikeItems (a .c)) (itemOf (a .f)) (l .i) (omega arith) (rw (← code) (sym (c .before .alike .ensures) ∙ c .if1 .taken))) ∙ l .inv .1
 
--- src/reader.rt:275:9
 add-i : tie.Need-add-i Inv-loop μ-loop
 add-i c = omega arith
 
--- src/reader.rt:271:5
 loop-less : tie.Need-loop-less Inv-loop μ-loop
 loop-less c = omega arith
 
--- src/reader.rt:271:5
 loop-again : tie.Need-loop-again Inv-loop μ-loop
 loop-again c =
     let a = c .before .before .before .before .before .before .args in
@@ -59,7 +52,6 @@ loop-again c =
       sym (has-next (a .n) (a .bytes .now) (alikeItems (a .c)) (itemOf (a .f)) (l .i) (omega arith) (rw (← code) (sym (c .before .alike .ensures) ∙ c .if1 .left))) ∙ l .inv .1,
     )
 
--- src/reader.rt:265:1
 returns-2 : tie.Need-returns-2 Inv-loop μ-loop
 returns-2 c =
     let a = c .before .before .before .before .args in

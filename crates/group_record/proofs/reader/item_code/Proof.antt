@@ -8,39 +8,30 @@ use Rattle.group_record.proofs.reader.item_code.Tie as tie
 use Rattle.group_record.proofs.reader.item_code.Reads as reads
 use Rattle.group_record.proofs.reader.item_code.Lts as lts
 
--- src/reader.rt:112:14
 mul-at : tie.Need-mul-at
 mul-at c = search needs
 
--- src/reader.rt:113:5
 shared-slice-read-result : tie.Need-shared-slice-read-result
 shared-slice-read-result c = search needs
 
--- src/reader.rt:113:5
 cast-result : tie.Need-cast-result
 cast-result c = omega (arith, c .shared-slice-known .given (5 * c .before .args .i))
 
--- src/reader.rt:113:5
 mul-result : tie.Need-mul-result
 mul-result c = omega (arith, c .shared-slice-known .given (5 * c .before .args .i))
 
--- src/reader.rt:113:36
 add-result : tie.Need-add-result
 add-result c = search needs
 
--- src/reader.rt:113:30
 shared-slice-read-result-2 : tie.Need-shared-slice-read-result-2
 shared-slice-read-result-2 c = search needs
 
--- src/reader.rt:113:30
 cast-result-2 : tie.Need-cast-result-2
 cast-result-2 c = omega (arith, c .shared-slice-known2 .given (5 * c .before .before .args .i + 1))
 
--- src/reader.rt:113:5
 add-result-2 : tie.Need-add-result-2
 add-result-2 c = omega (arith, c .before .shared-slice-known .given (5 * c .before .before .args .i), c .shared-slice-known2 .given (5 * c .before .before .args .i + 1))
 
--- src/reader.rt:108:1
 returns : tie.Need-returns
 returns c = item-code-bytes (c .before .before .args .bytes .now) (c .before .before .args .i)
 

@@ -6,35 +6,27 @@ use Rattle.group_record.proofs.reader.item_translation.Tie as tie
 use Rattle.group_record.proofs.reader.item_translation.Reads as reads
 use Rattle.group_record.proofs.reader.item_translation.Lts as lts
 
--- src/reader.rt:120:14
 mul-at : tie.Need-mul-at
 mul-at c = search needs
 
--- src/reader.rt:122:18
 add-t4 : tie.Need-add-t4
 add-t4 c = search needs
 
--- src/reader.rt:122:12
 shared-slice-read-t6 : tie.Need-shared-slice-read-t6
 shared-slice-read-t6 c = search needs
 
--- src/reader.rt:123:18
 add-t7 : tie.Need-add-t7
 add-t7 c = search needs
 
--- src/reader.rt:123:12
 shared-slice-read-t9 : tie.Need-shared-slice-read-t9
 shared-slice-read-t9 c = search needs
 
--- src/reader.rt:124:18
 add-t10 : tie.Need-add-t10
 add-t10 c = search needs
 
--- src/reader.rt:124:12
 shared-slice-read-t12 : tie.Need-shared-slice-read-t12
 shared-slice-read-t12 c = search needs
 
--- src/reader.rt:116:1
 returns : tie.Need-returns
 returns c = item-translation-bytes (c .before .before .before .args .bytes .now) (c .before .before .before .args .i)
 

@@ -8,30 +8,24 @@ use Rattle.group_record.proofs.reader.length_fits.Tie as tie
 use Rattle.group_record.proofs.reader.length_fits.Reads as reads
 use Rattle.group_record.proofs.reader.length_fits.Lts as lts
 
--- src/reader.rt:83:9
 returns : tie.Need-returns
 unfolding lengthFits
 returns c = simp (lt-leb 1 _ (c .if1 .taken))
 
--- src/reader.rt:86:9
 returns-2 : tie.Need-returns-2
 unfolding lengthFits
 returns-2 c = simp (le-leb 1 (c .before .before .args .n) (omega arith), lt-leb _ 48 (c .if2 .taken))
 
--- src/reader.rt:88:17
 mul-total : tie.Need-mul-total
 mul-total c = search needs
 
--- src/reader.rt:88:17
 add-total : tie.Need-add-total
 add-total c = search needs
 
--- src/reader.rt:90:9
 returns-3 : tie.Need-returns-3
 unfolding lengthFits
 returns-3 c = simp (le-leb 1 (c .before .before .before .args .n) (omega arith), le-leb (c .before .before .before .args .n) 48 (omega arith), ne-eqb _ _ (c .if3 .taken))
 
--- src/reader.rt:79:1
 returns-4 : tie.Need-returns-4
 unfolding lengthFits
 returns-4 c = simp (le-leb 1 (c .before .before .before .args .n) (omega arith), le-leb (c .before .before .before .args .n) 48 (omega arith), eq-eqb _ _ (c .if3 .left))

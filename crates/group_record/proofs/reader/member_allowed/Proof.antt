@@ -23,15 +23,12 @@ Inv-loop bytes c n i f j₀ j = (j ≤ n) × (memberAllowed c (itemsOf n bytes) 
 abbrev μ-loop : tie.MeasureT-loop
 μ-loop bytes c n i f j₀ j = n - j
 
--- src/reader.rt:240:9
 operation-at-requires : tie.Need-operation-at-requires Inv-loop μ-loop
 operation-at-requires c κs = omega arith
 
--- src/reader.rt:241:9
 keeps-requires : tie.Need-keeps-requires Inv-loop μ-loop
 keeps-requires c κs = search needs
 
--- src/reader.rt:242:9
 returns : tie.Need-returns Inv-loop μ-loop
 returns c =
     let a = c .before .before .before .before .args in
@@ -39,7 +36,6 @@ returns c =
     let member = itemAt (a .bytes .now) (a .i) in
     sym (member-lost (a .c) items member (kept-item (a .c) items member _ _ (c .before .before .operation-at .ensures) (c .before .keeps .ensures) ∙ not-true (c .before .keeps .result) (c .if1 .taken)))
 
--- src/reader.rt:245:5
 loop-holds : tie.Need-loop-holds Inv-loop μ-loop
 loop-holds c =
     let a = c .before .before .before .before .args in
@@ -47,19 +43,15 @@ loop-holds c =
     let member = itemAt (a .bytes .now) (a .i) in
     (omega arith, member-kept (a .c) items member (kept-item (a .c) items member _ _ (c .before .before .operation-at .ensures) (c .before .keeps .ensures) ∙ not-false (c .before .keeps .result) (c .if1 .left)))
 
--- src/reader.rt:246:48
 operation-at-requires-2 : tie.Need-operation-at-requires-2 Inv-loop μ-loop
 operation-at-requires-2 c κs = omega arith
 
--- src/reader.rt:246:41
 mul-requires : tie.Need-mul-requires Inv-loop μ-loop
 mul-requires c κs = search needs
 
--- src/reader.rt:246:13
 product-listed-requires : tie.Need-product-listed-requires Inv-loop μ-loop
 product-listed-requires c κs = omega arith
 
--- src/reader.rt:247:13
 returns-2 : tie.Need-returns-2 Inv-loop μ-loop
 returns-2 c =
     let a = c .before .before .before .before .before .before .before .before .before .before .args in
@@ -70,15 +62,12 @@ returns-2 c =
     listed-pair (a .c) items member (itemAt (a .bytes .now) (l .j)) _ _ _ (c .before .product-listed .result) (c .before .before .before .before .before .before .before .before .operation-at .ensures) (c .before .before .before .operation-at2 .ensures) (c .before .before .mul .ensures) (c .before .product-listed .ensures) in
     sym (l .inv .1 ∙ all-stop (a .n) (a .bytes .now) (pairListed (a .c) items member) (l .j) (omega arith) (pair ∙ not-true (c .before .product-listed .result) (c .if2 .taken)))
 
--- src/reader.rt:249:9
 add-j : tie.Need-add-j Inv-loop μ-loop
 add-j c = omega arith
 
--- src/reader.rt:245:5
 loop-less : tie.Need-loop-less Inv-loop μ-loop
 loop-less c = omega arith
 
--- src/reader.rt:245:5
 loop-again : tie.Need-loop-again Inv-loop μ-loop
 loop-again c =
     let a = c .before .before .before .before .before .before .before .before .before .before .args in
@@ -91,7 +80,6 @@ loop-again c =
       l .inv .1 ∙ all-next (a .n) (a .bytes .now) (pairListed (a .c) items member) (l .j) (omega arith) (pair ∙ not-false (c .before .product-listed .result) (c .if2 .left)),
     )
 
--- src/reader.rt:236:1
 returns-3 : tie.Need-returns-3 Inv-loop μ-loop
 returns-3 c =
     let a = c .before .before .before .before .before .before .args in

@@ -19,30 +19,24 @@ Inv-loop bytes c n i₀ i = (i ≤ n) × (all (memberAllowed c (itemsOf n bytes)
 abbrev μ-loop : tie.MeasureT-loop
 μ-loop bytes c n i₀ i = n - i
 
--- src/reader.rt:226:5
 loop-holds : tie.Need-loop-holds Inv-loop μ-loop
 loop-holds c = (omega arith, refl)
 
--- src/reader.rt:227:13
 member-allowed-requires : tie.Need-member-allowed-requires Inv-loop μ-loop
 member-allowed-requires c κs = omega arith
 
--- src/reader.rt:228:13
 returns : tie.Need-returns Inv-loop μ-loop
 returns c =
     let a = c .before .before .before .before .before .args in
     let l = c .before .before .before .loop in
     sym (all-stop (a .n) (a .bytes .now) (memberAllowed (a .c) (itemsOf (a .n) (a .bytes .now))) (l .i) (omega arith) (sym (c .before .member-allowed .ensures) ∙ not-true (c .before .member-allowed .result) (c .if1 .taken))) ∙ l .inv .1
 
--- src/reader.rt:230:9
 add-i : tie.Need-add-i Inv-loop μ-loop
 add-i c = omega arith
 
--- src/reader.rt:226:5
 loop-less : tie.Need-loop-less Inv-loop μ-loop
 loop-less c = omega arith
 
--- src/reader.rt:226:5
 loop-again : tie.Need-loop-again Inv-loop μ-loop
 loop-again c =
     let a = c .before .before .before .before .before .args in
@@ -51,7 +45,6 @@ loop-again c =
       sym (all-next (a .n) (a .bytes .now) (memberAllowed (a .c) (itemsOf (a .n) (a .bytes .now))) (l .i) (omega arith) (sym (c .before .member-allowed .ensures) ∙ not-false (c .before .member-allowed .result) (c .if1 .left))) ∙ l .inv .1,
     )
 
--- src/reader.rt:221:1
 returns-2 : tie.Need-returns-2 Inv-loop μ-loop
 returns-2 c =
     let a = c .before .before .before .args in

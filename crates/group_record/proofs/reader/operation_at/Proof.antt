@@ -14,31 +14,24 @@ use Rattle.group_record.proofs.reader.item_translation.Reads as item-tr
 use Rattle.operation.proofs.code.rotation_of_code.Reads as rotation-of-code-reads
 use Rattle.operation.proofs.product.identity.Reads as identity-reads
 
--- src/reader.rt:133:9
 item-translation-requires : tie.Need-item-translation-requires
 item-translation-requires c κs = search needs
 
--- src/reader.rt:134:54
 item-code-requires : tie.Need-item-code-requires
 item-code-requires c κs = search needs
 
--- src/reader.rt:134:37
 rotation-of-code-requires : tie.Need-rotation-of-code-requires
 rotation-of-code-requires c κs = search needs
 
--- src/reader.rt:134:25
 enum-known-rotation : tie.Need-enum-known-rotation
 enum-known-rotation c = search needs
 
--- src/reader.rt:135:13
 enum-told : tie.Need-enum-told
 enum-told c = search needs
 
--- src/reader.rt:135:13
 identity-requires : tie.Need-identity-requires
 identity-requires c κs = search needs
 
--- src/reader.rt:137:9
 returns : tie.Need-returns
 unfolding operationOfItem
 returns c =
@@ -47,7 +40,6 @@ returns c =
     operation≡ (ap (λ (f : Operation). f .rotation) (c .before .identity .ensures) ∙ sym (ap rotationOfDecoded (ap decodedOf (sym (code .ensures)) ∙ told)))
     (c .before .before .before .before .before .before .item-translation .ensures)
 
--- src/reader.rt:129:1
 returns-2 : tie.Need-returns-2
 unfolding operationOfItem
 returns-2 c =

@@ -9,25 +9,20 @@ use Rattle.group_record.proofs.reader.product_listed.Reads as reads
 use Rattle.group_record.proofs.reader.product_listed.Lts as lts
 use Rattle.group_record.proofs.reader.is_listed.Reads as is-listed-reads
 
--- src/reader.rt:259:25
 enum-known-product : tie.Need-enum-known-product
 enum-known-product c = search needs
 
--- src/reader.rt:259:31
 is-listed-requires : tie.Need-is-listed-requires
 is-listed-requires c κs = search needs
 
--- src/reader.rt:260:29
 enum-told : tie.Need-enum-told
 enum-told c = search needs
 
--- src/reader.rt:254:1
 returns : tie.Need-returns
 returns c =
     let a = c .before .before .before .before .before .args in
     c .is-listed .ensures ∙ sym (ap (productListed (a .c) (itemsOf (a .n) (a .bytes .now))) (c .before .before .product .given .1))
 
--- src/reader.rt:254:1
 returns-2 : tie.Need-returns-2
 returns-2 c = search needs
 

@@ -19,85 +19,66 @@ use Rattle.group_record.proofs.reader.length_fits.Reads as length-fits-
 use Rattle.group_record.proofs.reader.read_items.Reads as read-items-reads
 use Rattle.group_record.proofs.reader.refused.Reads as refused-reads
 
--- src/reader.rt:69:13
 from-end-requires : tie.Need-from-end-requires
 from-end-requires c κs = search needs
 
--- src/reader.rt:69:13
 cast-n : tie.Need-cast-n
 cast-n c = search needs
 
--- src/reader.rt:70:18
 from-end-requires-2 : tie.Need-from-end-requires-2
 from-end-requires-2 c κs = search needs
 
--- src/reader.rt:70:18
 cast-stated : tie.Need-cast-stated
 cast-stated c = search needs
 
--- src/reader.rt:70:18
 mul-stated : tie.Need-mul-stated
 mul-stated c = search needs
 
--- src/reader.rt:70:54
 from-end-requires-3 : tie.Need-from-end-requires-3
 from-end-requires-3 c κs = search needs
 
--- src/reader.rt:70:54
 cast-stated-2 : tie.Need-cast-stated-2
 cast-stated-2 c = search needs
 
--- src/reader.rt:70:18
 add-stated : tie.Need-add-stated
 add-stated c = search needs
 
--- src/reader.rt:71:9
 length-fits-requires : tie.Need-length-fits-requires
 length-fits-requires c κs = search needs
 
--- src/reader.rt:72:9
 refused-requires : tie.Need-refused-requires
 refused-requires c κs = search needs
 
--- src/reader.rt:72:9
 returns : tie.Need-returns
 returns c =
     let a = c .before .before .before .before .before .before .before .args in
     let fails = sym (c .before .before .length-fits .ensures) ∙ not-true (c .before .before .length-fits .result) (c .before .if1 .taken) in
     c .refused .ensures ∙ sym (counted-fails (a .c) (a .bytes .now) _ _ _ (c .before .before .before .before .before .from-end .ensures) (c .before .before .before .before .from-end2 .ensures) (c .before .before .before .from-end3 .ensures) fails)
 
--- src/reader.rt:74:25
 mul-start : tie.Need-mul-start
 mul-start c = search needs
 
--- src/reader.rt:74:25
 add-start : tie.Need-add-start
 add-start c = search needs
 
--- src/reader.rt:74:17
 sub-start : tie.Need-sub-start
 sub-start c = let fits = length-test _ _ _ .0 (sym (c .before .length-fits .ensures) ∙ not-false (c .before .length-fits .result) (c .if1 .left)) in omega (arith, fits)
 
--- src/reader.rt:75:16
 sub-read-items : tie.Need-sub-read-items
 sub-read-items c = search needs
 
--- src/reader.rt:75:16
 part-read-items-start : tie.Need-part-read-items-start
 part-read-items-start c = search needs
 
--- src/reader.rt:75:16
 part-read-items-end : tie.Need-part-read-items-end
 part-read-items-end c = search needs
 
--- src/reader.rt:75:5
 read-items-requires : tie.Need-read-items-requires
 read-items-requires c κs =
     let a = c .before .before .before .before .before .before .before .args in
     let fits = length-test _ _ _ .0 (sym (c .before .before .length-fits .ensures) ∙ not-false (c .before .before .length-fits .result) (c .before .if1 .left)) in
     (fits .0, fits .1, rw (tail-part (a .bytes .now) (length (a .bytes .now) - (5 * c .before .before .before .before .before .from-end .result + 5)), length-drop) (omega (arith, fits)))
 
--- src/reader.rt:64:1
 returns-2 : tie.Need-returns-2
 returns-2 c =
     let a = c .before .before .before .before .before .before .before .before .args in

@@ -11,37 +11,29 @@ use Rattle.group_record.proofs.reader.are_items.Reads as are-items-read
 use Rattle.group_record.proofs.reader.is_allowed.Reads as is-allowed-reads
 use Rattle.group_record.proofs.reader.refused.Reads as refused-reads
 
--- src/reader.rt:99:9
 are-items-requires : tie.Need-are-items-requires
 are-items-requires c κs = search needs
 
--- src/reader.rt:100:9
 refused-requires : tie.Need-refused-requires
 refused-requires c κs = search needs
 
--- src/reader.rt:100:9
 returns : tie.Need-returns
 unfolding readItems
 returns c = simp (← c .before .before .are-items .ensures, not-true (c .before .before .are-items .result) (c .before .if1 .taken)) (c .refused .ensures)
 
--- src/reader.rt:102:9
 is-allowed-requires : tie.Need-is-allowed-requires
 is-allowed-requires c κs = search needs
 
--- src/reader.rt:103:9
 refused-requires-2 : tie.Need-refused-requires-2
 refused-requires-2 c κs = search needs
 
--- src/reader.rt:103:9
 returns-2 : tie.Need-returns-2
 unfolding readItems
 returns-2 c = simp (← c .before .before .before .before .are-items .ensures, not-false (c .before .before .before .before .are-items .result) (c .before .before .before .if1 .left), ← c .before .before .is-allowed .ensures, not-true (c .before .before .is-allowed .result) (c .before .if2 .taken)) (c .refused2 .ensures)
 
--- src/reader.rt:105:5
 accepted-requires : tie.Need-accepted-requires
 accepted-requires c κs = search needs
 
--- src/reader.rt:95:1
 returns-3 : tie.Need-returns-3
 unfolding readItems
 returns-3 c = simp (← c .before .before .before .before .are-items .ensures, not-false (c .before .before .before .before .are-items .result) (c .before .before .before .if1 .left), ← c .before .before .is-allowed .ensures, not-false (c .before .before .is-allowed .result) (c .before .if2 .left)) (c .accepted .ensures)

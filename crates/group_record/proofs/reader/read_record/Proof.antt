@@ -13,49 +13,38 @@ use Rattle.group_record.proofs.reader.from_end.Reads as from-end-reads
 use Rattle.group_record.proofs.reader.read_counted.Reads as read-counted-reads
 use Rattle.group_record.proofs.reader.refused.Reads as refused-reads
 
--- src/reader.rt:34:9
 refused-requires : tie.Need-refused-requires
 refused-requires c κs = search needs
 
--- src/reader.rt:34:9
 returns : tie.Need-returns
 returns c = c .refused .ensures ∙ sym (read-short (c .before .before .before .args .bytes .now) (c .before .if1 .taken))
 
--- src/reader.rt:36:8
 from-end-requires : tie.Need-from-end-requires
 from-end-requires c κs = search needs
 
--- src/reader.rt:37:9
 refused-requires-2 : tie.Need-refused-requires-2
 refused-requires-2 c κs = search needs
 
--- src/reader.rt:37:9
 returns-2 : tie.Need-returns-2
 returns-2 c =
     let bytes = c .before .before .before .before .before .args .bytes .now in
     c .refused2 .ensures ∙ sym (read-other-edition bytes _ (omega (arith, c .before .before .before .if1 .left)) (c .before .before .from-end .ensures) (c .before .if2 .taken))
 
--- src/reader.rt:39:46
 from-end-requires-2 : tie.Need-from-end-requires-2
 from-end-requires-2 c κs = search needs
 
--- src/reader.rt:39:25
 from-byte-requires : tie.Need-from-byte-requires
 from-byte-requires c κs = search needs
 
--- src/reader.rt:39:20
 enum-known-c : tie.Need-enum-known-c
 enum-known-c c = search needs
 
--- src/reader.rt:40:24
 enum-told : tie.Need-enum-told
 enum-told c = search needs
 
--- src/reader.rt:40:9
 refused-requires-3 : tie.Need-refused-requires-3
 refused-requires-3 c κs = search needs
 
--- src/reader.rt:40:9
 returns-3 : tie.Need-returns-3
 unfolding readLettered
 returns-3 c =
@@ -63,11 +52,9 @@ returns-3 c =
     let letter = sym (c .before .before .before .from-byte .ensures) ∙ c .before .enum-told .given .1 in
     c .refused3 .ensures ∙ sym (read-by-letter bytes _ (omega (arith, c .before .before .before .before .before .before .before .if1 .left)) (c .before .before .before .before .before .before .from-end .ensures) _ _ (c .before .before .before .before .before .if2 .left) (c .before .before .before .before .from-end2 .ensures) letter)
 
--- src/reader.rt:42:5
 read-counted-requires : tie.Need-read-counted-requires
 read-counted-requires c κs = search needs
 
--- src/reader.rt:29:1
 returns-4 : tie.Need-returns-4
 unfolding readLettered
 returns-4 c =

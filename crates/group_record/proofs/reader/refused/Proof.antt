@@ -7,11 +7,9 @@ use Rattle.group_record.proofs.reader.refused.Reads as reads
 use Rattle.group_record.proofs.reader.refused.Lts as lts
 use Rattle.operation.proofs.product.identity.Reads as identity-reads
 
--- src/reader.rt:52:22
 identity-requires : tie.Need-identity-requires
 identity-requires c κs = search needs
 
--- src/reader.rt:45:1
 returns : tie.Need-returns
 unfolding refusedGroup
 returns c = rw (c .identity .ensures)

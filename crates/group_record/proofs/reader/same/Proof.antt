@@ -7,17 +7,14 @@ use Rattle.group_record.proofs.reader.same.Tie as tie
 use Rattle.group_record.proofs.reader.same.Reads as reads
 use Rattle.group_record.proofs.reader.same.Lts as lts
 
--- src/reader.rt:188:9
 returns : tie.Need-returns
 unfolding sameTriple
 returns c = simp (ne-eqb _ _ (c .if1 .taken))
 
--- src/reader.rt:191:9
 returns-2 : tie.Need-returns-2
 unfolding sameTriple
 returns-2 c = simp (eq-eqb _ _ (c .before .before .before .if1 .left), ne-eqb _ _ (c .if2 .taken))
 
--- src/reader.rt:184:1
 returns-3 : tie.Need-returns-3
 returns-3 c = same-by-last _ _ (c .before .before .before .before .before .if1 .left) (c .before .before .if2 .left)
 

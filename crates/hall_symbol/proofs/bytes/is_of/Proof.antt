@@ -1,3 +1,4 @@
+-- Each arm is the test that its class of bytes names.
 use Rattle.hall_symbol.specs.Bytes.{solid, unclosed}
 use borrow.Author.Needs.{needs}
 use Rattle.hall_symbol.proofs.bytes.is_of.Statement.{statement}

@@ -1,3 +1,4 @@
+-- Below the bound the digits are quotients and remainders, as in the definition; above it both refuse.
 use borrow.Author.Tests.{le-ltb, lt-ltb}
 use Rattle.operation.specs.Code.{rotationOf}
 use borrow.Author.Needs.{needs}
@@ -6,47 +7,36 @@ use Rattle.operation.proofs.code.rotation_of_code.Tie as tie
 use Rattle.operation.proofs.code.rotation_of_code.Reads as reads
 use Rattle.operation.proofs.code.rotation_of_code.Lts as lts
 
--- src/code.rt:26:9
 returns : tie.Need-returns
 returns c = simp (le-ltb _ _ (c .if1 .taken))
 
--- src/code.rt:29:13
 cast-t5 : tie.Need-cast-t5
 cast-t5 c = search needs
 
--- src/code.rt:30:13
 cast-t8 : tie.Need-cast-t8
 cast-t8 c = search needs
 
--- src/code.rt:31:13
 cast-t11 : tie.Need-cast-t11
 cast-t11 c = search needs
 
--- src/code.rt:32:13
 cast-t14 : tie.Need-cast-t14
 cast-t14 c = search needs
 
--- src/code.rt:33:13
 cast-t17 : tie.Need-cast-t17
 cast-t17 c = search needs
 
--- src/code.rt:34:13
 cast-t20 : tie.Need-cast-t20
 cast-t20 c = search needs
 
--- src/code.rt:35:13
 cast-t23 : tie.Need-cast-t23
 cast-t23 c = search needs
 
--- src/code.rt:36:13
 cast-t26 : tie.Need-cast-t26
 cast-t26 c = search needs
 
--- src/code.rt:37:13
 cast-t28 : tie.Need-cast-t28
 cast-t28 c = search needs
 
--- src/code.rt:22:1
 returns-2 : tie.Need-returns-2
 unfolding rotationOf
 returns-2 c = simp (lt-ltb _ _ (c .if1 .left))

@@ -1,3 +1,4 @@
+-- Both factors are bytes, so their product fits.
 use mathlib.Core.Path.{ap₂}
 use Prim.Native.Nat.{ℕ, _+_, _*_}
 use native.Mathlib.Omega.{arith}
@@ -9,23 +10,18 @@ use Rattle.operation.proofs.product.entry_times.Reads as reads
 use Rattle.operation.proofs.product.entry_times.Lts as lts
 use Rattle.operation.proofs.product.wide.Reads as wide-reads
 
--- src/product.rt:95:6
 wide-requires : tie.Need-wide-requires
 wide-requires c κs = search needs
 
--- src/product.rt:95:6
 add-result : tie.Need-add-result
 add-result c = search needs
 
--- src/product.rt:95:22
 wide-requires-2 : tie.Need-wide-requires-2
 wide-requires-2 c κs = search needs
 
--- src/product.rt:95:5
 mul-result : tie.Need-mul-result
 mul-result c = record { fits = omega (arith, mul-le-mul {n₁ = c .before .wide .result + 11} {m₁ = c .wide2 .result} {n₂ = 266} {m₂ = 255} (omega arith) (omega arith)) }
 
--- src/product.rt:92:1
 returns : tie.Need-returns
 returns c = (ap₂ (λ (a u : ℕ). (a + 11) * u) (c .before .wide .ensures) (c .wide2 .ensures), mul-le-mul {n₂ = 266} {m₂ = 255} (omega arith) (omega arith))
 

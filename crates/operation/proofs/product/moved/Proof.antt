@@ -1,3 +1,4 @@
+-- The unsigned sum and the integer sum have one residue modulo 12.
 use mathlib.Core.Path.{sym, _∙_, ap}
 use Prim.Native.Nat.{ℕ, _%_}
 use Rattle.operation.specs.Digits.{moved-residue}
@@ -9,39 +10,30 @@ use Rattle.operation.proofs.product.moved.Lts as lts
 use Rattle.operation.proofs.product.entry_times.Reads as entry-times-reads
 use Rattle.operation.proofs.product.wide.Reads as wide-reads
 
--- src/product.rt:102:15
 entry-times-requires : tie.Need-entry-times-requires
 entry-times-requires c κs = search needs
 
--- src/product.rt:102:32
 entry-times-requires-2 : tie.Need-entry-times-requires-2
 entry-times-requires-2 c κs = search needs
 
--- src/product.rt:102:15
 add-sum : tie.Need-add-sum
 add-sum c = search needs
 
--- src/product.rt:102:49
 entry-times-requires-3 : tie.Need-entry-times-requires-3
 entry-times-requires-3 c κs = search needs
 
--- src/product.rt:102:15
 add-sum-2 : tie.Need-add-sum-2
 add-sum-2 c = search needs
 
--- src/product.rt:102:66
 wide-requires : tie.Need-wide-requires
 wide-requires c κs = search needs
 
--- src/product.rt:102:15
 add-sum-3 : tie.Need-add-sum-3
 add-sum-3 c = search needs
 
--- src/product.rt:103:5
 cast-result : tie.Need-cast-result
 cast-result c = search needs
 
--- src/product.rt:99:1
 returns : tie.Need-returns
 returns c =
     let a = c .before .before .before .before .args in

@@ -1,3 +1,4 @@
+-- The first row that has left −1..1 decides the refusal; where none has, the three rows and the moved translation are the product.
 use mathlib.Core.Path.{sym, _∙_}
 use Rattle.laws.specs.Matrix.{times, act, plus}
 use Rattle.laws.specs.Motion.{product}
@@ -11,55 +12,43 @@ use Rattle.operation.proofs.product.mul.Lts as lts
 use Rattle.operation.proofs.product.moved.Reads as moved-reads
 use Rattle.operation.proofs.product.row_times.Reads as row-times-reads
 
--- src/product.rt:113:35
 row-times-requires : tie.Need-row-times-requires
 row-times-requires c κs = search needs
 
--- src/product.rt:113:21
 enum-known-xx : tie.Need-enum-known-xx
 enum-known-xx c = search needs
 
--- src/product.rt:114:9
 enum-told : tie.Need-enum-told
 enum-told c = search needs
 
--- src/product.rt:114:9
 returns : tie.Need-returns
 unfolding productOf allInside motionOf matrixOf vectorOf product times act plus
 returns c = simp (row-outside _ _ _ (sym (c .before .before .row-times .ensures) ∙ c .enum-told .given .1))
 
--- src/product.rt:116:35
 row-times-requires-2 : tie.Need-row-times-requires-2
 row-times-requires-2 c κs = search needs
 
--- src/product.rt:116:21
 enum-known-yx : tie.Need-enum-known-yx
 enum-known-yx c = search needs
 
--- src/product.rt:117:9
 enum-told-2 : tie.Need-enum-told-2
 enum-told-2 c = search needs
 
--- src/product.rt:117:9
 returns-2 : tie.Need-returns-2
 unfolding productOf allInside motionOf matrixOf vectorOf product times act plus
 returns-2 c =
     let first = row-inside _ _ _ _ _ _ (sym (c .before .before .before .before .before .before .row-times .ensures) ∙ c .before .before .before .before .xx .given .1) in
     simp (first .0, row-outside _ _ _ (sym (c .before .before .row-times2 .ensures) ∙ c .enum-told2 .given .1))
 
--- src/product.rt:119:35
 row-times-requires-3 : tie.Need-row-times-requires-3
 row-times-requires-3 c κs = search needs
 
--- src/product.rt:119:21
 enum-known-zx : tie.Need-enum-known-zx
 enum-known-zx c = search needs
 
--- src/product.rt:120:9
 enum-told-3 : tie.Need-enum-told-3
 enum-told-3 c = search needs
 
--- src/product.rt:120:9
 returns-3 : tie.Need-returns-3
 unfolding productOf allInside motionOf matrixOf vectorOf product times act plus
 returns-3 c =
@@ -67,19 +56,15 @@ returns-3 c =
     let second = row-inside _ _ _ _ _ _ (sym (c .before .before .before .before .before .before .row-times2 .ensures) ∙ c .before .before .before .before .yx .given .1) in
     simp (first .0, second .0, row-outside _ _ _ (sym (c .before .before .row-times3 .ensures) ∙ c .enum-told3 .given .1))
 
--- src/product.rt:122:9
 moved-requires : tie.Need-moved-requires
 moved-requires c κs = search needs
 
--- src/product.rt:123:9
 moved-requires-2 : tie.Need-moved-requires-2
 moved-requires-2 c κs = search needs
 
--- src/product.rt:124:9
 moved-requires-3 : tie.Need-moved-requires-3
 moved-requires-3 c κs = search needs
 
--- src/product.rt:106:1
 returns-4 : tie.Need-returns-4
 unfolding productOf allInside operationOf motionOf matrixOf vectorOf product times act plus
 returns-4 c =

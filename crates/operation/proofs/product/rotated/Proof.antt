@@ -1,3 +1,4 @@
+-- Each component is a row moved, with nothing added.
 use lib.IntN.{+ℤ-idr}
 use Rattle.laws.specs.Matrix.{act}
 use Rattle.operation.specs.Meaning.{matrixOf, vectorOf}
@@ -9,19 +10,15 @@ use Rattle.operation.proofs.product.rotated.Reads as reads
 use Rattle.operation.proofs.product.rotated.Lts as lts
 use Rattle.operation.proofs.product.moved.Reads as moved-reads
 
--- src/product.rt:112:12
 moved-requires : tie.Need-moved-requires
 moved-requires c κs = search needs
 
--- src/product.rt:113:12
 moved-requires-2 : tie.Need-moved-requires-2
 moved-requires-2 c κs = search needs
 
--- src/product.rt:114:12
 moved-requires-3 : tie.Need-moved-requires-3
 moved-requires-3 c κs = search needs
 
--- src/product.rt:108:1
 returns : tie.Need-returns
 unfolding rotatedOf act matrixOf vectorOf
 returns c = simp (c .before .before .moved .ensures, c .before .moved2 .ensures, c .moved3 .ensures, +ℤ-idr)

@@ -1,3 +1,4 @@
+-- The first entry that has left −1..1 decides the refusal; where none has, the three digits are the row.
 use borrow.Author.Tests.{le-ltb, lt-ltb}
 use Rattle.operation.specs.Meaning.{rowInside}
 use Rattle.operation.specs.Entries.{inside-digit}
@@ -9,20 +10,16 @@ use Rattle.operation.proofs.product.row_times.Reads as reads
 use Rattle.operation.proofs.product.row_times.Lts as lts
 use Rattle.operation.proofs.product.row_times_column.Reads as row-times-column-reads
 
--- src/product.rt:76:9
 row-times-column-requires : tie.Need-row-times-column-requires
 row-times-column-requires c κs = search needs
 
--- src/product.rt:78:9
 returns : tie.Need-returns
 unfolding rowOf rowInside
 returns c = simp (inside-digit, ← c .before .row-times-column .ensures, le-ltb _ _ (c .if1 .taken))
 
--- src/product.rt:80:9
 row-times-column-requires-2 : tie.Need-row-times-column-requires-2
 row-times-column-requires-2 c κs = search needs
 
--- src/product.rt:82:9
 returns-2 : tie.Need-returns-2
 unfolding rowOf rowInside
 returns-2 c =
@@ -34,11 +31,9 @@ returns-2 c =
       le-ltb _ _ (c .if2 .taken),
     )
 
--- src/product.rt:84:9
 row-times-column-requires-3 : tie.Need-row-times-column-requires-3
 row-times-column-requires-3 c κs = search needs
 
--- src/product.rt:86:9
 returns-3 : tie.Need-returns-3
 unfolding rowOf rowInside
 returns-3 c =
@@ -52,7 +47,6 @@ returns-3 c =
       le-ltb _ _ (c .if3 .taken),
     )
 
--- src/product.rt:73:1
 returns-4 : tie.Need-returns-4
 unfolding rowOf rowInside
 returns-4 c =

@@ -1,3 +1,4 @@
+-- Sum of products and sum of digits both fit; their difference is the digit of the integer sum.
 use native.Mathlib.Omega.{arith}
 use Rattle.operation.specs.Digits.{dot-outside-below, dot-inside, dot-outside}
 use borrow.Author.Needs.{needs}
@@ -8,91 +9,70 @@ use Rattle.operation.proofs.product.row_times_column.Lts as lts
 use Rattle.operation.proofs.product.term.Reads as term-reads
 use Rattle.operation.proofs.product.wide.Reads as wide-reads
 
--- src/product.rt:60:20
 term-requires : tie.Need-term-requires
 term-requires c κs = search needs
 
--- src/product.rt:60:33
 term-requires-2 : tie.Need-term-requires-2
 term-requires-2 c κs = search needs
 
--- src/product.rt:60:20
 add-products : tie.Need-add-products
 add-products c = search needs
 
--- src/product.rt:60:46
 term-requires-3 : tie.Need-term-requires-3
 term-requires-3 c κs = search needs
 
--- src/product.rt:60:20
 add-products-2 : tie.Need-add-products-2
 add-products-2 c = search needs
 
--- src/product.rt:60:20
 add-products-3 : tie.Need-add-products-3
 add-products-3 c = search needs
 
--- src/product.rt:61:16
 wide-requires : tie.Need-wide-requires
 wide-requires c κs = search needs
 
--- src/product.rt:61:26
 wide-requires-2 : tie.Need-wide-requires-2
 wide-requires-2 c κs = search needs
 
--- src/product.rt:61:16
 add-sums : tie.Need-add-sums
 add-sums c = search needs
 
--- src/product.rt:61:36
 wide-requires-3 : tie.Need-wide-requires-3
 wide-requires-3 c κs = search needs
 
--- src/product.rt:61:16
 add-sums-2 : tie.Need-add-sums-2
 add-sums-2 c = search needs
 
--- src/product.rt:61:46
 wide-requires-4 : tie.Need-wide-requires-4
 wide-requires-4 c κs = search needs
 
--- src/product.rt:61:16
 add-sums-3 : tie.Need-add-sums-3
 add-sums-3 c = search needs
 
--- src/product.rt:61:56
 wide-requires-5 : tie.Need-wide-requires-5
 wide-requires-5 c κs = search needs
 
--- src/product.rt:61:16
 add-sums-4 : tie.Need-add-sums-4
 add-sums-4 c = search needs
 
--- src/product.rt:61:66
 wide-requires-6 : tie.Need-wide-requires-6
 wide-requires-6 c κs = search needs
 
--- src/product.rt:61:16
 add-sums-5 : tie.Need-add-sums-5
 add-sums-5 c = search needs
 
--- src/product.rt:63:9
 returns : tie.Need-returns
 returns c =
     let a = c .before .before .before .before .before .before .before .before .before .before .args in
     dot-outside-below (a .a) (a .b) (a .c) (a .x) (a .y) (a .z) _ _ (omega arith) (omega arith) (c .if1 .taken)
 
--- src/product.rt:67:16
 cast-result : tie.Need-cast-result
 cast-result c = search needs
 
--- src/product.rt:67:9
 returns-2 : tie.Need-returns-2
 returns-2 c =
     let a = c .before .before .before .before .before .before .before .before .before .before .before .args in
     dot-inside (a .a) (a .b) (a .c) (a .x) (a .y) (a .z) _ _ (omega arith) (omega arith) (c .before .if1 .left) (c .if2 .taken)
 
--- src/product.rt:57:1
 returns-3 : tie.Need-returns-3
 returns-3 c =
     let a = c .before .before .before .before .before .before .before .before .before .before .before .args in

@@ -1,3 +1,4 @@
+-- Both factors are bytes, so their product fits.
 use mathlib.Core.Path.{ap₂}
 use Prim.Native.Nat.{_*_}
 use native.Mathlib.Omega.{arith}
@@ -9,19 +10,15 @@ use Rattle.operation.proofs.product.term.Reads as reads
 use Rattle.operation.proofs.product.term.Lts as lts
 use Rattle.operation.proofs.product.wide.Reads as wide-reads
 
--- src/product.rt:53:5
 wide-requires : tie.Need-wide-requires
 wide-requires c κs = search needs
 
--- src/product.rt:53:15
 wide-requires-2 : tie.Need-wide-requires-2
 wide-requires-2 c κs = search needs
 
--- src/product.rt:53:5
 mul-result : tie.Need-mul-result
 mul-result c = record { fits = omega (arith, mul-le-mul {n₁ = c .before .wide .result} {m₁ = c .wide2 .result} {n₂ = 255} {m₂ = 255} (omega arith) (omega arith)) }
 
--- src/product.rt:50:1
 returns : tie.Need-returns
 returns c = (ap₂ _*_ (c .before .wide .ensures) (c .wide2 .ensures), mul-le-mul {n₂ = 255} {m₂ = 255} (omega arith) (omega arith))
 

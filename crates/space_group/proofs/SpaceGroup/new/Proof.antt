@@ -8,21 +8,17 @@ use Rattle.space_group.proofs.SpaceGroup.new.Reads as reads
 use Rattle.space_group.proofs.SpaceGroup.new.Lts as lts
 use Rattle.space_group.proofs.group.group_of.Reads as group-of-reads
 
--- src/lib.rt:39:13
 group-of-requires : tie.Need-group-of-requires
 group-of-requires c κs = search needs
 
--- src/lib.rt:39:13
 returns : tie.Need-returns
 returns c =
     let a = c .before .before .args in
     c .group-of .ensures ∙ answer-all (a .centering) (a .n) (a .generators) (c .before .before .good .1 .1 .0 .1 .0 .1) (c .before .if1 .taken)
 
--- src/lib.rt:41:9
 group-of-requires-2 : tie.Need-group-of-requires-2
 group-of-requires-2 c κs = search needs
 
--- src/lib.rt:35:5
 returns-2 : tie.Need-returns-2
 returns-2 c =
     let a = c .before .before .args in

@@ -37,31 +37,24 @@ tested c =
     let g = generator-at (a .n) (a .t3) (c .before .before .before .loop .i) _ identityOperation (c .before .before .if1 .left) (omega (arith, gens-long (c .before .before .before .before), c .before .before .before .before .pre)) in
     c .keeps .ensures ∙ ap (λ (g : Operation). keepsOf (a .c) (g .rotation)) g
 
--- src/group.rt:49:9
 loop-holds : tie.Need-loop-holds Inv-loop μ-loop
 loop-holds c = omega arith
 
--- src/group.rt:53:17
 mul-g : tie.Need-mul-g Inv-loop μ-loop
 mul-g c = omega arith
 
--- src/group.rt:53:17
 array-copy-out-g : tie.Need-array-copy-out-g Inv-loop μ-loop
 array-copy-out-g c = omega arith
 
--- src/group.rt:54:13
 keeps-requires : tie.Need-keeps-requires Inv-loop μ-loop
 keeps-requires c κs = search needs
 
--- src/group.rt:57:9
 add-i : tie.Need-add-i Inv-loop μ-loop
 add-i c = omega arith
 
--- src/group.rt:49:9
 loop-less : tie.Need-loop-less Inv-loop μ-loop
 loop-less c = omega arith
 
--- src/group.rt:49:9
 loop-again : tie.Need-loop-again Inv-loop μ-loop
 loop-again c =
     let a = c .before .before .before .before .before .args in
@@ -70,7 +63,6 @@ loop-again c =
     let miss = off-miss (a .c) (take (a .n) (a .t3)) i (omega arith) (sym (tested (c .before)) ∙ not-false _ (c .if2 .left)) in
     omega arith
 
--- src/group.rt:44:1
 returns : tie.Need-returns Inv-loop μ-loop
 returns c =
     let a = c .before .before .args in
@@ -80,7 +72,6 @@ returns c =
     let at-end = ap (λ (i : ℕ). firstOff (a .c) (drop i gens)) all ∙ off-end (a .c) gens in
     omega arith
 
--- src/group.rt:44:1
 returns-2 : tie.Need-returns-2 Inv-loop μ-loop
 returns-2 c =
     let a = c .before .before .before .before .before .args in

@@ -20,45 +20,36 @@ gens-long c =
     let whole : length (c .args .generators) ≡ 9 = c .good .1 .1 .0 .1 .0 .1 in
     length-take-le (c .args .n) (c .args .generators) (omega (arith, c .pre))
 
--- src/group.rt:53:9
 first-off-requires : tie.Need-first-off-requires
 first-off-requires c κs = search needs
 
--- src/group.rt:55:9
 refused-requires : tie.Need-refused-requires
 refused-requires c κs = search needs
 
--- src/group.rt:55:9
 returns : tie.Need-returns
 returns c =
     let a = c .before .before .before .args in
     c .refused .ensures ∙ answer-off (a .c) (a .n) (take (a .n) (a .generators)) (gens-long (c .before .before .before)) (c .before .before .first-off .result) (c .before .before .first-off .ensures) (c .before .if1 .taken)
 
--- src/group.rt:57:9
 traverse-requires : tie.Need-traverse-requires
 traverse-requires c κs = search needs
 
--- src/group.rt:59:9
 refused-requires-2 : tie.Need-refused-requires-2
 refused-requires-2 c κs = search needs
 
--- src/group.rt:59:9
 returns-2 : tie.Need-returns-2
 returns-2 c =
     let a = c .before .before .before .before .before .before .args in
     c .refused2 .ensures ∙ answer-unbounded (a .c) (a .n) (take (a .n) (a .generators)) (gens-long (c .before .before .before .before .before .before)) (c .before .before .before .before .before .first-off .result) (c .before .before .before .before .before .first-off .ensures) (c .before .before .before .before .if1 .left) (c .before .before .before .traverse .result) (c .before .before .before .traverse .ensures) (not-true _ (c .before .if2 .taken))
 
--- src/group.rt:62:9
 refused-requires-3 : tie.Need-refused-requires-3
 refused-requires-3 c κs = search needs
 
--- src/group.rt:62:9
 returns-3 : tie.Need-returns-3
 returns-3 c =
     let a = c .before .before .before .before .before .before .before .before .args in
     c .refused3 .ensures ∙ answer-torn (a .c) (a .n) (take (a .n) (a .generators)) (gens-long (c .before .before .before .before .before .before .before .before)) (c .before .before .before .before .before .before .before .first-off .result) (c .before .before .before .before .before .before .before .first-off .ensures) (c .before .before .before .before .before .before .if1 .left) (c .before .before .before .before .before .traverse .result) (c .before .before .before .before .before .traverse .ensures) (not-false _ (c .before .before .before .if2 .left)) (not-true _ (c .before .if3 .taken))
 
--- src/group.rt:49:1
 returns-4 : tie.Need-returns-4
 returns-4 c =
     let a = c .before .before .before .before .before .before .before .before .before .args in

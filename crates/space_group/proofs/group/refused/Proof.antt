@@ -6,11 +6,9 @@ use Rattle.space_group.proofs.group.refused.Reads as reads
 use Rattle.space_group.proofs.group.refused.Lts as lts
 use Rattle.operation.proofs.product.identity.Reads as identity-reads
 
--- src/group.rt:32:9
 identity-requires : tie.Need-identity-requires
 identity-requires c κs = search needs
 
--- src/group.rt:29:1
 returns : tie.Need-returns
 returns c = rw (c .identity .ensures)
 

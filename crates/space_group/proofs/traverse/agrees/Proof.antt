@@ -10,26 +10,21 @@ use Rattle.space_group.proofs.traverse.agrees.Lts as lts
 use Rattle.centering.proofs.Centering.congruent.Reads as congruent-reads
 use Rattle.space_group.proofs.traverse.same.Reads as same-reads
 
--- src/traverse.rt:67:9
 returns : tie.Need-returns
 returns c = let off = not-true (c .before .args .steady) (c .if1 .taken) in rw off
 
--- src/traverse.rt:69:8
 same-requires : tie.Need-same-requires
 same-requires c κs = search needs
 
--- src/traverse.rt:70:9
 returns-2 : tie.Need-returns-2
 returns-2 c =
     let a = c .before .before .before .args in
     let on = not-false (a .steady) (c .before .before .if1 .left) in
     rw on (sym (same-class (a .c) (a .t) (a .listed) (sym (c .before .same .ensures) ∙ c .if2 .taken)))
 
--- src/traverse.rt:72:5
 congruent-requires : tie.Need-congruent-requires
 congruent-requires c κs = search needs
 
--- src/traverse.rt:63:1
 returns-3 : tie.Need-returns-3
 returns-3 c =
     let a = c .before .before .before .before .args in

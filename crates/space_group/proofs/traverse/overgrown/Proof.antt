@@ -6,11 +6,9 @@ use Rattle.space_group.proofs.traverse.overgrown.Reads as reads
 use Rattle.space_group.proofs.traverse.overgrown.Lts as lts
 use Rattle.operation.proofs.product.identity.Reads as identity-reads
 
--- src/traverse.rt:61:9
 identity-requires : tie.Need-identity-requires
 identity-requires c κs = search needs
 
--- src/traverse.rt:58:1
 returns : tie.Need-returns
 returns c = rw (c .identity .ensures)
 

@@ -22,27 +22,21 @@ abbrev μ-loop : tie.MeasureT-loop
 length-of : (c : tie.Start Inv-loop μ-loop) → length (take (c .args .count) (c .args .codes .now)) ≡ c .args .count
 length-of c = length-take-le (c .args .count) (c .args .codes .now) (omega arith)
 
--- src/traverse.rt:37:9
 loop-holds : tie.Need-loop-holds Inv-loop μ-loop
 loop-holds c = omega arith
 
--- src/traverse.rt:41:12
 mul-if2 : tie.Need-mul-if2 Inv-loop μ-loop
 mul-if2 c = omega arith
 
--- src/traverse.rt:41:12
 shared-slice-read-if2 : tie.Need-shared-slice-read-if2 Inv-loop μ-loop
 shared-slice-read-if2 c = omega arith
 
--- src/traverse.rt:44:9
 add-i : tie.Need-add-i Inv-loop μ-loop
 add-i c = omega arith
 
--- src/traverse.rt:37:9
 loop-less : tie.Need-loop-less Inv-loop μ-loop
 loop-less c = omega arith
 
--- src/traverse.rt:37:9
 loop-again : tie.Need-loop-again Inv-loop μ-loop
 loop-again c =
     let a = c .before .before .before .before .args in
@@ -53,7 +47,6 @@ loop-again c =
     let miss = place-miss (a .code) s i (omega arith) (λ h. c .if2 .left (sym e ∙ h)) in
     omega arith
 
--- src/traverse.rt:32:1
 returns : tie.Need-returns Inv-loop μ-loop
 returns c =
     let a = c .before .before .args in
@@ -63,7 +56,6 @@ returns c =
     let at-end = ap (λ (i : ℕ). place eqb (a .code) (drop i s)) all ∙ place-end (a .code) s in
     omega arith
 
--- src/traverse.rt:32:1
 returns-2 : tie.Need-returns-2 Inv-loop μ-loop
 returns-2 c =
     let a = c .before .before .before .before .args in

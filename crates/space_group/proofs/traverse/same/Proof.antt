@@ -7,17 +7,14 @@ use Rattle.space_group.proofs.traverse.same.Tie as tie
 use Rattle.space_group.proofs.traverse.same.Reads as reads
 use Rattle.space_group.proofs.traverse.same.Lts as lts
 
--- src/lib.rt:120:9
 returns : tie.Need-returns
 unfolding sameTriple
 returns c = simp (ne-eqb _ _ (c .if1 .taken))
 
--- src/lib.rt:123:9
 returns-2 : tie.Need-returns-2
 unfolding sameTriple
 returns-2 c = simp (eq-eqb _ _ (c .before .before .before .if1 .left), ne-eqb _ _ (c .if2 .taken))
 
--- src/lib.rt:116:1
 returns-3 : tie.Need-returns-3
 returns-3 c = same-by-last _ _ (c .before .before .before .before .before .if1 .left) (c .before .before .if2 .left)
 

@@ -58,15 +58,12 @@ place-is c =
     let a = c .before .before .before .before .before .before .before .before .before .before .before .before .before .before .args in
     c .place-of .ensures ∙ shows-place (a .c) (l .inv .0) (l .count) (l .operations) (l .codes) (l .steps) (l .steady) (l .made) (l .inv .1) (c .before .before .before .before .p .given .0 .0) (c .before .before .rotation-code2 .result) (c .before .before .rotation-code2 .ensures)
 
--- src/traverse.rt:75:9
 identity-requires : tie.Need-identity-requires Inv-loop μ-loop
 identity-requires c κs = search needs
 
--- src/traverse.rt:77:22
 rotation-code-requires : tie.Need-rotation-code-requires Inv-loop μ-loop
 rotation-code-requires c κs = search needs
 
--- src/traverse.rt:84:5
 loop-holds : tie.Need-loop-holds Inv-loop μ-loop
 loop-holds c =
     let a = c .before .before .args in (
@@ -78,15 +75,12 @@ loop-holds c =
       resume-start (a .c) (take (a .n) (a .t3)),
     )
 
--- src/traverse.rt:86:13
 add-i : tie.Need-add-i Inv-loop μ-loop
 add-i c = omega arith
 
--- src/traverse.rt:84:5
 loop-less : tie.Need-loop-less Inv-loop μ-loop
 loop-less c = omega arith
 
--- src/traverse.rt:84:5
 loop-again : tie.Need-loop-again Inv-loop μ-loop
 loop-again c =
     let l = c .before .before .loop in
@@ -100,39 +94,30 @@ loop-again c =
       l .inv .5 ∙ resume-over (a .c) (take (a .n) (a .t3)) (l .inv .0) (l .i) (l .j) (omega arith) (omega arith) (omega arith),
     )
 
--- src/traverse.rt:90:38
 mul-mul : tie.Need-mul-mul Inv-loop μ-loop
 mul-mul c = omega arith
 
--- src/traverse.rt:90:38
 array-copy-out-mul : tie.Need-array-copy-out-mul Inv-loop μ-loop
 array-copy-out-mul c = omega arith
 
--- src/traverse.rt:90:53
 mul-mul-2 : tie.Need-mul-mul-2 Inv-loop μ-loop
 mul-mul-2 c = omega arith
 
--- src/traverse.rt:90:53
 array-copy-out-mul-2 : tie.Need-array-copy-out-mul-2 Inv-loop μ-loop
 array-copy-out-mul-2 c = omega arith
 
--- src/traverse.rt:90:34
 mul-requires : tie.Need-mul-requires Inv-loop μ-loop
 mul-requires c κs = search needs
 
--- src/traverse.rt:90:29
 enum-known-p : tie.Need-enum-known-p Inv-loop μ-loop
 enum-known-p c = search needs
 
--- src/traverse.rt:91:13
 enum-told : tie.Need-enum-told Inv-loop μ-loop
 enum-told c = search needs
 
--- src/traverse.rt:91:13
 overgrown-requires : tie.Need-overgrown-requires Inv-loop μ-loop
 overgrown-requires c κs = search needs
 
--- src/traverse.rt:91:13
 returns : tie.Need-returns Inv-loop μ-loop
 returns c =
     let l = c .before .before .before .before .before .before .before .before .loop in
@@ -142,54 +127,42 @@ returns c =
     let none-left = l .inv .5 ∙ resume-outside (a .c) (take (a .n) (a .t3)) (l .inv .0) (l .i) (l .j) (omega arith) (omega arith) outside in
     rw none-left (c .overgrown .ensures)
 
--- src/traverse.rt:93:13
 rotation-code-requires-2 : tie.Need-rotation-code-requires-2 Inv-loop μ-loop
 rotation-code-requires-2 c κs = search needs
 
--- src/traverse.rt:94:26
 slice-aggregate-place-of : tie.Need-slice-aggregate-place-of Inv-loop μ-loop
 slice-aggregate-place-of c = sym (codes-long (c .before .before .before .before .before .before .before .before .before .before))
 
--- src/traverse.rt:94:13
 place-of-requires : tie.Need-place-of-requires Inv-loop μ-loop
 place-of-requires c κs = let long = codes-long (c .before .before .before .before .before .before .before .before .before .before) in let l = c .before .before .before .before .before .before .before .before .before .before .loop in rw long (omega (arith, l .inv .1 .counted, l .inv .1 .few))
 
--- src/traverse.rt:95:23
 cast-steps : tie.Need-cast-steps Inv-loop μ-loop
 cast-steps c =
     let s = c .before .before .before .before .before .before .before .before .before .before .before .loop .inv .0 in
     let low = place-le sameTurn (c .before .before .before .before .p .given .0 .0) (s .found) in
     omega (arith, place-is c, c .before .before .before .before .before .before .before .before .before .before .before .loop .inv .1 .few)
 
--- src/traverse.rt:95:9
 array-write-steps : tie.Need-array-write-steps Inv-loop μ-loop
 array-write-steps c = omega arith
 
--- src/traverse.rt:96:9
 add-made : tie.Need-add-made Inv-loop μ-loop
 add-made c = omega arith
 
--- src/traverse.rt:97:9
 add-j : tie.Need-add-j Inv-loop μ-loop
 add-j c = omega arith
 
--- src/traverse.rt:99:26
 mul-listed : tie.Need-mul-listed Inv-loop μ-loop
 mul-listed c = omega arith
 
--- src/traverse.rt:99:26
 array-copy-out-listed : tie.Need-array-copy-out-listed Inv-loop μ-loop
 array-copy-out-listed c = omega arith
 
--- src/traverse.rt:100:13
 agrees-requires : tie.Need-agrees-requires Inv-loop μ-loop
 agrees-requires c κs = search needs
 
--- src/traverse.rt:84:5
 loop-less-2 : tie.Need-loop-less-2 Inv-loop μ-loop
 loop-less-2 c = omega arith
 
--- src/traverse.rt:84:5
 loop-again-2 : tie.Need-loop-again-2 Inv-loop μ-loop
 loop-again-2 c =
     let l = c .before .before .before .before .before .before .before .before .before .before .before .before .before .before .loop in
@@ -208,11 +181,9 @@ loop-again-2 c =
       l .inv .5 ∙ resume-again (a .c) (take (a .n) (a .t3)) (l .inv .0) (l .i) (l .j) (omega arith) (omega arith) p inside (omega arith),
     )
 
--- src/traverse.rt:104:13
 overgrown-requires-2 : tie.Need-overgrown-requires-2 Inv-loop μ-loop
 overgrown-requires-2 c κs = search needs
 
--- src/traverse.rt:104:13
 returns-2 : tie.Need-returns-2 Inv-loop μ-loop
 returns-2 c =
     let l = c .before .before .before .before .before .before .before .before .before .before .before .before .before .before .loop in
@@ -224,31 +195,24 @@ returns-2 c =
     let none-left = l .inv .5 ∙ resume-full (a .c) (take (a .n) (a .t3)) (l .inv .0) (l .i) (l .j) (omega arith) (omega arith) p inside (omega arith) (omega arith) in
     rw none-left (c .overgrown2 .ensures)
 
--- src/traverse.rt:106:9
 mul-operations : tie.Need-mul-operations Inv-loop μ-loop
 mul-operations c = omega arith
 
--- src/traverse.rt:106:9
 array-set-from-operations : tie.Need-array-set-from-operations Inv-loop μ-loop
 array-set-from-operations c = omega arith
 
--- src/traverse.rt:107:9
 mul-codes : tie.Need-mul-codes Inv-loop μ-loop
 mul-codes c = omega arith
 
--- src/traverse.rt:107:9
 array-write-codes : tie.Need-array-write-codes Inv-loop μ-loop
 array-write-codes c = omega arith
 
--- src/traverse.rt:108:9
 add-count : tie.Need-add-count Inv-loop μ-loop
 add-count c = omega arith
 
--- src/traverse.rt:84:5
 loop-less-3 : tie.Need-loop-less-3 Inv-loop μ-loop
 loop-less-3 c = omega arith
 
--- src/traverse.rt:84:5
 loop-again-3 : tie.Need-loop-again-3 Inv-loop μ-loop
 loop-again-3 c =
     let l = c .before .before .before .before .before .before .before .before .before .before .before .before .before .loop in
@@ -266,7 +230,6 @@ loop-again-3 c =
       l .inv .5 ∙ resume-new (a .c) (take (a .n) (a .t3)) (l .inv .0) (l .i) (l .j) (omega arith) (omega arith) p inside (omega arith) (omega arith),
     )
 
--- src/traverse.rt:71:1
 returns-3 : tie.Need-returns-3 Inv-loop μ-loop
 returns-3 c =
     let l = c .before .loop in

@@ -10,31 +10,24 @@ use Rattle.hall_symbol.proofs.HallSymbol.new.Reads as new-reads
 use Rattle.symbol_group.proofs.group_of.Reads as group-of-reads
 use Rattle.symbol_group.proofs.refused.Reads as refused-reads
 
--- src/lib.rt:97:13
 new-requires : tie.Need-new-requires
 new-requires c κs = search needs
 
--- src/lib.rt:100:42
 enum-known-answer : tie.Need-enum-known-answer
 enum-known-answer c = search needs
 
--- src/lib.rt:100:54
 refused-requires : tie.Need-refused-requires
 refused-requires c κs = search needs
 
--- src/lib.rt:102:21
 enum-told : tie.Need-enum-told
 enum-told c = search needs
 
--- src/lib.rt:104:17
 group-of-requires : tie.Need-group-of-requires
 group-of-requires c κs = search needs
 
--- src/lib.rt:94:5
 returns : tie.Need-returns
 returns c = c .refused .ensures ∙ symbol-refused (c .before .before .before .before .before .before .args .text .now) (c .before .before .before .before .new .result) (c .before .before .before .before .new .ensures) (c .before .before .answer .given .0 .0) (c .before .before .answer .given .1)
 
--- src/lib.rt:94:5
 returns-2 : tie.Need-returns-2
 returns-2 c = c .group-of .ensures ∙ symbol-read (c .before .before .before .before .before .before .args .text .now) (c .before .before .before .before .new .result) (c .before .before .before .before .new .ensures) (c .before .before .enum-told .given .1)
 
