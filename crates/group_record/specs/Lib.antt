@@ -5,6 +5,7 @@ pub mod Record
 pub mod Reading
 pub mod Groups
 pub mod Copying
+pub mod SymbolRecords
 -- Their laws.
 pub mod ListedForm
 pub mod OneRecord
@@ -12,6 +13,7 @@ pub mod GroupLaws
 pub mod ReadingTests
 pub mod Acceptance
 pub mod RoundTrips
+pub mod AcceptedSymbols
 pub mod Example
 -- What the code does with items.
 pub mod Search

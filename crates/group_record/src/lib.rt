@@ -1,6 +1,7 @@
 // The group record: the byte form of a group of operations, written and read. New in the port: the Rust has no such form.
 pub mod copier;
 pub mod reader;
+pub mod symbol;
 mod writer;
 
 use centering::Centering;
@@ -34,4 +35,11 @@ pub struct RecordGroup {
 pub enum Copied {
     Written(usize),
     Refused(Refusal),
+}
+
+// A symbol's record: how many operations it holds. `NoRoom` is refusal 20 at place 0; `Refused` is the symbol's own refusal, 1 to 14.
+pub enum SymbolRecord {
+    Written(usize),
+    NoRoom,
+    Refused(symbol_group::refusal::Refusal),
 }

@@ -1,0 +1,65 @@
+-- The record of a symbol's text, written from a stated place of a lent buffer: what is answered, and what the buffer holds afterwards.
+use mathlib.Core.Path.{_≡_, sym, _∙_, ap}
+use mathlib.Core.Bool.{cond}
+use mathlib.Core.List.{List}
+use Prim.Native.Nat.{ℕ}
+use lib.ListN.{length, take}
+use Rattle.operation.specs.Answer as answer
+use Rattle.symbol_group.specs.Answers.{symbolAnswer}
+use Rattle.symbol_group.specs.Refusals.{numberOf, placeOf}
+use Rattle.symbol_group.specs.declared.Answer.{Answer}
+use Rattle.symbol_group.specs.declared.Answer.the-variants.{Group, Refused}
+use Rattle.symbol_group.specs.declared.SymbolGroup.{SymbolGroup}
+use Rattle.group_record.specs.Record.{recordOf}
+use Rattle.group_record.specs.Copying.{roomFor, placedIn}
+use Rattle.group_record.specs.declared.SymbolRecord.{SymbolRecord}
+use Rattle.group_record.specs.declared.SymbolRecord.the-variants.{Written, NoRoom, Refused as NotWritten}
+
+-- ---- the record
+-- The record of a symbol's group: of its letter and its listed operations.
+abbrev pub groupRecord : SymbolGroup → List ℕ
+groupRecord g = recordOf (g .centering) (take (g .count) (g .operations))
+
+-- The record of a text that is accepted.
+unfoldable pub textRecord : List ℕ → List ℕ
+textRecord text = groupRecord (symbolAnswer text)
+
+-- ---- the answer
+-- The symbol's refusal goes first; then there is room, or 20.
+abbrev pub writtenBy : Answer → ℕ → ℕ → ℕ → SymbolRecord
+writtenBy Group n start size = cond (roomFor start n size) (Written n) NoRoom
+writtenBy (Refused r) n start size = NotWritten r
+
+-- What is answered for a text.
+unfoldable pub symbolRecordOf : List ℕ → List ℕ → ℕ → SymbolRecord
+symbolRecordOf text out start = writtenBy (symbolAnswer text .answer) (symbolAnswer text .count) start (length out)
+
+-- Each answer in numbers: the count, or the refusal's number and place.
+abbrev pub symbolRecordAnswer : SymbolRecord → answer.Answer ℕ answer.Nothing
+symbolRecordAnswer (Written n) = answer.given n
+symbolRecordAnswer NoRoom = answer.refused 20 0 tt
+symbolRecordAnswer (NotWritten r) = answer.refused (numberOf r) (placeOf r) tt
+
+-- ---- the buffer
+-- A symbol's refusal touches nothing.
+abbrev pub placedBy : Answer → List ℕ → ℕ → ℕ → List ℕ → List ℕ
+placedBy Group out start n bytes = placedIn out start n bytes
+placedBy (Refused r) out start n bytes = out
+
+-- What the lent buffer holds afterwards.
+unfoldable pub symbolBufferOf : List ℕ → List ℕ → ℕ → List ℕ
+symbolBufferOf text out start = placedBy (symbolAnswer text .answer) out start (symbolAnswer text .count) (groupRecord (symbolAnswer text))
+
+-- ---- by the symbol's answer
+module _ (text out : List ℕ) (start : ℕ) (g : SymbolGroup) (e : g ≡ symbolAnswer text) where
+  -- The answer.
+  pub written-by : (a : Answer) → g .answer ≡ a → writtenBy a (g .count) start (length out) ≡ symbolRecordOf text out start
+  unfolding symbolRecordOf
+  written-by a p = ap (λ (b : Answer). writtenBy b (g .count) start (length out)) (sym p) ∙ ap (λ (h : SymbolGroup). writtenBy (h .answer) (h .count) start (length out)) e
+
+  -- The buffer.
+  pub placed-by : (a : Answer) → g .answer ≡ a → placedBy a out start (g .count) (groupRecord g) ≡ symbolBufferOf text out start
+  unfolding symbolBufferOf
+  placed-by a p =
+      ap (λ (b : Answer). placedBy b out start (g .count) (groupRecord g)) (sym p)
+      ∙ ap (λ (h : SymbolGroup). placedBy (h .answer) out start (h .count) (groupRecord h)) e
