@@ -41,9 +41,9 @@ pub record AcceptedText (text : List ℕ) : Type 0 where
   pub same-operations : take (symbolAnswer text .count) (symbolAnswer text .operations) ≡ operations
 
 module _ (text : List ℕ) where
-  accepted-outcome : (c : Centering) (gens : List Operation) → readSymbol text ≡ symbol c gens → (o : Outcome) → outcomeOf c gens ≡ o → outcomeAnswer c (length gens) o .answer ≡ Group → AcceptedText text
+  by-outcome : (c : Centering) (gens : List Operation) → readSymbol text ≡ symbol c gens → (o : Outcome) → outcomeOf c gens ≡ o → outcomeAnswer c (length gens) o .answer ≡ Group → AcceptedText text
   unfolding symbolAnswer
-  accepted-outcome c gens e (group operations steps) p a =
+  by-outcome c gens e (group operations steps) p a =
       let spells = symbol-exactly text c gens .0 e in
       let slots : symbolAnswer text ≡ outcomeAnswer c (length gens) (group operations steps) = ap readingAnswer e ∙ ap (outcomeAnswer c (length gens)) p in
       record {
@@ -57,15 +57,15 @@ module _ (text : List ℕ) where
         same-count = ap (λ (g : SymbolGroup). g .count) slots;
         same-operations = ap (λ (g : SymbolGroup). take (g .count) (g .operations)) slots ∙ take-at operations (replicate (48 - length operations) identityOperation) (length operations) refl;
       }
-  accepted-outcome c gens e (refused r) p a = let z : _≡_ {A = ℕ} 0 1 = cc in absurd (omega arith)
+  by-outcome c gens e (refused r) p a = let z : _≡_ {A = ℕ} 0 1 = cc in absurd (omega arith)
 
-  accepted-reading : (s : Reading) → readSymbol text ≡ s → readingAnswer s .answer ≡ Group → AcceptedText text
-  accepted-reading (symbol c gens) e a = accepted-outcome c gens e (outcomeOf c gens) refl a
-  accepted-reading (refusal r) e a = let z : _≡_ {A = ℕ} 0 1 = cc in absurd (omega arith)
+  by-reading : (s : Reading) → readSymbol text ≡ s → readingAnswer s .answer ≡ Group → AcceptedText text
+  by-reading (symbol c gens) e a = by-outcome c gens e (outcomeOf c gens) refl a
+  by-reading (refusal r) e a = let z : _≡_ {A = ℕ} 0 1 = cc in absurd (omega arith)
 
   pub accepted-text : symbolAnswer text .answer ≡ Group → AcceptedText text
   unfolding symbolAnswer
-  accepted-text a = accepted-reading (readSymbol text) refl a
+  accepted-text a = by-reading (readSymbol text) refl a
 
 -- ---- the list of accepted generators
 module _ (c : Centering) (gens operations : List Operation) (steps : List ℕ) (A : Accepted c gens operations steps) where
@@ -75,6 +75,37 @@ module _ (c : Centering) (gens operations : List Operation) (steps : List ℕ) (
       record {
         entries = λ f m. A .small (matrixOf (f .rotation)) (rotation-generated c gens operations steps A f m);
         distinct = rotations-once c gens operations steps A;
+      }
+
+  -- A listed motion is that of a listed operation, and maps L onto L.
+  listed-keeps : (f : SpaceMotion) → Mem f (map motionOf operations) → MapsOnto (pointsOf c) (f .rotation)
+  listed-keeps f m =
+      let (o, k, e) = mem-of-map motionOf operations m in
+      let (g, r, near) = member-near c gens operations steps A o k in
+      rw e at (alike-keeps c gens operations steps A g (motionOf o) near (generated-keeps c gens operations steps A g r))
+
+  -- The identity is listed.
+  pub accepted-identity : Mem identityOperation operations
+  accepted-identity = let (rest, e) = identity-first c gens operations steps A in rw e (here refl)
+
+  -- The product of two listed motions is listed modulo L.
+  listed-product : (f g : SpaceMotion) → Mem f (map motionOf operations) → Mem g (map motionOf operations) → (h : SpaceMotion) × Mem h (map motionOf operations) × Alike c (compose f g) h
+  listed-product f g m k =
+      let (o, n, p) = mem-of-map motionOf operations m in
+      let (r, t, q) = mem-of-map motionOf operations k in
+      let (h, u, near) = product-member c gens operations steps A o r n t in
+      (motionOf h, mem-map motionOf u, rw (p, q) at near)
+
+  -- So 01 allows them in a record.
+  pub accepted-allowed : Allowed c (map motionOf operations)
+  accepted-allowed =
+      let (rest, first) = identity-first c gens operations steps A in
+      record {
+        count = (omega (arith, length-map operations motionOf, ap length first), omega (arith, length-map operations motionOf, at-most-48 c gens operations steps A));
+        determinant = λ f m. onto-unimodular (pointsOf c) (points c) (f .rotation) (listed-keeps f m);
+        keeps = listed-keeps;
+        holds-identity = mem-cast (sym identity-motion) (mem-map motionOf accepted-identity);
+        product = listed-product;
       }
 
 -- ---- what the writer is asked

@@ -14,6 +14,8 @@ pub mod ReadingTests
 pub mod Acceptance
 pub mod RoundTrips
 pub mod AcceptedSymbols
+pub mod SymbolSets
+pub mod SymbolReading
 pub mod Example
 -- What the code does with items.
 pub mod Search

@@ -74,7 +74,7 @@ module _ (c : Centering) {l : List Operation} (L : Listing l) (A : Allowed c (ma
   reads-back front = outcome-read (front ++ written c (listedForm c l)) _ (accepted front c (listedForm c l) refl (listed-form c L) form-allowed)
 
 -- A record's length.
-record-length : (c : Centering) (l : List Operation) → length (recordOf c l) ≡ totalLength itemWidth (length l)
+pub record-length : (c : Centering) (l : List Operation) → length (recordOf c l) ≡ totalLength itemWidth (length l)
 unfolding recordOf
 record-length c l = written-length c (listedForm c l) ∙ ap (totalLength itemWidth) (form-length c l)
 

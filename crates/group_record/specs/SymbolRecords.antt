@@ -48,7 +48,7 @@ placedBy (Refused r) out start n bytes = out
 
 -- What the lent buffer holds afterwards.
 unfoldable pub symbolBufferOf : List ℕ → List ℕ → ℕ → List ℕ
-symbolBufferOf text out start = placedBy (symbolAnswer text .answer) out start (symbolAnswer text .count) (groupRecord (symbolAnswer text))
+symbolBufferOf text out start = placedBy (symbolAnswer text .answer) out start (symbolAnswer text .count) (textRecord text)
 
 -- ---- by the symbol's answer
 module _ (text out : List ℕ) (start : ℕ) (g : SymbolGroup) (e : g ≡ symbolAnswer text) where
@@ -59,7 +59,7 @@ module _ (text out : List ℕ) (start : ℕ) (g : SymbolGroup) (e : g ≡ symbol
 
   -- The buffer.
   pub placed-by : (a : Answer) → g .answer ≡ a → placedBy a out start (g .count) (groupRecord g) ≡ symbolBufferOf text out start
-  unfolding symbolBufferOf
+  unfolding symbolBufferOf textRecord
   placed-by a p =
       ap (λ (b : Answer). placedBy b out start (g .count) (groupRecord g)) (sym p)
       ∙ ap (λ (h : SymbolGroup). placedBy (h .answer) out start (h .count) (groupRecord h)) e

@@ -1,0 +1,108 @@
+-- Every accepted symbol's record is read, as the symbol's group: whatever stands before it, and as the entry left it in the lent buffer.
+use mathlib.Core.Path.{_≡_, refl, sym, _∙_, ap, ap₂, subst}
+use mathlib.Core.Logic.{_↔_}
+use mathlib.Core.Bool.{Bool, true, false, cond}
+use mathlib.Core.List.{List, _++_, map, append-assoc}
+use Prim.Native.Nat.{ℕ, _+_, _-_, _≤_}
+use native.Mathlib.Omega.{arith}
+use lib.Dec.{leb}
+use borrow.Author.Tests.{leb-true}
+use lib.ListN.{length, take, drop, replicate, length-append}
+use lib.Seq.{take-at, length-take-le}
+use Rattle.laws.specs.Motion.{SpaceMotion}
+use Rattle.operation.specs.Meaning.{motionOf}
+use Rattle.operation.specs.Product.{identityOperation}
+use Rattle.operation.specs.declared.Operation.{Operation}
+use Rattle.symbol_group.specs.Answers.{symbolAnswer}
+use Rattle.symbol_group.specs.declared.Answer.{Answer}
+use Rattle.symbol_group.specs.declared.Answer.the-variants.{Group, Refused}
+use Rattle.group_record.specs.Record.{itemWidth, totalLength, listedForm, recordOf}
+use Rattle.group_record.specs.Reading.{readOf, acceptedGroup, slots}
+use Rattle.group_record.specs.Groups.{InSet}
+use Rattle.group_record.specs.ListedForm.{form-length, form-set}
+use Rattle.group_record.specs.ReadingTests.{both-true}
+use Rattle.group_record.specs.RoundTrips.{reads-back, record-length}
+use Rattle.group_record.specs.Copying.{roomFor, placedIn, all-placed}
+use Rattle.group_record.specs.SymbolRecords.{textRecord, writtenBy, symbolRecordOf, placedBy, symbolBufferOf}
+use Rattle.group_record.specs.AcceptedSymbols.{AcceptedText, accepted-text, accepted-listing, accepted-allowed}
+use Rattle.group_record.specs.SymbolSets.{InSetOf, record-of-list, set-of-list}
+use Rattle.group_record.specs.declared.Reading.the-variants.{Accepted}
+use Rattle.group_record.specs.declared.RecordGroup.{RecordGroup}
+use Rattle.group_record.specs.declared.SymbolRecord.the-variants.{Written, NoRoom}
+
+-- What was read is the symbol's group: its letter, its count, its operations in the listed form, its set of motions.
+pub record ReadsAs (text : List ℕ) (g : RecordGroup) : Type 0 where
+  pub accepted : g .answer ≡ Accepted
+  pub letter : g .centering ≡ symbolAnswer text .centering
+  pub count : g .count ≡ symbolAnswer text .count
+  pub operations : take (g .count) (g .operations) ≡ listedForm (symbolAnswer text .centering) (take (symbolAnswer text .count) (symbolAnswer text .operations))
+  pub set : (m : SpaceMotion) → InSet (g .centering) (map motionOf (take (g .count) (g .operations))) m ↔ InSetOf text m
+
+module _ (text : List ℕ) (A : AcceptedText text) where
+  -- The operations as a record lists them.
+  abbrev form : List Operation
+  form = listedForm (A .letter) (A .operations)
+
+  -- The slots hold them.
+  form-slots : take (length form) (slots form) ≡ form
+  unfolding slots
+  form-slots = take-at form (replicate (48 - length form) identityOperation) (length form) refl
+
+  -- Their set of motions is the text's.
+  form-says : (m : SpaceMotion) → InSet (A .letter) (map motionOf form) m ↔ InSetOf text m
+  form-says m = (
+    (λ h. set-of-list text A m .1 (form-set (A .letter) (A .operations) m .0 h)),
+    λ h. form-set (A .letter) (A .operations) m .1 (set-of-list text A m .0 h),
+  )
+
+  form-reads : ReadsAs text (acceptedGroup (A .letter) form)
+  unfolding acceptedGroup
+  form-reads =
+      record {
+        accepted = refl;
+        letter = sym (A .same-letter);
+        count = form-length (A .letter) (A .operations) ∙ sym (A .same-count);
+        operations = form-slots ∙ ap₂ listedForm (sym (A .same-letter)) (sym (A .same-operations));
+        set = λ m. rw form-slots (form-says m);
+      }
+
+  -- Whatever stands before the record.
+  record-reads : (front : List ℕ) → readOf (front ++ textRecord text) ≡ acceptedGroup (A .letter) form
+  record-reads front =
+      ap (λ (bytes : List ℕ). readOf (front ++ bytes)) (record-of-list text A)
+      ∙ reads-back (A .letter) (accepted-listing (A .letter) (A .generators) (A .operations) (A .steps) (A .accepted)) (accepted-allowed (A .letter) (A .generators) (A .operations) (A .steps) (A .accepted)) front
+
+-- Every accepted symbol's record is read as the symbol's group, whatever stands before it.
+pub symbol-record-read : (text front : List ℕ) → symbolAnswer text .answer ≡ Group → ReadsAs text (readOf (front ++ textRecord text))
+symbol-record-read text front a = let A = accepted-text text a in subst (ReadsAs text) (sym (record-reads text A front)) (form-reads text A)
+
+-- ---- as the entry left it
+-- With room, the buffer up to the record's end is what stood before the start, and the record.
+record-in : (out bytes : List ℕ) (start n : ℕ) → roomFor start n (length out) ≡ true → length bytes ≡ totalLength itemWidth n → take (start + totalLength itemWidth n) (placedIn out start n bytes) ≡ take start out ++ bytes
+unfolding roomFor
+record-in out bytes start n room long =
+    let within : start ≤ length out = leb-true start (length out) (both-true (leb start (length out)) _ .0 room .0) in
+    let rest = drop (start + totalLength itemWidth n) out in
+    let size : length (take start out ++ bytes) ≡ start + totalLength itemWidth n = length-append (take start out) bytes ∙ omega (arith, length-take-le start out within) in
+    ap (take (start + totalLength itemWidth n)) (all-placed out start n bytes room ∙ sym (append-assoc (take start out) bytes rest))
+    ∙ take-at (take start out ++ bytes) rest (start + totalLength itemWidth n) size
+
+module _ (text out : List ℕ) (start n : ℕ) where
+  -- The count of an accepted text is its record's.
+  text-length : AcceptedText text → length (textRecord text) ≡ totalLength itemWidth (symbolAnswer text .count)
+  text-length A = ap length (record-of-list text A) ∙ record-length (A .letter) (A .operations) ∙ ap (totalLength itemWidth) (sym (A .same-count))
+
+  by-room : symbolAnswer text .answer ≡ Group → (b : Bool) → roomFor start (symbolAnswer text .count) (length out) ≡ b → cond b (Written (symbolAnswer text .count)) NoRoom ≡ Written n → ReadsAs text (readOf (take (start + totalLength itemWidth n) (placedIn out start (symbolAnswer text .count) (textRecord text))))
+  by-room a true room e =
+      let count : symbolAnswer text .count ≡ n = cc in
+      rw (← count, record-in out (textRecord text) start (symbolAnswer text .count) room (text-length (accepted-text text a))) (symbol-record-read text (take start out) a)
+  by-room a false room e = let z : _≡_ {A = ℕ} 0 1 = cc in absurd (omega arith)
+
+  by-answer : (a : Answer) → symbolAnswer text .answer ≡ a → writtenBy a (symbolAnswer text .count) start (length out) ≡ Written n → ReadsAs text (readOf (take (start + totalLength itemWidth n) (placedBy a out start (symbolAnswer text .count) (textRecord text))))
+  by-answer Group a e = by-room a (roomFor start (symbolAnswer text .count) (length out)) refl e
+  by-answer (Refused r) a e = let z : _≡_ {A = ℕ} 0 1 = cc in absurd (omega arith)
+
+  -- Where n operations were written, the buffer up to the record's end is read as the symbol's group.
+  pub symbol-buffer-read : symbolRecordOf text out start ≡ Written n → ReadsAs text (readOf (take (start + totalLength itemWidth n) (symbolBufferOf text out start)))
+  unfolding symbolRecordOf symbolBufferOf
+  symbol-buffer-read e = by-answer (symbolAnswer text .answer) refl e
