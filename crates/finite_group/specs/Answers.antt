@@ -5,13 +5,14 @@ use Prim.Native.Nat.{ℕ, _/_}
 use lib.Count.{ones}
 use lib.Dec.{eqb, ltb}
 use lib.ListN.{length, drop, replicate}
+use Rattle.subgroup_laws.specs.Conjugates.{conjugatesOf, conjugatorsOf}
+use Rattle.subgroup_laws.specs.Lists.{subgroupsOf, representativesOf}
+use Rattle.subgroup_laws.specs.Permutations.{permutationOf}
+use Rattle.subgroup_laws.specs.Slots.{written, cleared}
+use Rattle.subgroup_laws.specs.Subsets.{isSubgroup, conjugateOf, normalizerOf}
+use Rattle.subgroup_laws.specs.Table.{product}
 use Rattle.finite_group.specs.ConjugateLists.{tooShort}
-use Rattle.finite_group.specs.Conjugates.{conjugatesOf, conjugatorsOf}
-use Rattle.finite_group.specs.Lists.{subgroupsOf, representativesOf}
-use Rattle.finite_group.specs.Permutations.{permutationOf}
-use Rattle.finite_group.specs.Slots.{written, cleared}
-use Rattle.finite_group.specs.Subsets.{isSubgroup, conjugateOf, normalizerOf}
-use Rattle.finite_group.specs.Table.{checkOf, product}
+use Rattle.finite_group.specs.TableCheck.{checkOf}
 use Rattle.finite_group.specs.declared.Answer.{Answer}
 use Rattle.finite_group.specs.declared.Answer.the-variants.{Value, Refused}
 use Rattle.finite_group.specs.declared.Checked.{Checked}

@@ -6,11 +6,11 @@ use Prim.Native.Nat.{ℕ, _*_, _/_, _≤_}
 use native.Mathlib.Omega.{arith}
 use lib.ListN.{length, drop, replicate}
 use borrow.Author.Tests.{lt-ltb, le-ltb}
+use Rattle.subgroup_laws.specs.Listing.{listed}
+use Rattle.subgroup_laws.specs.Lists.{chosen}
+use Rattle.subgroup_laws.specs.Slots.{cleared}
 use Rattle.finite_group.specs.Answers.{listAnswer, listBytes}
-use Rattle.finite_group.specs.Listing.{listed}
-use Rattle.finite_group.specs.Lists.{chosen}
 use Rattle.finite_group.specs.SearchLoop.{SearchResult}
-use Rattle.finite_group.specs.Slots.{cleared}
 use Rattle.finite_group.specs.declared.Answer.the-variants.{Value, Refused}
 use Rattle.finite_group.specs.declared.Refusal.the-variants.{Slots}
 use Rattle.finite_group.specs.declared.search.Found.the-variants.{Count, Full}

@@ -12,17 +12,18 @@ use lib.Seq.{split-at, drop-at, drop-append-add, drop-drop}
 use Rattle.laws.specs.ListOrder.{Precedes, precedes-irreflexive}
 use Rattle.laws.specs.Sets.{member, subset-antisymmetric}
 use Rattle.laws.specs.Sorted.{sorted-one, at-member}
-use Rattle.finite_group.specs.Adjoin.{Barred, Extension, singleton-self, singleton-only}
-use Rattle.finite_group.specs.Conjugation.{conjugate-source, conjugate-holds, conjugate-of-identity}
-use Rattle.finite_group.specs.Groups.{Group}
+use Rattle.subgroup_laws.specs.Adjoin.{Barred, Extension, singleton-self, singleton-only}
+use Rattle.subgroup_laws.specs.Conjugation.{conjugate-source, conjugate-holds, conjugate-of-identity}
+use Rattle.subgroup_laws.specs.Groups.{Group}
+use Rattle.subgroup_laws.specs.Listing.{listed, listed-unique, listed-longest}
+use Rattle.subgroup_laws.specs.Lists.{Chosen, chosen, chosen-passes, passes-chosen}
+use Rattle.subgroup_laws.specs.Representatives.{Represented}
+use Rattle.subgroup_laws.specs.Search.{Holding, holding-slot, Complete, complete-listed, Settled, TooMany, settled-more, own-extension, listed-itself, extension-precedes}
+use Rattle.subgroup_laws.specs.Slots.{packed, packed-left-over, bytesOf, slotAt, written}
+use Rattle.subgroup_laws.specs.SubgroupLaws.{closed-set}
+use Rattle.subgroup_laws.specs.Subsets.{Subgroup, conjugateOf}
 use Rattle.finite_group.specs.Insertion.{Inserted, added}
-use Rattle.finite_group.specs.Listing.{listed, listed-unique, listed-longest}
-use Rattle.finite_group.specs.Lists.{Chosen, chosen, chosen-passes, passes-chosen}
-use Rattle.finite_group.specs.Representatives.{Represented}
-use Rattle.finite_group.specs.Search.{Holding, holding-slot, Complete, complete-listed, Settled, TooMany, Progress, counted, overflow, settled-more, own-extension, listed-itself, extension-precedes, inserted-present, inserted-full, inserted-added}
-use Rattle.finite_group.specs.Slots.{packed, packed-left-over, bytesOf, slotAt, written}
-use Rattle.finite_group.specs.SubgroupLaws.{closed-set}
-use Rattle.finite_group.specs.Subsets.{Subgroup, conjugateOf}
+use Rattle.finite_group.specs.Progress.{Progress, counted, overflow, inserted-present, inserted-full, inserted-added}
 use Rattle.finite_group.specs.declared.search.Found.{Found}
 use Rattle.finite_group.specs.declared.search.Found.the-variants.{Count, Full as Overflow}
 use Rattle.finite_group.specs.declared.slots.Insertion.the-variants.{Present, Full, Added}

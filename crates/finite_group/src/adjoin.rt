@@ -2,13 +2,11 @@
 // Ported from subgroup/finite_group.rs of moyo 0.21.0 (`generated_subgroup`), and changed: sets as numbers, cosets instead of all products.
 ghost use mathlib.Core.Path.{_≡_};
 ghost use mathlib.Core.Bool.{true, false};
-ghost use Prim.Native.Nat.{ℕ, _<_, _≤_, _+_, _^_};
-ghost use lib.ListN.{length};
-ghost use Rattle.laws.specs.Sets.{member, Subset};
-ghost use Rattle.finite_group.specs.Adjoin.{Forced, Growing};
+ghost use Prim.Native.Nat.{ℕ, _<_, _≤_, _^_};
+ghost use Rattle.subgroup_laws.specs.Adjoin.{Forced, Growing};
+ghost use Rattle.subgroup_laws.specs.Subsets.{Subgroup, imageOf};
+ghost use Rattle.subgroup_laws.specs.Table.{product, Cells, GroupTable};
 ghost use Rattle.finite_group.specs.Growth.{Taken, Swept, Adjoined};
-ghost use Rattle.finite_group.specs.Subsets.{Subgroup, imageOf};
-ghost use Rattle.finite_group.specs.Table.{product, Cells, GroupTable};
 use super::sets::contains;
 use super::sets::lowest;
 use super::sets::with_element;

@@ -1,10 +1,10 @@
 // Conjugates of sets, and the first of them in list order.
 // Ported from subgroup/finite_group.rs of moyo 0.21.0 (`conjugate`), and changed: sets as numbers.
 ghost use mathlib.Core.Path.{_≡_};
-ghost use Prim.Native.Nat.{_<_, _≤_, _^_};
-ghost use Rattle.finite_group.specs.Representatives.{FirstConjugate, Represented};
-ghost use Rattle.finite_group.specs.Subsets.{Subgroup, conjugateOf};
-ghost use Rattle.finite_group.specs.Table.{product, GroupTable};
+ghost use Prim.Native.Nat.{_<_, _^_};
+ghost use Rattle.subgroup_laws.specs.Representatives.{FirstConjugate, Represented};
+ghost use Rattle.subgroup_laws.specs.Subsets.{Subgroup, conjugateOf};
+ghost use Rattle.subgroup_laws.specs.Table.{product, GroupTable};
 use super::adjoin::image;
 use super::sets::precedes;
 use super::table::inverse;

@@ -6,7 +6,7 @@ ghost use lib.Bits.{bitAnd, bitOr};
 ghost use lib.Dec.{eqb};
 ghost use Rattle.laws.specs.Sets.{member};
 ghost use Rattle.laws.specs.ListOrder.{earlier};
-ghost use Rattle.finite_group.specs.Removal.{Without};
+ghost use Rattle.subgroup_laws.specs.Removal.{Without};
 
 pub(crate) fn contains(s: u64, i: usize) -> bool
     requires { ⌜ i < 64 ⌝ }

@@ -1,12 +1,10 @@
 // Reading a table, and the check that it is that of a group.
 // Ported from subgroup/finite_group.rs of moyo 0.21.0 (`from_table`), and changed: the order is limited and associativity is checked.
 ghost use mathlib.Core.Path.{_≡_};
-ghost use Prim.Native.Nat.{ℕ, _<_, _≤_, _*_};
-ghost use lib.Dec.{eqb, ltb};
-ghost use lib.ListN.{length, getD};
-ghost use Rattle.finite_group.specs.Bounded.{every};
-ghost use Rattle.finite_group.specs.Groups.{isIdentity, identityOf, isInverse, inverseOf, hasInverses, associates};
-ghost use Rattle.finite_group.specs.Table.{product, Cells, goodCells, checkOf};
+ghost use Prim.Native.Nat.{_<_, _≤_, _*_};
+ghost use Rattle.subgroup_laws.specs.Groups.{isIdentity, identityOf, isInverse, inverseOf, hasInverses, associates};
+ghost use Rattle.subgroup_laws.specs.Table.{product, Cells, goodCells};
+ghost use Rattle.finite_group.specs.TableCheck.{checkOf};
 use super::Checked;
 use super::Refusal;
 

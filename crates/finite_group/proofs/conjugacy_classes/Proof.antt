@@ -1,7 +1,7 @@
 -- The check of the table, then the list.
 use mathlib.Core.Path.{refl, sym, _∙_}
 use borrow.Author.Needs.{needs}
-use Rattle.finite_group.specs.Lists.{representativesOf}
+use Rattle.subgroup_laws.specs.Lists.{representativesOf}
 use Rattle.finite_group.specs.TableVerdict.{checked-table}
 use Rattle.finite_group.proofs.conjugacy_classes.Statement.{statement}
 use Rattle.finite_group.proofs.conjugacy_classes.Tie as tie

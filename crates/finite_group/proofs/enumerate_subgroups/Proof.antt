@@ -1,7 +1,7 @@
 -- The check of the table, then the list.
 use mathlib.Core.Path.{refl, sym, _∙_}
 use borrow.Author.Needs.{needs}
-use Rattle.finite_group.specs.Lists.{subgroupsOf}
+use Rattle.subgroup_laws.specs.Lists.{subgroupsOf}
 use Rattle.finite_group.specs.TableVerdict.{checked-table}
 use Rattle.finite_group.proofs.enumerate_subgroups.Statement.{statement}
 use Rattle.finite_group.proofs.enumerate_subgroups.Tie as tie

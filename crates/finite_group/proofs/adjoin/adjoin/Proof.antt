@@ -8,11 +8,11 @@ use native.Mathlib.Omega.{arith}
 use lib.Count.{ones, ones-le}
 use borrow.Author.Tests.{not-true, not-false}
 use Rattle.laws.specs.Sets.{member, member-below, bounded, shifted-one}
-use Rattle.finite_group.specs.Adjoin.{Growing, growing-start}
-use Rattle.finite_group.specs.Bounded.{not-passing}
+use Rattle.subgroup_laws.specs.Adjoin.{Growing, growing-start}
+use Rattle.subgroup_laws.specs.Bounded.{not-passing}
+use Rattle.subgroup_laws.specs.Removal.{Without, without-old, without-ones}
+use Rattle.subgroup_laws.specs.Table.{product}
 use Rattle.finite_group.specs.Growth.{growing-next, adjoined-end}
-use Rattle.finite_group.specs.Removal.{Without, without-old, without-ones}
-use Rattle.finite_group.specs.Table.{product}
 use Rattle.finite_group.proofs.adjoin.adjoin.Statement.{statement}
 use Rattle.finite_group.proofs.adjoin.adjoin.Tie as tie
 

@@ -6,9 +6,9 @@ use Prim.Native.Nat.{ℕ, _^_}
 use native.Mathlib.Omega.{arith}
 use lib.Bits.{bitOr}
 use Rattle.laws.specs.Sets.{member-below}
-use Rattle.finite_group.specs.ImageLoop.{Imaging, imaging-start, imaging-step, imaging-end}
-use Rattle.finite_group.specs.Removal.{without-less}
-use Rattle.finite_group.specs.Table.{product}
+use Rattle.subgroup_laws.specs.ImageLoop.{Imaging, imaging-start, imaging-step, imaging-end}
+use Rattle.subgroup_laws.specs.Removal.{without-less}
+use Rattle.subgroup_laws.specs.Table.{product}
 use Rattle.finite_group.proofs.adjoin.image.Statement.{statement}
 use Rattle.finite_group.proofs.adjoin.image.Tie as tie
 

@@ -3,10 +3,10 @@ use mathlib.Core.Path.{_≡_}
 use native.Mathlib.Omega.{arith}
 use borrow.Author.Tests.{not-true, not-false}
 use Rattle.laws.specs.Sets.{member-below}
-use Rattle.finite_group.specs.Adjoin.{product-forced, new-forced, old-forced}
+use Rattle.subgroup_laws.specs.Adjoin.{product-forced, new-forced, old-forced}
+use Rattle.subgroup_laws.specs.Removal.{without-less}
+use Rattle.subgroup_laws.specs.Table.{product}
 use Rattle.finite_group.specs.Growth.{Sweeping, taken-grown, taken-barred, swept-barred, sweeping-start, sweeping-step, sweeping-end}
-use Rattle.finite_group.specs.Removal.{without-less}
-use Rattle.finite_group.specs.Table.{product}
 use Rattle.finite_group.proofs.adjoin.swept.Statement.{statement}
 use Rattle.finite_group.proofs.adjoin.swept.Tie as tie
 

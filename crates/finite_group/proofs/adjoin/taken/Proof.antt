@@ -9,9 +9,10 @@ use lib.Pow.{pow-pos}
 use borrow.Author.Needs.{needs}
 use borrow.Author.Tests.{not-true, not-false}
 use Rattle.laws.specs.Sets.{shifted-one}
-use Rattle.finite_group.specs.Adjoin.{cosetOf}
-use Rattle.finite_group.specs.Growth.{seen, barred, joins, within-passes, within-fails}
-use Rattle.finite_group.specs.Table.{product}
+use Rattle.subgroup_laws.specs.Adjoin.{cosetOf}
+use Rattle.subgroup_laws.specs.LowMembers.{within-passes, within-fails}
+use Rattle.subgroup_laws.specs.Table.{product}
+use Rattle.finite_group.specs.Growth.{seen, barred, joins}
 use Rattle.finite_group.proofs.adjoin.taken.Statement.{statement}
 use Rattle.finite_group.proofs.adjoin.taken.Tie as tie
 

@@ -2,9 +2,9 @@
 use mathlib.Core.Path.{ap, _∙_}
 use Prim.Native.Nat.{ℕ}
 use borrow.Author.Needs.{needs}
-use Rattle.finite_group.specs.Conjugation.{inverse-below}
-use Rattle.finite_group.specs.Subsets.{imageOf, conjugateElement, conjugateOf}
-use Rattle.finite_group.specs.Table.{product}
+use Rattle.subgroup_laws.specs.Conjugation.{inverse-below}
+use Rattle.subgroup_laws.specs.Subsets.{imageOf, conjugateElement, conjugateOf}
+use Rattle.subgroup_laws.specs.Table.{product}
 use Rattle.finite_group.proofs.conjugation.conjugate_set.Statement.{statement}
 use Rattle.finite_group.proofs.conjugation.conjugate_set.Tie as tie
 

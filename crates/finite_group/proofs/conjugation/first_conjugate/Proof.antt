@@ -6,8 +6,8 @@ use Prim.Native.Nat.{ℕ, _≤_, _-_, _+_, _<_}
 use native.Mathlib.Omega.{arith}
 use borrow.Author.Needs.{needs}
 use Rattle.laws.specs.ListOrder.{Precedes, earlier-precedes, precedes-earlier}
-use Rattle.finite_group.specs.Representatives.{FirstConjugate, first-start, first-kept, first-taken, conjugate-word}
-use Rattle.finite_group.specs.Table.{product}
+use Rattle.subgroup_laws.specs.Representatives.{FirstConjugate, first-start, first-kept, first-taken, conjugate-word}
+use Rattle.subgroup_laws.specs.Table.{product}
 use Rattle.finite_group.proofs.conjugation.first_conjugate.Statement.{statement}
 use Rattle.finite_group.proofs.conjugation.first_conjugate.Tie as tie
 

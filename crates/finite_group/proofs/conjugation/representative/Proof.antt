@@ -1,7 +1,7 @@
 -- The two cases.
 use borrow.Author.Needs.{needs}
 use borrow.Author.Tests.{not-true, not-false}
-use Rattle.finite_group.specs.Representatives.{first-represented, itself-represented}
+use Rattle.subgroup_laws.specs.Representatives.{first-represented, itself-represented}
 use Rattle.finite_group.proofs.conjugation.representative.Statement.{statement}
 use Rattle.finite_group.proofs.conjugation.representative.Tie as tie
 

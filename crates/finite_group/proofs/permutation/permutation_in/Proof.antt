@@ -8,8 +8,8 @@ use lib.ListN.{length, drop, replicate}
 use lib.Seq.{drop-length}
 use borrow.Author.Needs.{needs}
 use borrow.Author.Tests.{not-true, not-false, lt-ltb, le-ltb, eq-eqb, ne-eqb}
+use Rattle.subgroup_laws.specs.SubgroupLaws.{test-subgroup}
 use Rattle.finite_group.specs.Answers.{permutationAnswer, permutationBytes}
-use Rattle.finite_group.specs.SubgroupLaws.{test-subgroup}
 use Rattle.finite_group.proofs.permutation.permutation_in.Statement.{statement}
 use Rattle.finite_group.proofs.permutation.permutation_in.Tie as tie
 

@@ -7,10 +7,10 @@ use lib.Count.{onesIn}
 use lib.ListN.{length, set, drop, length-set}
 use borrow.Author.Tests.{not-true, not-false}
 use Rattle.laws.specs.Sets.{members, ones-below}
-use Rattle.finite_group.specs.Conjugation.{inverse-below}
-use Rattle.finite_group.specs.Permutations.{positionOf, permutationOf, permuted, permuted-in, permuted-out, count-in, count-out, count-room}
-use Rattle.finite_group.specs.Subsets.{conjugateElement}
-use Rattle.finite_group.specs.Table.{product}
+use Rattle.subgroup_laws.specs.Conjugation.{inverse-below}
+use Rattle.subgroup_laws.specs.Permutations.{positionOf, permutationOf, permuted, permuted-in, permuted-out, count-in, count-out, count-room}
+use Rattle.subgroup_laws.specs.Subsets.{conjugateElement}
+use Rattle.subgroup_laws.specs.Table.{product}
 use Rattle.finite_group.proofs.permutation.permute.Statement.{statement}
 use Rattle.finite_group.proofs.permutation.permute.Tie as tie
 

@@ -7,7 +7,7 @@ use lib.Count.{ones, ones-le}
 use lib.Pow.{pow-pos}
 use borrow.Author.Needs.{needs}
 use Rattle.laws.specs.Sets.{shifted-one}
-use Rattle.finite_group.specs.Permutations.{position-ones}
+use Rattle.subgroup_laws.specs.Permutations.{position-ones}
 use Rattle.finite_group.proofs.permutation.position.Statement.{statement}
 use Rattle.finite_group.proofs.permutation.position.Tie as tie
 

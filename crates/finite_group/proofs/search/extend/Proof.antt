@@ -4,8 +4,8 @@ use Prim.Native.Nat.{ℕ, _≤_, _+_, _-_}
 use native.Mathlib.Omega.{arith}
 use lib.ListN.{length}
 use borrow.Author.Needs.{needs}
+use Rattle.subgroup_laws.specs.Table.{product}
 use Rattle.finite_group.specs.SearchLoop.{Extended, extended-none, extended-next, extended-overflow}
-use Rattle.finite_group.specs.Table.{product}
 use Rattle.finite_group.specs.declared.search.Found.the-variants.{Count, Full}
 use Rattle.finite_group.proofs.search.extend.Statement.{statement}
 use Rattle.finite_group.proofs.search.extend.Tie as tie

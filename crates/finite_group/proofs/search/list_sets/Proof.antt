@@ -3,8 +3,8 @@ use mathlib.Core.Path.{_≡_}
 use native.Mathlib.Omega.{arith}
 use lib.ListN.{length}
 use borrow.Author.Needs.{needs}
+use Rattle.subgroup_laws.specs.Table.{product}
 use Rattle.finite_group.specs.ListAnswers.{answer-count, answer-full}
-use Rattle.finite_group.specs.Table.{product}
 use Rattle.finite_group.proofs.search.list_sets.Statement.{statement}
 use Rattle.finite_group.proofs.search.list_sets.Tie as tie
 

@@ -5,8 +5,8 @@ use native.Mathlib.Omega.{arith}
 use lib.ListN.{length}
 use borrow.Author.Needs.{needs}
 use Rattle.laws.specs.Sets.{shifted-one}
+use Rattle.subgroup_laws.specs.Table.{product}
 use Rattle.finite_group.specs.SearchLoop.{Searching, none-result, searching-subgroup, searching-next, searching-overflow, searching-end, restart, restart-start}
-use Rattle.finite_group.specs.Table.{product}
 use Rattle.finite_group.specs.declared.search.Found.the-variants.{Count, Full}
 use Rattle.finite_group.proofs.search.search.Statement.{statement}
 use Rattle.finite_group.proofs.search.search.Tie as tie

@@ -1,7 +1,7 @@
 -- The bitwise xor takes the member out.
 use borrow.Author.Needs.{needs}
 use Rattle.laws.specs.Sets.{shifted-one}
-use Rattle.finite_group.specs.Removal.{xor-without}
+use Rattle.subgroup_laws.specs.Removal.{xor-without}
 use Rattle.finite_group.proofs.sets.without.Statement.{statement}
 use Rattle.finite_group.proofs.sets.without.Tie as tie
 

@@ -7,9 +7,9 @@ use borrow.Author.Count.{below-more}
 use borrow.Author.Needs.{needs}
 use borrow.Author.Tests.{not-true, not-false}
 use Rattle.laws.specs.Sets.{member}
-use Rattle.finite_group.specs.Bounded.{fails-every, passes-every}
-use Rattle.finite_group.specs.Subsets.{holdsRow}
-use Rattle.finite_group.specs.Table.{product}
+use Rattle.subgroup_laws.specs.Bounded.{fails-every, passes-every}
+use Rattle.subgroup_laws.specs.Subsets.{holdsRow}
+use Rattle.subgroup_laws.specs.Table.{product}
 use Rattle.finite_group.proofs.subgroup.holds_row.Statement.{statement}
 use Rattle.finite_group.proofs.subgroup.holds_row.Tie as tie
 

@@ -7,9 +7,9 @@ use lib.Dec.{ltb}
 use borrow.Author.Count.{below-more}
 use borrow.Author.Tests.{not-true, not-false, lt-ltb, le-ltb}
 use Rattle.laws.specs.Sets.{member, shifted-one}
-use Rattle.finite_group.specs.Bounded.{fails-every, passes-every, and-fails-left, and-fails, both-and}
-use Rattle.finite_group.specs.Subsets.{holdsRow, isSubgroup}
-use Rattle.finite_group.specs.Table.{product}
+use Rattle.subgroup_laws.specs.Bounded.{fails-every, passes-every, and-fails-left, and-fails, both-and}
+use Rattle.subgroup_laws.specs.Subsets.{holdsRow, isSubgroup}
+use Rattle.subgroup_laws.specs.Table.{product}
 use Rattle.finite_group.proofs.subgroup.is_subgroup.Statement.{statement}
 use Rattle.finite_group.proofs.subgroup.is_subgroup.Tie as tie
 

@@ -1,8 +1,8 @@
 -- The tests of the definition.
 use mathlib.Core.Path.{sym, _∙_}
 use borrow.Author.Tests.{not-true, not-false}
+use Rattle.subgroup_laws.specs.SubgroupLaws.{test-subgroup}
 use Rattle.finite_group.specs.Answers.{normalizerAnswer}
-use Rattle.finite_group.specs.SubgroupLaws.{test-subgroup}
 use Rattle.finite_group.proofs.subgroup.normalizer_in.Statement.{statement}
 use Rattle.finite_group.proofs.subgroup.normalizer_in.Tie as tie
 

@@ -9,8 +9,8 @@ use native.Mathlib.Omega.{arith}
 use lib.Dec.{eqb}
 use borrow.Author.Tests.{eq-eqb, ne-eqb}
 use Rattle.laws.specs.Sets.{setOf, setOf-in, setOf-out, setOf-room, shifted-one}
-use Rattle.finite_group.specs.Subsets.{conjugateOf, normalizerOf}
-use Rattle.finite_group.specs.Table.{product}
+use Rattle.subgroup_laws.specs.Subsets.{conjugateOf, normalizerOf}
+use Rattle.subgroup_laws.specs.Table.{product}
 use Rattle.finite_group.proofs.subgroup.normalizer_set.Statement.{statement}
 use Rattle.finite_group.proofs.subgroup.normalizer_set.Tie as tie
 

@@ -2,8 +2,8 @@
 use mathlib.Core.Path.{refl}
 use Prim.Native.Nat.{_+_, _*_}
 use native.Mathlib.Omega.{arith}
-use Rattle.finite_group.specs.Table.{product}
-use Rattle.finite_group.specs.TableLaws.{cell-place}
+use Rattle.subgroup_laws.specs.Table.{product}
+use Rattle.subgroup_laws.specs.TableLaws.{cell-place}
 use Rattle.finite_group.proofs.table.cell.Statement.{statement}
 use Rattle.finite_group.proofs.table.cell.Tie as tie
 

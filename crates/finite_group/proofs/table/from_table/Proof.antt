@@ -2,8 +2,8 @@
 use mathlib.Core.Path.{sym, _∙_}
 use borrow.Author.Needs.{needs}
 use borrow.Author.Tests.{eq-eqb, ne-eqb, lt-ltb, le-ltb, not-true, not-false}
-use Rattle.finite_group.specs.Table.{checkOf}
-use Rattle.finite_group.specs.TableLaws.{good-cells}
+use Rattle.subgroup_laws.specs.TableLaws.{good-cells}
+use Rattle.finite_group.specs.TableCheck.{checkOf}
 use Rattle.finite_group.proofs.table.from_table.Statement.{statement}
 use Rattle.finite_group.proofs.table.from_table.Tie as tie
 

@@ -7,9 +7,9 @@ use lib.Dec.{ltb, eqb}
 use lib.ListN.{length, getD}
 use borrow.Author.Count.{below-more}
 use borrow.Author.Tests.{eq-eqb, ne-eqb, lt-ltb, le-ltb}
-use Rattle.finite_group.specs.Bounded.{fails-every, passes-every, and-fails, and-fails-left, both-and}
-use Rattle.finite_group.specs.Table.{goodCells}
-use Rattle.finite_group.specs.TableLaws.{square-limit}
+use Rattle.subgroup_laws.specs.Bounded.{fails-every, passes-every, and-fails, and-fails-left, both-and}
+use Rattle.subgroup_laws.specs.Table.{goodCells}
+use Rattle.subgroup_laws.specs.TableLaws.{square-limit}
 use Rattle.finite_group.proofs.table.good_cells.Statement.{statement}
 use Rattle.finite_group.proofs.table.good_cells.Tie as tie
 

@@ -7,9 +7,9 @@ use lib.Dec.{ltb}
 use borrow.Author.Count.{below-more}
 use borrow.Author.Needs.{needs}
 use borrow.Author.Tests.{lt-ltb, le-ltb}
-use Rattle.finite_group.specs.Bounded.{fails-every, passes-every}
-use Rattle.finite_group.specs.Groups.{inverseOf, hasInverses}
-use Rattle.finite_group.specs.Table.{product}
+use Rattle.subgroup_laws.specs.Bounded.{fails-every, passes-every}
+use Rattle.subgroup_laws.specs.Groups.{inverseOf, hasInverses}
+use Rattle.subgroup_laws.specs.Table.{product}
 use Rattle.finite_group.proofs.table.has_inverses.Statement.{statement}
 use Rattle.finite_group.proofs.table.has_inverses.Tie as tie
 

@@ -5,9 +5,9 @@ use Prim.Native.Nat.{ℕ, _≤_, _<_, _-_}
 use native.Mathlib.Omega.{arith}
 use borrow.Author.Count.{below-more}
 use borrow.Author.Needs.{needs}
-use Rattle.finite_group.specs.Bounded.{first-found, first-none}
-use Rattle.finite_group.specs.Groups.{isInverse, inverseOf}
-use Rattle.finite_group.specs.Table.{product}
+use Rattle.subgroup_laws.specs.Bounded.{first-found, first-none}
+use Rattle.subgroup_laws.specs.Groups.{isInverse, inverseOf}
+use Rattle.subgroup_laws.specs.Table.{product}
 use Rattle.finite_group.proofs.table.inverse.Statement.{statement}
 use Rattle.finite_group.proofs.table.inverse.Tie as tie
 

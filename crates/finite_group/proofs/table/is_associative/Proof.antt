@@ -9,9 +9,9 @@ use native.Mathlib.Omega.{arith}
 use borrow.Author.Count.{below-more}
 use borrow.Author.Needs.{needs}
 use borrow.Author.Tests.{eq-eqb, ne-eqb}
-use Rattle.finite_group.specs.Bounded.{every, fails-every, passes-every}
-use Rattle.finite_group.specs.Groups.{associatesAt, associates}
-use Rattle.finite_group.specs.Table.{product}
+use Rattle.subgroup_laws.specs.Bounded.{every, fails-every, passes-every}
+use Rattle.subgroup_laws.specs.Groups.{associatesAt, associates}
+use Rattle.subgroup_laws.specs.Table.{product}
 use Rattle.finite_group.proofs.table.is_associative.Statement.{statement}
 use Rattle.finite_group.proofs.table.is_associative.Tie as tie
 

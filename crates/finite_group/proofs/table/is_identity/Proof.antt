@@ -7,9 +7,9 @@ use lib.Dec.{eqb}
 use borrow.Author.Count.{below-more}
 use borrow.Author.Needs.{needs}
 use borrow.Author.Tests.{eq-eqb, ne-eqb}
-use Rattle.finite_group.specs.Bounded.{fails-every, passes-every, and-fails, and-fails-left, both-and}
-use Rattle.finite_group.specs.Groups.{isIdentity}
-use Rattle.finite_group.specs.Table.{product}
+use Rattle.subgroup_laws.specs.Bounded.{fails-every, passes-every, and-fails, and-fails-left, both-and}
+use Rattle.subgroup_laws.specs.Groups.{isIdentity}
+use Rattle.subgroup_laws.specs.Table.{product}
 use Rattle.finite_group.proofs.table.is_identity.Statement.{statement}
 use Rattle.finite_group.proofs.table.is_identity.Tie as tie
 

@@ -2,8 +2,8 @@
 use mathlib.Core.Path.{sym, _∙_}
 use borrow.Author.Needs.{needs}
 use borrow.Author.Tests.{eq-eqb, ne-eqb}
-use Rattle.finite_group.specs.Bounded.{and-fails-left}
-use Rattle.finite_group.specs.Groups.{isInverse}
+use Rattle.subgroup_laws.specs.Bounded.{and-fails-left}
+use Rattle.subgroup_laws.specs.Groups.{isInverse}
 use Rattle.finite_group.proofs.table.is_inverse.Statement.{statement}
 use Rattle.finite_group.proofs.table.is_inverse.Tie as tie
 

@@ -11,8 +11,8 @@ use borrow.Author.Tests.{eq-eqb, eqb-true}
 use Rattle.laws.specs.Distinct.{has, Distinct, nil, cons, eqb-equivalence, has-member, Mem→has, pigeonhole}
 use Rattle.laws.specs.Sets.{member, member-below, setOf-below, member-setOf, members, member-listed, listed-member, members-sorted, ones-members, subset-antisymmetric}
 use Rattle.laws.specs.Sorted.{Sorted, sorted-nil, sorted-cons, StrictOrder, key-strict}
-use Rattle.finite_group.specs.Bounded.{passes-some, some-passes, both-and, and-both}
-use Rattle.finite_group.specs.Subsets.{imageOf}
+use Rattle.subgroup_laws.specs.Bounded.{passes-some, some-passes, both-and, and-both}
+use Rattle.subgroup_laws.specs.Subsets.{imageOf}
 
 -- a strictly sorted list of numbers is without repeats
 pub sorted-distinct : (Before : ℕ → ℕ → Type 0) → StrictOrder Before → {l : List ℕ} → Sorted Before l → Distinct eqb l

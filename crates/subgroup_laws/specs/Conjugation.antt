@@ -8,11 +8,11 @@ use lib.Count.{ones}
 use lib.Dec.{eqb}
 use Rattle.laws.specs.FiniteGroup.{cancel-left}
 use Rattle.laws.specs.Sets.{member, member-below, Subset, subset-antisymmetric}
-use Rattle.finite_group.specs.Groups.{Group, inverseOf}
-use Rattle.finite_group.specs.GroupLaws.{group-inverse}
-use Rattle.finite_group.specs.Images.{image-below, image-holds, image-source, image-ones}
-use Rattle.finite_group.specs.SubgroupLaws.{below-member, listed-group, closed-set}
-use Rattle.finite_group.specs.Subsets.{Subgroup, conjugateElement, conjugateOf}
+use Rattle.subgroup_laws.specs.GroupLaws.{group-inverse}
+use Rattle.subgroup_laws.specs.Groups.{Group, inverseOf}
+use Rattle.subgroup_laws.specs.Images.{image-below, image-holds, image-source, image-ones}
+use Rattle.subgroup_laws.specs.SubgroupLaws.{below-member, listed-group, closed-set}
+use Rattle.subgroup_laws.specs.Subsets.{Subgroup, conjugateElement, conjugateOf}
 
 module _ (n : ℕ) (_·_ : ℕ → ℕ → ℕ) (e : ℕ) (G : Group n _·_ e) where
   infixl 70 _·_

@@ -10,8 +10,8 @@ use lib.ListN.{length}
 use Rattle.laws.specs.Distinct.{Mem→has, eqb-equivalence, pigeonhole}
 use Rattle.laws.specs.ListOrder.{Precedes, precedes-strict, earlier, one-list, sort-list-order}
 use Rattle.laws.specs.Sorted.{StrictOrder, Sorted, sorted-nil, sorted-cons, keep, kept-member, member-kept, sorted-keep, sorted-nodup, sort, sort-member, member-sort}
-use Rattle.finite_group.specs.Images.{sorted-distinct}
-use Rattle.finite_group.specs.SubgroupLaws.{below, below-member, member-below-list}
+use Rattle.subgroup_laws.specs.Images.{sorted-distinct}
+use Rattle.subgroup_laws.specs.SubgroupLaws.{below, below-member, member-below-list}
 
 -- the sets of numbers below n that pass the test, in list order
 unfoldable pub listed : ℕ → (ℕ → Bool) → List ℕ

@@ -3,7 +3,7 @@ use mathlib.Core.Path.{_≡_}
 use mathlib.Core.Bool.{Bool, _&&_}
 use Prim.Native.Nat.{ℕ, _<_}
 use lib.Dec.{eqb, ltb}
-use Rattle.finite_group.specs.Bounded.{every, first}
+use Rattle.subgroup_laws.specs.Bounded.{every, first}
 
 module _ (n : ℕ) (_·_ : ℕ → ℕ → ℕ) (e : ℕ) where
   infixl 70 _·_

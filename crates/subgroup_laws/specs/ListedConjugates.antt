@@ -10,14 +10,14 @@ use borrow.Author.Tests.{eq-eqb, eqb-true, eqb-false}
 use Rattle.laws.specs.ListOrder.{Precedes}
 use Rattle.laws.specs.Sets.{member, member-below, setOf-below, member-setOf}
 use Rattle.laws.specs.Sorted.{Sorted}
-use Rattle.finite_group.specs.Bounded.{first-least}
-use Rattle.finite_group.specs.ConjugateLoop.{other-conjugate, conjugate-other}
-use Rattle.finite_group.specs.Conjugates.{isOther, othersOf, conjugatesOf, conjugatorOf}
-use Rattle.finite_group.specs.Conjugation.{conjugate-below, conjugate-set-by-identity, conjugate-set-twice}
-use Rattle.finite_group.specs.Groups.{Group}
-use Rattle.finite_group.specs.Listing.{listed-passes, passes-listed, listed-sorted}
-use Rattle.finite_group.specs.SubgroupLaws.{closed-set}
-use Rattle.finite_group.specs.Subsets.{Subgroup, conjugateOf, normalizerOf}
+use Rattle.subgroup_laws.specs.Bounded.{first-least}
+use Rattle.subgroup_laws.specs.ConjugateLoop.{other-conjugate, conjugate-other}
+use Rattle.subgroup_laws.specs.Conjugates.{isOther, othersOf, conjugatesOf, conjugatorOf}
+use Rattle.subgroup_laws.specs.Conjugation.{conjugate-below, conjugate-set-by-identity, conjugate-set-twice}
+use Rattle.subgroup_laws.specs.Groups.{Group}
+use Rattle.subgroup_laws.specs.Listing.{listed-passes, passes-listed, listed-sorted}
+use Rattle.subgroup_laws.specs.SubgroupLaws.{closed-set}
+use Rattle.subgroup_laws.specs.Subsets.{Subgroup, conjugateOf, normalizerOf}
 
 module _ (n : ℕ) (_·_ : ℕ → ℕ → ℕ) (e h : ℕ) (G : Group n _·_ e) (H : Subgroup n _·_ e h) where
   infixl 70 _·_

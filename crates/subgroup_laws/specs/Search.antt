@@ -3,7 +3,7 @@
 -- of completeness: a subgroup S takes its elements in ascending order, and at each of them a listed set, or a conjugate of one, lies
 -- inside S and has all of S below the next.
 use mathlib.Core.Path.{_≡_, refl, sym, ap, ap₂, _∙_, subst}
-use mathlib.Core.Logic.{_⊎_, inl, inr, _≢_}
+use mathlib.Core.Logic.{_⊎_, inl, inr}
 use mathlib.Core.Bool.{Bool, true, false, true≢false}
 use mathlib.Core.List.{List, [], _∷_, _++_, append-assoc, List·Memᴰ as Mem, List·Memᴰ·head as here, List·Memᴰ·tail as there, List·Memᴰ·not-nil as not-nil, List·Memᴰ·cases-cons as cases, List·Memᴰ·append-cases as append-cases, Memᴰ·append-left as mem-left, Memᴰ·append-right as mem-right, Memᴰ·cast as mem-cast}
 use Prim.Native.Nat.{ℕ, zero, suc, _+_, _*_, _/_, _^_, _<_, _≤_}
@@ -14,21 +14,17 @@ use lib.Count.{ones}
 use lib.ListN.{length, getD, take, drop, length-append, length-drop, take-append-drop}
 use lib.Pow.{pow-mono}
 use borrow.Author.Tests.{eqb-true}
-use lib.Seq.{drop-cons, drop-drop, getD-take, take-append-le, drop-append-le, getD-append-seam, length-take-le}
-use Rattle.laws.specs.ListOrder.{Precedes, more-members, precedes-irreflexive, precedes-transitive, precedes-total, precedes-strict, earlier, earlier-precedes, precedes-earlier}
+use lib.Seq.{drop-cons, drop-drop, getD-take, take-append-le, drop-append-le, length-take-le}
+use Rattle.laws.specs.ListOrder.{Precedes, more-members, precedes-total, precedes-strict, earlier, earlier-precedes, precedes-earlier}
 use Rattle.laws.specs.Sets.{member, member-below, Subset, subset-antisymmetric, ones-proper, member-singleton}
 use Rattle.laws.specs.Sorted.{Sorted, sorted-cons, sorted-append, append-sorted-left, append-sorted-right, append-sorted-across, at-member, before-all}
-use Rattle.finite_group.specs.Adjoin.{Barred, Extension}
-use Rattle.finite_group.specs.Bounded.{passes-or-fails}
-use Rattle.finite_group.specs.Conjugation.{conjugate-subset, conjugate-set-by-identity, conjugate-set-twice, conjugate-set-back, conjugate-set-forth, conjugate-subgroup, conjugate-below, conjugate-holds, conjugate-forth, conjugate-element-below, inverse-below, conjugate-by-identity}
-use Rattle.finite_group.specs.Groups.{Group, inverseOf}
-use Rattle.finite_group.specs.Insertion.{Place, Inserted, present, full, added}
-use Rattle.finite_group.specs.Lists.{Chosen}
-use Rattle.finite_group.specs.Slots.{packed, bytesOf, movedUp, slotAt, Words, slot-packed, insertAt, inserted}
-use Rattle.finite_group.specs.Subsets.{Subgroup, conjugateOf, conjugateElement}
-use Rattle.finite_group.specs.declared.search.Found.{Found}
-use Rattle.finite_group.specs.declared.search.Found.the-variants.{Count, Full as Overflow}
-use Rattle.finite_group.specs.declared.slots.Insertion.the-variants.{Present, Full, Added}
+use Rattle.subgroup_laws.specs.Adjoin.{Barred, Extension}
+use Rattle.subgroup_laws.specs.Bounded.{passes-or-fails}
+use Rattle.subgroup_laws.specs.Conjugation.{conjugate-subset, conjugate-set-by-identity, conjugate-set-twice, conjugate-set-back, conjugate-set-forth, conjugate-subgroup, conjugate-below, conjugate-holds, conjugate-forth, conjugate-element-below, inverse-below, conjugate-by-identity}
+use Rattle.subgroup_laws.specs.Groups.{Group, inverseOf}
+use Rattle.subgroup_laws.specs.Lists.{Chosen}
+use Rattle.subgroup_laws.specs.Slots.{Place, packed, bytesOf, movedUp, slotAt, Words, slot-packed, insertAt, inserted}
+use Rattle.subgroup_laws.specs.Subsets.{Subgroup, conjugateOf, conjugateElement}
 
 -- ---- lists
 
@@ -140,13 +136,6 @@ module _ (n : ℕ) (_·_ : ℕ → ℕ → ℕ) (e : ℕ) (classes : Bool) where
     pub chosen : (s : ℕ) → Mem s list → Chosen n _·_ e classes s
     pub more : slots < length list
 
-  -- what a step of the search answers: sets were put in before h, and Done holds of the new list; or there are too many
-  pub data Progress (came front tail b : List ℕ) (h : ℕ) (Done : List ℕ → Type 0) : Found → Type 0 where
-    counted : (front' : List ℕ) {count : ℕ} → Holding came b (front' ++ h ∷ tail) count
-        → ((s : ℕ) → Mem s (front ++ h ∷ tail) → Mem s (front' ++ h ∷ tail)) → Done (front' ++ h ∷ tail)
-        → Progress came front tail b h Done (Count count)
-    overflow : (l : List ℕ) (count : ℕ) → Holding came b l count → TooMany (length came / 8) → Progress came front tail b h Done Overflow
-
   -- a listed set stays listed in a longer list
   pub listed-more : (l m : List ℕ) → ((s : ℕ) → Mem s l → Mem s m) → (k : ℕ) → Listed l k → Listed m k
   listed-more l m f k L = record {
@@ -238,42 +227,6 @@ module _ (n : ℕ) (_·_ : ℕ → ℕ → ℕ) (e : ℕ) (classes : Bool) where
       pub holding-present : (m p : ℕ) → p < count → slotAt b p ≡ m → Mem m l
       holding-present m p h q =
           mem-cast (sym q ∙ holding-slot p h) (at-member Precedes l p 0 (let r = H .size in omega arith))
-
-    -- putting in a set that stands before h, and what Done then says
-    module _ (came b front tail : List ℕ) (h count : ℕ) (H : Holding came b (front ++ h ∷ tail) count) (same : length came ≡ length b)
-        (m : ℕ) (C : Chosen n _·_ e classes m) (P : Precedes m h) (Done : List ℕ → Type 0) (done : (l : List ℕ) → Mem m l → ((s : ℕ) → Mem s (front ++ h ∷ tail) → Mem s l) → Done l) where
-      -- it belongs among those in front of h
-      place-front : (p : ℕ) → Place b count m p → p ≤ length front
-      place-front p Q = elim (decLt (length front) p) [
-        | no k ↦ omega arith
-        | yes k ↦
-            let inside = Q .inside in
-            let s : slotAt b (length front) ≡ h = holding-slot came b (front ++ h ∷ tail) count H (length front) (omega arith) ∙ getD-append-seam front h tail 0 in
-            absurd (precedes-irreflexive m (precedes-transitive m h m P
-            (earlier-precedes 64 h m (subst (λ (z : ℕ). earlier 64 z m ≡ true) s (Q .before (length front) k)))))
-      ]
-
-      -- each outcome of the insertion is progress
-      pub inserted-present : {exit : List ℕ} → Inserted b count m exit Present → Progress came front tail exit h Done (Count count)
-      inserted-present (present q p k s) =
-          counted front (subst (λ (x : List ℕ). Holding came x (front ++ h ∷ tail) count) (sym q) H) (λ z i. i) (done _ (holding-present came b (front ++ h ∷ tail) count H m p k s) (λ z i. i))
-
-      -- no slot was free
-      pub inserted-full : {exit : List ℕ} → Inserted b count m exit Full → Progress came front tail exit h Done Overflow
-      inserted-full (full q none p Q apart) =
-          overflow (front ++ h ∷ tail) count (subst (λ (x : List ℕ). Holding came x (front ++ h ∷ tail) count) (sym q) H) (holding-full came b (front ++ h ∷ tail) count H m p C Q apart same none)
-
-      -- the set was put in
-      pub inserted-added : {exit : List ℕ} → Inserted b count m exit Added → Progress came front tail exit h Done (Count (count + 1))
-      inserted-added {exit} (added room p Q apart q) =
-          let at = place-front p Q in
-          let joint : insertAt p m (front ++ h ∷ tail) ≡ insertAt p m front ++ h ∷ tail = insert-front p m front (h ∷ tail) at in
-          let slots : count < length came / 8 = rw same room in
-          counted (insertAt p m front)
-          (subst (λ (l : List ℕ). Holding came exit l (count + 1)) joint (holding-added came b (front ++ h ∷ tail) count H m p C Q apart exit slots q))
-          (λ z i. subst (λ (l : List ℕ). Mem z l) joint (insert-member p m (front ++ h ∷ tail) i))
-          (done _ (subst (λ (l : List ℕ). Mem m l) joint (insert-here p m (front ++ h ∷ tail)))
-          (λ z i. subst (λ (l : List ℕ). Mem z l) joint (insert-member p m (front ++ h ∷ tail) i)))
 
   -- ---- completeness
 

@@ -4,9 +4,9 @@ use mathlib.Core.Bool.{Bool, not, _&&_}
 use mathlib.Core.List.{List, _∷_, map}
 use Prim.Native.Nat.{ℕ}
 use lib.Dec.{eqb}
-use Rattle.finite_group.specs.Bounded.{some, first}
-use Rattle.finite_group.specs.Listing.{listed}
-use Rattle.finite_group.specs.Subsets.{conjugateOf}
+use Rattle.subgroup_laws.specs.Bounded.{some, first}
+use Rattle.subgroup_laws.specs.Listing.{listed}
+use Rattle.subgroup_laws.specs.Subsets.{conjugateOf}
 
 module _ (n : ℕ) (_·_ : ℕ → ℕ → ℕ) (e h : ℕ) where
   -- whether s is a conjugate of h other than h

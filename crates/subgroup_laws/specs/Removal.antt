@@ -11,7 +11,7 @@ use lib.Dec.{eqb}
 use lib.Pow.{pow-pos}
 use borrow.Author.Tests.{eq-eqb, ne-eqb, eqb-true}
 use Rattle.laws.specs.Sets.{member, member-singleton, member-difference, same-sets, or-new, member-add, ones-add, with-member, Subset}
-use Rattle.finite_group.specs.Bounded.{or-either, or-holds-left}
+use Rattle.subgroup_laws.specs.Bounded.{or-either, or-holds-left}
 
 -- r is s without its member i
 pub record Without (s i r : ℕ) : Type 0 where

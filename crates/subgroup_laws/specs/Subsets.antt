@@ -4,8 +4,8 @@ use mathlib.Core.Bool.{Bool, true, cond, _&&_}
 use Prim.Native.Nat.{ℕ, _^_, _<_}
 use lib.Dec.{eqb, ltb}
 use Rattle.laws.specs.Sets.{member, setOf}
-use Rattle.finite_group.specs.Bounded.{every, some}
-use Rattle.finite_group.specs.Groups.{inverseOf}
+use Rattle.subgroup_laws.specs.Bounded.{every, some}
+use Rattle.subgroup_laws.specs.Groups.{inverseOf}
 
 module _ (n : ℕ) (_·_ : ℕ → ℕ → ℕ) (e : ℕ) where
   infixl 70 _·_

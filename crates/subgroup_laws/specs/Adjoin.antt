@@ -11,11 +11,11 @@ use lib.Count.{ones}
 use lib.Dec.{eqb}
 use borrow.Author.Tests.{eq-eqb, eqb-true}
 use Rattle.laws.specs.Sets.{member, member-below, member-empty, member-singleton, bounded, member-or, with-member, Subset, setOf, setOf-below, member-setOf, or-new, ones-add, ones-proper}
-use Rattle.finite_group.specs.Bounded.{or-either, or-holds-left, or-holds-right, not-passing, every, passes-every, every-passes}
-use Rattle.finite_group.specs.Groups.{Group}
-use Rattle.finite_group.specs.Images.{image-below, image-holds, image-source}
-use Rattle.finite_group.specs.SubgroupLaws.{closed-set}
-use Rattle.finite_group.specs.Subsets.{Subgroup, imageOf}
+use Rattle.subgroup_laws.specs.Bounded.{or-either, or-holds-left, or-holds-right, not-passing, every, passes-every, every-passes}
+use Rattle.subgroup_laws.specs.Groups.{Group}
+use Rattle.subgroup_laws.specs.Images.{image-below, image-holds, image-source}
+use Rattle.subgroup_laws.specs.SubgroupLaws.{closed-set}
+use Rattle.subgroup_laws.specs.Subsets.{Subgroup, imageOf}
 
 -- the set of i holds i
 pub singleton-self : (i : ℕ) → member (2 ^ i) i ≡ true

@@ -13,10 +13,10 @@ use lib.Pow.{pow-pos}
 use lib.Seq.{drop-cons, set-at}
 use Rattle.laws.specs.Sets.{member, members, members-in, members-out, members-length, members-position, position-below, listed-member, onesIn-suc, ones-below}
 use Rattle.laws.specs.Sorted.{at-member}
-use Rattle.finite_group.specs.Groups.{Group}
-use Rattle.finite_group.specs.Growth.{member-remainder}
-use Rattle.finite_group.specs.Conjugation.{conjugate-holds, conjugate-element-below}
-use Rattle.finite_group.specs.Subsets.{conjugateElement, conjugateOf}
+use Rattle.subgroup_laws.specs.Conjugation.{conjugate-holds, conjugate-element-below}
+use Rattle.subgroup_laws.specs.Groups.{Group}
+use Rattle.subgroup_laws.specs.LowMembers.{member-remainder}
+use Rattle.subgroup_laws.specs.Subsets.{conjugateElement, conjugateOf}
 
 -- the value at a place
 value-at : (f : ℕ → ℕ) (l : List ℕ) (i : ℕ) → i < length l → getD (map f l) i 0 ≡ f (getD l i 0)

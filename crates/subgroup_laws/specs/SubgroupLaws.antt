@@ -10,9 +10,9 @@ use borrow.Author.Tests.{lt-ltb, ltb-true}
 use Rattle.laws.specs.Distinct.{Distinct, nil, cons, eqb-decides, has-member}
 use Rattle.laws.specs.FiniteGroup.{Group as ListedGroup, closed-inverse}
 use Rattle.laws.specs.Sets.{member, member-below}
-use Rattle.finite_group.specs.Bounded.{and-both, both-and, every-passes, passes-every}
-use Rattle.finite_group.specs.Groups.{Group}
-use Rattle.finite_group.specs.Subsets.{Subgroup, holdsRow, isSubgroup}
+use Rattle.subgroup_laws.specs.Bounded.{and-both, both-and, every-passes, passes-every}
+use Rattle.subgroup_laws.specs.Groups.{Group}
+use Rattle.subgroup_laws.specs.Subsets.{Subgroup, holdsRow, isSubgroup}
 
 -- ---- the elements as a list
 

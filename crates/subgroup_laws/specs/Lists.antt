@@ -5,12 +5,12 @@ use mathlib.Core.List.{List}
 use Prim.Native.Nat.{ℕ, _<_}
 use borrow.Author.Tests.{not-true}
 use Rattle.laws.specs.ListOrder.{Precedes, earlier, earlier-precedes, precedes-earlier}
-use Rattle.finite_group.specs.Bounded.{every, every-passes, passes-every, and-both, both-and, not-passing}
-use Rattle.finite_group.specs.Conjugation.{conjugate-below}
-use Rattle.finite_group.specs.Groups.{Group}
-use Rattle.finite_group.specs.Listing.{listed}
-use Rattle.finite_group.specs.SubgroupLaws.{test-subgroup, subgroup-test}
-use Rattle.finite_group.specs.Subsets.{Subgroup, isSubgroup, conjugateOf}
+use Rattle.subgroup_laws.specs.Bounded.{every, every-passes, passes-every, and-both, both-and, not-passing}
+use Rattle.subgroup_laws.specs.Conjugation.{conjugate-below}
+use Rattle.subgroup_laws.specs.Groups.{Group}
+use Rattle.subgroup_laws.specs.Listing.{listed}
+use Rattle.subgroup_laws.specs.SubgroupLaws.{test-subgroup, subgroup-test}
+use Rattle.subgroup_laws.specs.Subsets.{Subgroup, isSubgroup, conjugateOf}
 
 module _ (n : ℕ) (_·_ : ℕ → ℕ → ℕ) (e : ℕ) where
   -- whether no conjugate of s stands before it in the list

@@ -10,14 +10,14 @@ use native.Mathlib.Decide.{ℕ-discrete}
 use Rattle.laws.specs.ListOrder.{Precedes, precedes-total, earlier, earlier-precedes, precedes-earlier}
 use Rattle.laws.specs.Sets.{member, member-below, setOf, setOf-below, member-setOf}
 use Rattle.laws.specs.Sorted.{Sorted}
-use Rattle.finite_group.specs.Bounded.{passes-or-fails}
-use Rattle.finite_group.specs.Conjugation.{conjugate-below, conjugate-set-back, inverse-below}
-use Rattle.finite_group.specs.Groups.{Group, inverseOf}
-use Rattle.finite_group.specs.Listing.{listed-passes, passes-listed, listed-sorted, listed-unique}
-use Rattle.finite_group.specs.Lists.{chosen, Chosen, chosen-passes, passes-chosen, subgroupsOf, representativesOf}
-use Rattle.finite_group.specs.Representatives.{FirstConjugate, first-start, first-kept, first-taken, first-represented}
-use Rattle.finite_group.specs.SubgroupLaws.{closed-set}
-use Rattle.finite_group.specs.Subsets.{Subgroup, conjugateOf}
+use Rattle.subgroup_laws.specs.Bounded.{passes-or-fails}
+use Rattle.subgroup_laws.specs.Conjugation.{conjugate-below, conjugate-set-back, inverse-below}
+use Rattle.subgroup_laws.specs.Groups.{Group, inverseOf}
+use Rattle.subgroup_laws.specs.Listing.{listed-passes, passes-listed, listed-sorted, listed-unique}
+use Rattle.subgroup_laws.specs.Lists.{chosen, Chosen, chosen-passes, passes-chosen, subgroupsOf, representativesOf}
+use Rattle.subgroup_laws.specs.Representatives.{FirstConjugate, first-start, first-kept, first-taken, first-represented}
+use Rattle.subgroup_laws.specs.SubgroupLaws.{closed-set}
+use Rattle.subgroup_laws.specs.Subsets.{Subgroup, conjugateOf}
 
 module _ (n : ℕ) (_·_ : ℕ → ℕ → ℕ) (e : ℕ) where
   infixl 70 _·_

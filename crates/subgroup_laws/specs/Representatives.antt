@@ -8,10 +8,10 @@ use native.Mathlib.Nat.{lt-of-lt-of-le}
 use lib.Count.{ones}
 use lib.Pow.{pow-mono}
 use Rattle.laws.specs.ListOrder.{Precedes, precedes-irreflexive, precedes-transitive}
-use Rattle.finite_group.specs.Conjugation.{conjugate-below, conjugate-ones, conjugate-set-back, conjugate-set-by-identity, conjugate-set-twice, conjugate-subgroup, inverse-below}
-use Rattle.finite_group.specs.Groups.{Group, inverseOf}
-use Rattle.finite_group.specs.Lists.{Chosen}
-use Rattle.finite_group.specs.Subsets.{Subgroup, conjugateOf}
+use Rattle.subgroup_laws.specs.Conjugation.{conjugate-below, conjugate-ones, conjugate-set-back, conjugate-set-by-identity, conjugate-set-twice, conjugate-subgroup, inverse-below}
+use Rattle.subgroup_laws.specs.Groups.{Group, inverseOf}
+use Rattle.subgroup_laws.specs.Lists.{Chosen}
+use Rattle.subgroup_laws.specs.Subsets.{Subgroup, conjugateOf}
 
 module _ (n : ℕ) (_·_ : ℕ → ℕ → ℕ) (e : ℕ) where
   infixl 70 _·_

@@ -8,10 +8,10 @@ use lib.Dec.{eqb}
 use lib.Pow.{pow-lt, pow-pos}
 use borrow.Author.Tests.{eq-eqb, eqb-true}
 use Rattle.laws.specs.Sets.{member, member-empty, with-member, Subset}
-use Rattle.finite_group.specs.Bounded.{or-either, or-holds-left, or-holds-right}
-use Rattle.finite_group.specs.Images.{image-unique}
-use Rattle.finite_group.specs.Removal.{Without, without-old, without-cases}
-use Rattle.finite_group.specs.Subsets.{imageOf}
+use Rattle.subgroup_laws.specs.Bounded.{or-either, or-holds-left, or-holds-right}
+use Rattle.subgroup_laws.specs.Images.{image-unique}
+use Rattle.subgroup_laws.specs.Removal.{Without, without-old, without-cases}
+use Rattle.subgroup_laws.specs.Subsets.{imageOf}
 
 module _ (n : ℕ) (f : ℕ → ℕ) (s : ℕ) where
   -- the members of `left` are still to come, and `found` has the values of the others

@@ -1,0 +1,23 @@
+-- What the check of a table's bytes answers (document 01, "Refusal numbers"): refusals 21 to 25, the first that applies.
+use mathlib.Core.Bool.{cond}
+use mathlib.Core.List.{List}
+use Prim.Native.Nat.{ℕ}
+use lib.Dec.{eqb, ltb}
+use Rattle.subgroup_laws.specs.Groups.{identityOf, hasInverses, associates}
+use Rattle.subgroup_laws.specs.Table.{product, goodCells}
+use Rattle.finite_group.specs.declared.Checked.{Checked}
+use Rattle.finite_group.specs.declared.Checked.the-variants.{Group as IsGroup, NoGroup}
+use Rattle.finite_group.specs.declared.Refusal.the-variants.{Order, «Cells» as NoCells, Identity, Inverse, Associativity}
+
+-- refusals 21 to 25 in their order, or the identity of the group
+unfoldable pub checkOf : ℕ → List ℕ → Checked
+checkOf n t =
+    cond (eqb n 0) (NoGroup Order)
+    (cond (ltb 48 n) (NoGroup Order)
+    (cond (goodCells n t)
+    (cond (ltb (identityOf n (product n t)) n)
+    (cond (hasInverses n (product n t) (identityOf n (product n t)))
+    (cond (associates n (product n t)) (IsGroup (identityOf n (product n t))) (NoGroup Associativity))
+    (NoGroup Inverse))
+    (NoGroup Identity))
+    (NoGroup NoCells)))
