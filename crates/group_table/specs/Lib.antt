@@ -1,2 +1,3 @@
 -- Tables of groups of motions: what the table of a list of operations is, and what is answered for a text and for a record.
 pub mod Tables
+pub mod TableLaws
