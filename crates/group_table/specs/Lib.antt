@@ -3,3 +3,5 @@ pub mod Tables
 pub mod TableLaws
 pub mod CodeSearch
 pub mod ReadTables
+pub mod TableMotions
+pub mod TableGroups
