@@ -5,3 +5,4 @@ pub mod CodeSearch
 pub mod ReadTables
 pub mod TableMotions
 pub mod TableGroups
+pub mod TableAnswers

@@ -11,9 +11,10 @@ use Rattle.operation.specs.Meaning.{motionOf}
 use Rattle.operation.specs.Product.{identityOperation}
 use Rattle.operation.specs.declared.Operation.{Operation}
 use Rattle.centering.specs.declared.Centering.{Centering}
+use Rattle.space_group.specs.Acceptance.{member-index}
 use Rattle.group_record.specs.Groups.{Allowed, Listing}
 use Rattle.group_record.specs.ListedForm.{alike-reflexive}
-use Rattle.group_record.specs.GroupLaws.{allowed-group}
+use Rattle.group_record.specs.GroupLaws.{identity-listed, allowed-group}
 use Rattle.subgroup_laws.specs.Table.{product, Cells, GroupTable}
 use Rattle.group_table.specs.Tables.{indexOf, tableOf}
 use Rattle.group_table.specs.TableLaws.{motionAt, table-length, cell-alike, index-alike, index-is}
@@ -56,6 +57,12 @@ module _ (c : Centering) {l : List Operation} (L : Listing l) where
     -- The identity belongs to its index.
     identity-belongs : BelongsTo c l identity (identityIndex c l)
     identity-belongs = index-alike c l identity (allowed-group c L A .holds-identity)
+
+    -- The identity operation stands there.
+    pub identity-stands : getD l (identityIndex c l) identityOperation ≡ identityOperation
+    identity-stands =
+        let (k, h, e) = member-index identityOperation (identity-listed L (A .holds-identity)) in
+        rw (identity-at k h e) e
 
     -- The identity of the motions is the identity of the table, on both sides.
     left-identity : (x : ℕ) → x < length l → identityIndex c l · x ≡ x
