@@ -78,13 +78,17 @@ module _ (c : Centering) where
 
 -- ---- cells
 module _ (c : Centering) (l : List SpaceMotion) where
+  -- A row has a cell for each right factor.
+  row-length : (f : SpaceMotion) → length (rowOf c l f) ≡ length l
+  row-length f = length-map l _
+
   -- There are as many cells as products.
   rows-length : (fs : List SpaceMotion) → length (rowsOf c l fs) ≡ length fs * length l
   unfolding rowsOf
   rows-length [] = omega arith
   rows-length (f ∷ fs) =
       length-append (rowOf c l f) (rowsOf c l fs)
-      ∙ omega (arith, length-map l (λ g. indexOf c l (compose f g)), rows-length fs, suc-mul (length fs) (length l))
+      ∙ omega (arith, row-length f, rows-length fs, suc-mul (length fs) (length l))
 
   -- The product of motion i and motion j has its index at i·n + j.
   row-at : (fs : List SpaceMotion) (d : SpaceMotion) (i j : ℕ) → i < length fs → j < length l → getD (rowsOf c l fs) (i * length l + j) 0 ≡ indexOf c l (compose (getD fs i d) (getD l j d))
@@ -92,9 +96,9 @@ module _ (c : Centering) (l : List SpaceMotion) where
   row-at [] d i j h k = absurd (omega arith)
   row-at (f ∷ fs) d zero j h k =
       let at : 0 * length l + j ≡ j = omega arith in
-      rw at (List·getD-append (rowOf c l f) (rowsOf c l fs) 0 j (omega (arith, length-map l (λ g. indexOf c l (compose f g)))) ∙ image-at (λ g. indexOf c l (compose f g)) l j d 0 k)
+      rw at (List·getD-append (rowOf c l f) (rowsOf c l fs) 0 j (omega (arith, row-length f)) ∙ image-at (λ g. indexOf c l (compose f g)) l j d 0 k)
   row-at (f ∷ fs) d (suc i) j h k =
-      let at : suc i * length l + j ≡ length (rowOf c l f) + (i * length l + j) = omega (arith, suc-mul i (length l), length-map l (λ g. indexOf c l (compose f g))) in
+      let at : suc i * length l + j ≡ length (rowOf c l f) + (i * length l + j) = omega (arith, suc-mul i (length l), row-length f) in
       rw at (getD-append-add (rowOf c l f) (rowsOf c l fs) (i * length l + j) 0 ∙ row-at fs d i j (omega arith) k)
 
 module _ (c : Centering) (l : List Operation) where
