@@ -6,3 +6,4 @@ pub mod ReadTables
 pub mod TableMotions
 pub mod TableGroups
 pub mod TableAnswers
+pub mod Parents
