@@ -7,3 +7,4 @@ pub mod TableMotions
 pub mod TableGroups
 pub mod TableAnswers
 pub mod Parents
+pub mod StepTables

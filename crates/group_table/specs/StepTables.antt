@@ -1,0 +1,151 @@
+-- The table that the steps of a traversal make, row by row: what is asked of the steps, what they say of a table, and how far an array holds the table.
+use mathlib.Core.Path.{_≡_, refl, sym, _∙_, ap}
+use mathlib.Core.List.{List, [], _++_}
+use Prim.Native.Nat.{ℕ, zero, suc, _+_, _*_, _/_, _%_, _≤_, _<_}
+use native.Mathlib.Numerals.{add-one}
+use native.Mathlib.Omega.{arith}
+use native.Mathlib.Decide.{ℕ-discrete}
+use native.Mathlib.Nat.{suc-mul, mul-le-mul-right, div-add-mod', div-lt-iff-lt-mul, mod-lt}
+use lib.ListN.{length, getD, take, set, replicate, length-take}
+use lib.Seq.{take-suc, take-all, getD-take, length-take-le, getD-set-same, getD-set-other}
+use Rattle.space_group.specs.Traversal.{padded}
+use Rattle.space_group.specs.Resuming.{padded-set, padded-at, padded-length}
+
+-- ---- the steps
+-- With n operations and m generators the step of operation p by generator k, at p·m + k, leads to the index of their product; to each
+-- operation but the first one leads that stands before the operation's own.
+pub record Traversed (n m : ℕ) (steps : List ℕ) : Type 0 where
+  pub few : n ≤ 48
+  pub narrow : m ≤ 9
+  pub inside : (t : ℕ) → t < n * m → getD steps t 0 < n
+  pub parent : (j : ℕ) → 0 < j → j < n → (t : ℕ) × (t < j * m) × (getD steps t 0 ≡ j)
+
+-- Operation j is the earlier operation p times generator k.
+pub record Comes (m : ℕ) (steps : List ℕ) (j p k : ℕ) : Type 0 where
+  pub earlier : p < j
+  pub generator : k < m
+  pub leads : getD steps (p * m + k) 0 ≡ j
+
+-- Of each operation but the first, whence it comes.
+abbrev pub Parents : ℕ → ℕ → List ℕ → List ℕ → List ℕ → Type 0
+Parents n m steps earlier generator = (j : ℕ) → 0 < j → j < n → Comes m steps j (getD earlier j 0) (getD generator j 0)
+
+-- The same of what the first steps lead to.
+abbrev pub ParentsUpTo : ℕ → ℕ → ℕ → List ℕ → List ℕ → List ℕ → Type 0
+ParentsUpTo at n m steps earlier generator =
+    (t j : ℕ) → t < at → t < j * m → j < n → getD steps t 0 ≡ j → Comes m steps j (getD earlier j 0) (getD generator j 0)
+
+-- ---- the table
+-- A table of n rows goes by the steps: the first operation is the identity, and the step of j's parent, taken from the product with the parent, leads to
+-- the product with j.
+pub record GoesBy (n m : ℕ) (steps table : List ℕ) : Type 0 where
+  pub size : length table ≡ n * n
+  pub first : (i : ℕ) → i < n → getD table (i * n) 0 ≡ i
+  pub inside : (i j : ℕ) → i < n → j < n → getD table (i * n + j) 0 < n
+  pub next : (i p k : ℕ) → i < n → p < n → k < m → getD table (i * n + getD steps (p * m + k) 0) 0 ≡ getD steps (getD table (i * n + p) 0 * m + k) 0
+
+-- The first cells of a table, the others 0.
+unfoldable pub begun : ℕ → List ℕ → List ℕ
+begun at table = padded 2304 0 (take at table)
+
+-- What filling a row takes: steps, parents, and a table that goes by them, whose rows before it are filled.
+pub record RowReady (n m i : ℕ) (steps earlier generator cells : List ℕ) : Type 0 where
+  pub row : i < n
+  pub traversed : Traversed n m steps
+  pub parents : Parents n m steps earlier generator
+  pub table : List ℕ
+  pub goes : GoesBy n m steps table
+  pub filled : cells ≡ begun (i * n) table
+
+-- ---- indices
+-- A place in row i of n rows of k is before their end.
+pub place-inside : (i j n k : ℕ) → i < n → j < k → i * k + j < n * k
+place-inside i j n k h b = omega (arith, suc-mul i k, mul-le-mul-right k h)
+
+-- What is below a product has a divisor that is not 0.
+pub divisor : (a b m : ℕ) → a < b * m → 0 < m
+divisor a b zero h = absurd (omega arith)
+divisor a b (suc m) h = omega arith
+
+module _ (n m : ℕ) (steps : List ℕ) (S : Traversed n m steps) where
+  -- All steps fit into 432 slots.
+  pub steps-fit : n * m ≤ 432
+  steps-fit = omega (arith, S .few, S .narrow, mul-le-mul-right m (S .few))
+
+  -- All cells fit into 2304.
+  pub cells-fit : n * n ≤ 2304
+  cells-fit = omega (arith, S .few, mul-le-mul-right n (S .few))
+
+-- ---- the search for parents
+module _ (n m : ℕ) (steps earlier generator : List ℕ) where
+  -- Once all steps were looked at, every parent is known.
+  pub parents-all : Traversed n m steps → ParentsUpTo (n * m) n m steps earlier generator → Parents n m steps earlier generator
+  parents-all S h j a b =
+      let (t, lt, e) = S .parent j a b in
+      h t j (omega (arith, mul-le-mul-right m b, suc-mul j m)) lt b e
+
+  module _ (at : ℕ) (h : ParentsUpTo at n m steps earlier generator) where
+    -- A step that does not stand before the steps of what it leads to is passed over,
+    pub parents-passed : getD steps at 0 * m ≤ at → ParentsUpTo (at + 1) n m steps earlier generator
+    parents-passed late t j lt before b e = elim (ℕ-discrete t at) [
+      | yes q ↦ let same : getD steps at 0 ≡ j = rw q at e in absurd (omega (arith, ap (λ (x : ℕ). x * m) same))
+      | no q ↦ h t j (omega arith) before b e
+    ]
+
+    -- and one that does is noted.
+    pub parents-noted : length earlier ≡ 48 → length generator ≡ 48 → getD steps at 0 < 48 → at < getD steps at 0 * m
+        → ParentsUpTo (at + 1) n m steps (set earlier (getD steps at 0) (at / m)) (set generator (getD steps at 0) (at % m))
+    parents-noted wide broad low first t j lt before b e = elim (ℕ-discrete j (getD steps at 0)) [
+      | yes q ↦
+          let positive = divisor at (getD steps at 0) m first in
+          rw (q, getD-set-same earlier (getD steps at 0) (at / m) 0 (omega arith), getD-set-same generator (getD steps at 0) (at % m) 0 (omega arith))
+          (record {
+            earlier = div-lt-iff-lt-mul positive .1 first;
+            generator = mod-lt at positive;
+            leads = ap (λ (x : ℕ). getD steps x 0) (div-add-mod' at m);
+          })
+      | no q ↦
+          let old : ¬ (t ≡ at) = λ (r : t ≡ at). q (sym (rw r at e)) in
+          rw (getD-set-other earlier (getD steps at 0) j (at / m) 0 q, getD-set-other generator (getD steps at 0) j (at % m) 0 q) (h t j (omega arith) before b e)
+    ]
+
+-- ---- filling
+module _ (table : List ℕ) (fits : length table ≤ 2304) where
+  -- Nothing is filled at first,
+  pub begun-none : replicate 2304 0 ≡ begun 0 table
+  unfolding begun
+  begun-none = refl
+
+  -- then one cell after the other,
+  pub begun-next : (at : ℕ) → at < length table → set (begun at table) at (getD table at 0) ≡ begun (at + 1) table
+  unfolding begun
+  begun-next at h =
+      let front : length (take at table) ≡ at = length-take-le at table (omega arith) in
+      ap (λ (i : ℕ). set (padded 2304 0 (take at table)) i (getD table at 0)) (sym front)
+      ∙ padded-set 2304 0 (take at table) (getD table at 0) (omega arith)
+      ∙ ap (padded 2304 0) (sym (take-suc table at 0 h))
+      ∙ ap (λ (i : ℕ). padded 2304 0 (take i table)) (sym (add-one at))
+
+  -- and at the end all are.
+  pub begun-all : begun (length table) table ≡ padded 2304 0 table
+  unfolding begun
+  begun-all = ap (padded 2304 0) (take-all (length table) table (omega arith))
+
+  -- What is filled is right.
+  pub begun-at : (at t : ℕ) → t < at → at ≤ length table → getD (begun at table) t 0 ≡ getD table t 0
+  unfolding begun
+  begun-at at t h k = padded-at 2304 0 (take at table) t 0 (omega (arith, length-take-le at table k)) ∙ getD-take at table t 0 h
+
+  -- There are as many slots as there should be.
+  pub begun-length : (at : ℕ) → length (begun at table) ≡ 2304
+  unfolding begun
+  begun-length at = padded-length 2304 0 (take at table) (omega (arith, length-take at table))
+
+module _ (n m : ℕ) (steps table : List ℕ) (G : GoesBy n m steps table) (i j p k : ℕ) (row : i < n) (b : j < n) (C : Comes m steps j p k) where
+  -- From the product with the parent, its step
+  pub step-inside : getD table (i * n + p) 0 * m + k < n * m
+  step-inside = place-inside (getD table (i * n + p) 0) k n m (G .inside i p row (omega (arith, C .earlier))) (C .generator)
+
+  -- leads to the product.
+  pub step-leads : getD steps (getD table (i * n + p) 0 * m + k) 0 ≡ getD table (i * n + j) 0
+  step-leads = sym (G .next i p k row (omega (arith, C .earlier)) (C .generator)) ∙ ap (λ (x : ℕ). getD table (i * n + x) 0) (C .leads)
