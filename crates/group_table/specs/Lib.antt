@@ -8,3 +8,4 @@ pub mod TableGroups
 pub mod TableAnswers
 pub mod Parents
 pub mod StepTables
+pub mod SymbolSteps
