@@ -57,6 +57,10 @@ pub record RowReady (n m i : ℕ) (steps earlier generator cells : List ℕ) : T
   pub goes : GoesBy n m steps table
   pub filled : cells ≡ begun (i * n) table
 
+-- What filling it does: of every such table one more row is filled.
+abbrev pub RowFilled : ℕ → ℕ → ℕ → List ℕ → List ℕ → List ℕ → Type 0
+RowFilled n m i steps before after = (table : List ℕ) → GoesBy n m steps table → before ≡ begun (i * n) table → after ≡ begun (i * n + n) table
+
 -- ---- indices
 -- A place in row i of n rows of k is before their end.
 pub place-inside : (i j n k : ℕ) → i < n → j < k → i * k + j < n * k

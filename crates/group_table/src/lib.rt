@@ -2,6 +2,7 @@
 // Ported from subgroup/finite_group.rs of moyo 0.21.0 (`from_operations`), and changed: exact, modulo the centred lattice, from a text or a record.
 
 pub mod record;
+pub mod symbol;
 
 // With n operations the index of operation i times operation j stands at i·n + j of the cells; past the last they are 0.
 // A refused symbol has order 0.

@@ -1,0 +1,111 @@
+// The table of a symbol's group, made from the steps of its traversal: no product is formed and no operation is searched for.
+// Ported from `from_operations` of subgroup/finite_group.rs, and changed: from a text, modulo the lattice, and without a search.
+ghost use mathlib.Core.Path.{_≡_};
+ghost use lib.ListN.{take};
+ghost use Rattle.group_table.specs.Tables.{cellsOf, symbolTable};
+ghost use Rattle.group_table.specs.StepTables.{Traversed, Parents, RowReady, RowFilled};
+ghost use Rattle.group_table.specs.SymbolSteps.{TableBySteps};
+use crate::SymbolTable;
+use symbol_group::Answer;
+use symbol_group::SymbolGroup;
+
+// Of each operation but the first: the index of an earlier one, and that of the generator that leads from there to it.
+struct Origins {
+    earlier: [u8; 48],
+    generator: [u8; 48],
+}
+
+// A step that stands before the steps of the operation that it leads to comes from an earlier one.
+fn find_origins(steps: &[u8; 432], count: usize, generators: usize) -> Origins
+    requires { ⌜ Traversed count generators (now steps) ⌝ }
+    ensures { λ r. ⌜ Parents count generators (now (steps .entry)) (r .earlier) (r .generator) ⌝ }
+{
+    let mut earlier = [0u8; 48];
+    let mut generator = [0u8; 48];
+    let end = count * generators;
+    let mut at = 0usize;
+    while at < end {
+        let to = steps[at] as usize;
+        if at < to * generators {
+            earlier[to] = (at / generators) as u8;
+            generator[to] = (at % generators) as u8;
+        }
+        at += 1;
+    }
+    Origins { earlier, generator }
+}
+
+// The products of operation i, each by the step that leads on from the product with its right factor's origin.
+fn fill_row<'a>(
+    cells: &mut [u8; 2304],
+    steps: &'a [u8; 432],
+    earlier: &'a [u8; 48],
+    generator: &'a [u8; 48],
+    count: usize,
+    generators: usize,
+    i: usize,
+)
+    requires { ⌜ RowReady count generators i (now steps) (now earlier) (now generator) (now cells) ⌝ }
+    ensures { λ r. ⌜ RowFilled count generators i (now (steps .entry)) (now (cells .entry)) (now (cells .exit)) ⌝ }
+{
+    let row = i * count;
+    cells[row] = i as u8;
+    let mut j = 1usize;
+    while j < count {
+        let p = earlier[j] as usize;
+        let left = cells[row + p] as usize;
+        let k = generator[j] as usize;
+        cells[row + j] = steps[left * generators + k];
+        j += 1;
+    }
+}
+
+fn filled(g: SymbolGroup) -> [u8; 2304]
+    requires { ⌜ TableBySteps g ⌝ }
+    ensures { λ r. ⌜ r ≡ cellsOf (g .centering) (take (g .count) (g .operations)) ⌝ }
+{
+    let steps = g.steps;
+    let count = g.count;
+    let generators = g.generators;
+    let found = find_origins(&steps, count, generators);
+    let earlier = found.earlier;
+    let generator = found.generator;
+    let mut cells = [0u8; 2304];
+    let mut i = 0usize;
+    while i < count {
+        fill_row(
+            &mut cells,
+            &steps,
+            &earlier,
+            &generator,
+            count,
+            generators,
+            i,
+        );
+        i += 1;
+    }
+    cells
+}
+
+pub fn from_symbol(text: &[u8]) -> SymbolTable
+    ensures { λ r. ⌜ r ≡ symbolTable (now (text .entry)) ⌝ }
+{
+    let g = SymbolGroup::new(text);
+    let answer = g.answer;
+    match answer {
+        Answer::Group => {
+            let order = g.count;
+            let cells = filled(g);
+            SymbolTable {
+                answer: Answer::Group,
+                order,
+                cells,
+            }
+        }
+        Answer::Refused(refusal) => SymbolTable {
+            answer: Answer::Refused(refusal),
+            order: 0,
+            cells: [0u8; 2304],
+        },
+    }
+}
