@@ -145,11 +145,31 @@ module _ (table : List ℕ) (fits : length table ≤ 2304) where
   unfolding begun
   begun-length at = padded-length 2304 0 (take at table) (omega (arith, length-take at table))
 
-module _ (n m : ℕ) (steps table : List ℕ) (G : GoesBy n m steps table) (i j p k : ℕ) (row : i < n) (b : j < n) (C : Comes m steps j p k) where
-  -- From the product with the parent, its step
-  pub step-inside : getD table (i * n + p) 0 * m + k < n * m
-  step-inside = place-inside (getD table (i * n + p) 0) k n m (G .inside i p row (omega (arith, C .earlier))) (C .generator)
+-- ---- a row
+module _ (n m : ℕ) (steps table cells : List ℕ) (S : Traversed n m steps) (G : GoesBy n m steps table) (i : ℕ) (row : i < n) where
+  -- There is room for the table.
+  table-fits : length table ≤ 2304
+  table-fits = omega (arith, G .size, cells-fit n m steps S)
 
-  -- leads to the product.
-  pub step-leads : getD steps (getD table (i * n + p) 0 * m + k) 0 ≡ getD table (i * n + j) 0
-  step-leads = sym (G .next i p k row (omega (arith, C .earlier)) (C .generator)) ∙ ap (λ (x : ℕ). getD table (i * n + x) 0) (C .leads)
+  -- The first cell of a row is the left factor itself.
+  pub row-first : cells ≡ begun (i * n) table → set cells (i * n) i ≡ begun (i * n + 1) table
+  row-first e =
+      let inside = place-inside i 0 n n row (omega arith) in
+      rw e (ap (λ (x : ℕ). set (begun (i * n) table) (i * n) x) (sym (G .first i row)) ∙ begun-next table table-fits (i * n) (omega (arith, G .size)))
+
+  module _ (j p k : ℕ) (b : j < n) (C : Comes m steps j p k) (e : cells ≡ begun (i * n + j) table) where
+    -- The product with the parent is there,
+    parent-cell : getD cells (i * n + p) 0 ≡ getD table (i * n + p) 0
+    parent-cell = rw e (begun-at table table-fits (i * n + j) (i * n + p) (omega (arith, C .earlier)) (omega (arith, G .size, place-inside i j n n row b)))
+
+    -- it is an index,
+    pub row-inside : getD cells (i * n + p) 0 < n
+    row-inside = rw parent-cell (G .inside i p row (omega (arith, C .earlier)))
+
+    -- and its step is the next cell.
+    pub row-next : set cells (i * n + j) (getD steps (getD cells (i * n + p) 0 * m + k) 0) ≡ begun (i * n + (j + 1)) table
+    row-next =
+        let onward : i * n + j + 1 ≡ i * n + (j + 1) = omega arith in
+        let leads : getD steps (getD cells (i * n + p) 0 * m + k) 0 ≡ getD table (i * n + j) 0 =
+        rw parent-cell (sym (G .next i p k row (omega (arith, C .earlier)) (C .generator)) ∙ ap (λ (x : ℕ). getD table (i * n + x) 0) (C .leads)) in
+        rw leads (ap (λ (l : List ℕ). set l (i * n + j) (getD table (i * n + j) 0)) e ∙ begun-next table table-fits (i * n + j) (omega (arith, G .size, place-inside i j n n row b)) ∙ ap (λ (x : ℕ). begun x table) onward)
