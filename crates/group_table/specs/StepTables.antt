@@ -114,12 +114,12 @@ module _ (n m : ℕ) (steps earlier generator : List ℕ) where
     ]
 
 -- ---- filling
-module _ (table : List ℕ) (fits : length table ≤ 2304) where
-  -- Nothing is filled at first,
-  pub begun-none : replicate 2304 0 ≡ begun 0 table
-  unfolding begun
-  begun-none = refl
+-- Nothing is filled at first,
+pub begun-none : (table : List ℕ) → replicate 2304 0 ≡ begun 0 table
+unfolding begun
+begun-none table = refl
 
+module _ (table : List ℕ) (fits : length table ≤ 2304) where
   -- then one cell after the other,
   pub begun-next : (at : ℕ) → at < length table → set (begun at table) at (getD table at 0) ≡ begun (at + 1) table
   unfolding begun
@@ -146,21 +146,24 @@ module _ (table : List ℕ) (fits : length table ≤ 2304) where
   begun-length at = padded-length 2304 0 (take at table) (omega (arith, length-take at table))
 
 -- ---- a row
+-- There is room for the table.
+pub table-fits : (n m : ℕ) (steps table : List ℕ) → Traversed n m steps → GoesBy n m steps table → length table ≤ 2304
+table-fits n m steps table S G = omega (arith, G .size, cells-fit n m steps S)
+
 module _ (n m : ℕ) (steps table cells : List ℕ) (S : Traversed n m steps) (G : GoesBy n m steps table) (i : ℕ) (row : i < n) where
-  -- There is room for the table.
-  table-fits : length table ≤ 2304
-  table-fits = omega (arith, G .size, cells-fit n m steps S)
+  fits : length table ≤ 2304
+  fits = table-fits n m steps table S G
 
   -- The first cell of a row is the left factor itself.
   pub row-first : cells ≡ begun (i * n) table → set cells (i * n) i ≡ begun (i * n + 1) table
   row-first e =
       let inside = place-inside i 0 n n row (omega arith) in
-      rw e (ap (λ (x : ℕ). set (begun (i * n) table) (i * n) x) (sym (G .first i row)) ∙ begun-next table table-fits (i * n) (omega (arith, G .size)))
+      rw e (ap (λ (x : ℕ). set (begun (i * n) table) (i * n) x) (sym (G .first i row)) ∙ begun-next table fits (i * n) (omega (arith, G .size)))
 
   module _ (j p k : ℕ) (b : j < n) (C : Comes m steps j p k) (e : cells ≡ begun (i * n + j) table) where
     -- The product with the parent is there,
     parent-cell : getD cells (i * n + p) 0 ≡ getD table (i * n + p) 0
-    parent-cell = rw e (begun-at table table-fits (i * n + j) (i * n + p) (omega (arith, C .earlier)) (omega (arith, G .size, place-inside i j n n row b)))
+    parent-cell = rw e (begun-at table fits (i * n + j) (i * n + p) (omega (arith, C .earlier)) (omega (arith, G .size, place-inside i j n n row b)))
 
     -- it is an index,
     pub row-inside : getD cells (i * n + p) 0 < n
@@ -172,4 +175,4 @@ module _ (n m : ℕ) (steps table cells : List ℕ) (S : Traversed n m steps) (G
         let onward : i * n + j + 1 ≡ i * n + (j + 1) = omega arith in
         let leads : getD steps (getD cells (i * n + p) 0 * m + k) 0 ≡ getD table (i * n + j) 0 =
         rw parent-cell (sym (G .next i p k row (omega (arith, C .earlier)) (C .generator)) ∙ ap (λ (x : ℕ). getD table (i * n + x) 0) (C .leads)) in
-        rw leads (ap (λ (l : List ℕ). set l (i * n + j) (getD table (i * n + j) 0)) e ∙ begun-next table table-fits (i * n + j) (omega (arith, G .size, place-inside i j n n row b)) ∙ ap (λ (x : ℕ). begun x table) onward)
+        rw leads (ap (λ (l : List ℕ). set l (i * n + j) (getD table (i * n + j) 0)) e ∙ begun-next table fits (i * n + j) (omega (arith, G .size, place-inside i j n n row b)) ∙ ap (λ (x : ℕ). begun x table) onward)
