@@ -6,7 +6,7 @@ use Prim.Native.Nat.{ℕ, _+_, _*_, _/_, _%_, _-_, _≤_, _<_}
 use native.Mathlib.Omega.{arith}
 use native.Mathlib.Nat.{suc-mul, mul-le-mul-right, div-add-mod', div-lt-iff-lt-mul, mod-lt}
 use lib.ListN.{length, getD, take, length-map, replicate}
-use lib.Seq.{take-at}
+use lib.Seq.{take-at, length-take-le}
 use Rattle.laws.specs.Motion.{SpaceMotion, compose, identity, compose-assoc, compose-identity}
 use Rattle.laws.specs.MotionsModulo.{Keeps, motions-monoid}
 use Rattle.operation.specs.Composed.{identity-motion}
@@ -27,14 +27,17 @@ use Rattle.space_group.specs.Members.{identity-first, at-most-48, member-near, 
 use Rattle.space_group.specs.Steps.{steps-length, step-right}
 use Rattle.symbol_group.specs.Answers.{outcomeAnswer, readingAnswer, symbolAnswer}
 use Rattle.symbol_group.specs.Exactly.{symbol-small}
-use Rattle.symbol_group.specs.declared.Answer.the-variants.{Group}
+use Rattle.symbol_group.specs.Slots.{symbol-slots}
+use Rattle.symbol_group.specs.declared.refusal.Refusal.{Refusal}
+use Rattle.symbol_group.specs.declared.Answer.the-variants.{Group, Refused}
 use Rattle.symbol_group.specs.declared.SymbolGroup.{SymbolGroup}
 use Rattle.group_record.specs.Groups.{Alike, Listing}
 use Rattle.group_record.specs.ListedForm.{alike-reflexive, alike-symmetric, alike-transitive}
 use Rattle.group_record.specs.AcceptedSymbols.{accepted-listing}
-use Rattle.group_table.specs.Tables.{tableOf}
+use Rattle.group_table.specs.Tables.{tableOf, cellsOf, symbolTable}
 use Rattle.group_table.specs.TableLaws.{motionAt, table-length, cell-at, cell-is, index-alike}
 use Rattle.group_table.specs.Parents.{parent-step}
+use Rattle.group_table.specs.declared.SymbolTable.{SymbolTable}
 use Rattle.group_table.specs.StepTables.{Traversed, GoesBy, place-inside, divisor}
 
 module _ (c : Centering) (gens operations : List Operation) (steps : List ℕ) (A : Accepted c gens operations steps) where
@@ -147,3 +150,16 @@ module _ (text : List ℕ) where
   pub symbol-steps : (g : SymbolGroup) → g ≡ symbolAnswer text → g .answer ≡ Group → TableBySteps g
   unfolding symbolAnswer
   symbol-steps g e a = rw e (reading-steps (readSymbol text) refl (sym (ap (λ (h : SymbolGroup). h .answer) e) ∙ a))
+
+  -- Where it is a group, its table is answered,
+  pub table-given : (g : SymbolGroup) → g ≡ symbolAnswer text → g .answer ≡ Group → (cells : List ℕ) → cells ≡ cellsOf (g .centering) (take (g .count) (g .operations)) → _≡_ {A = SymbolTable} (record { answer = Group; order = g .count; cells = cells }) (symbolTable text)
+  unfolding symbolTable
+  table-given g e a cells made =
+      let slots = symbol-slots text in
+      let whole : length (take (g .count) (g .operations)) ≡ g .count = length-take-le (g .count) (g .operations) (omega (arith, ap (λ (h : SymbolGroup). h .count) e, ap (λ (h : SymbolGroup). length (h .operations)) e)) in
+      rw (← e, a, whole, made)
+
+  -- and a refusal is passed on.
+  pub table-refused : (g : SymbolGroup) → g ≡ symbolAnswer text → (r : Refusal) → g .answer ≡ Refused r → _≡_ {A = SymbolTable} (record { answer = Refused r; order = 0; cells = replicate 2304 0 }) (symbolTable text)
+  unfolding symbolTable
+  table-refused g e r a = rw (← e, a)
