@@ -2,7 +2,7 @@
 use mathlib.Core.Path.{_≡_, sym, _∙_, ap}
 use mathlib.Core.Option.{some}
 use mathlib.Core.Bool.{Bool}
-use mathlib.Core.List.{List, _∷_, _++_, map, append-nil, List·Memᴰ as Mem, Memᴰ·of-map as mem-of-map}
+use mathlib.Core.List.{List, _∷_, _++_, append-nil, List·Memᴰ as Mem, Memᴰ·of-map as mem-of-map}
 use Prim.Native.Nat.{ℕ, _+_, _*_, _-_, _<_}
 use native.Mathlib.Omega.{arith}
 use native.Mathlib.Nat.{suc-mul, mul-le-mul-right}
@@ -10,7 +10,7 @@ use native.Mathlib.Decide.{decLt}
 use lib.ListN.{length, getD, length-map, length-append, List·getD-append, List·getD-map}
 use lib.Seq.{getD-append-add, getD-append-seam}
 use Rattle.laws.specs.Matrix.{times}
-use Rattle.laws.specs.Motion.{SpaceMotion, compose, identity}
+use Rattle.laws.specs.Motion.{compose, identity}
 use Rattle.laws.specs.Closure.{closure, closure-keeps, Kept, fresh-candidate, regroup}
 use Rattle.laws.specs.SameMatrix.{sameRotation}
 use Rattle.laws.specs.MotionsModulo.{compose-rotation}

@@ -1,19 +1,19 @@
 -- The table that the steps of a traversal make, row by row: what is asked of the steps, what they say of a table, and how far an array holds the table.
 use mathlib.Core.Path.{_≡_, refl, sym, _∙_, ap}
-use mathlib.Core.List.{List, [], _++_}
+use mathlib.Core.List.{List}
 use Prim.Native.Nat.{ℕ, zero, suc, _+_, _*_, _/_, _%_, _≤_, _<_}
 use native.Mathlib.Numerals.{add-one}
 use native.Mathlib.Omega.{arith}
 use native.Mathlib.Decide.{ℕ-discrete}
 use native.Mathlib.Nat.{suc-mul, mul-le-mul-right, div-add-mod', div-lt-iff-lt-mul, mod-lt}
-use lib.ListN.{length, getD, take, set, replicate, length-take}
+use lib.ListN.{length, getD, take, set, replicate}
 use lib.Seq.{take-suc, take-all, getD-take, length-take-le, getD-set-same, getD-set-other}
 use Rattle.space_group.specs.Traversal.{padded}
-use Rattle.space_group.specs.Resuming.{padded-set, padded-at, padded-length}
+use Rattle.space_group.specs.Resuming.{padded-set, padded-at}
 
 -- ---- the steps
--- With n operations and m generators the step of operation p by generator k, at p·m + k, leads to the index of their product; to each
--- operation but the first one leads that stands before the operation's own.
+-- With n operations and m generators the step at p·m + k leads from operation p by generator k to an operation; and to each operation but the first
+-- one leads that stands before the operation's own.
 pub record Traversed (n m : ℕ) (steps : List ℕ) : Type 0 where
   pub few : n ≤ 48
   pub narrow : m ≤ 9
@@ -27,16 +27,16 @@ pub record Comes (m : ℕ) (steps : List ℕ) (j p k : ℕ) : Type 0 where
   pub leads : getD steps (p * m + k) 0 ≡ j
 
 -- Of each operation but the first, whence it comes.
-abbrev pub Parents : ℕ → ℕ → List ℕ → List ℕ → List ℕ → Type 0
-Parents n m steps earlier generator = (j : ℕ) → 0 < j → j < n → Comes m steps j (getD earlier j 0) (getD generator j 0)
+abbrev pub AllCome : ℕ → ℕ → List ℕ → List ℕ → List ℕ → Type 0
+AllCome n m steps earlier generator = (j : ℕ) → 0 < j → j < n → Comes m steps j (getD earlier j 0) (getD generator j 0)
 
 -- The same of what the first steps lead to.
-abbrev pub ParentsUpTo : ℕ → ℕ → ℕ → List ℕ → List ℕ → List ℕ → Type 0
-ParentsUpTo at n m steps earlier generator =
+abbrev pub AllComeUpTo : ℕ → ℕ → ℕ → List ℕ → List ℕ → List ℕ → Type 0
+AllComeUpTo at n m steps earlier generator =
     (t j : ℕ) → t < at → t < j * m → j < n → getD steps t 0 ≡ j → Comes m steps j (getD earlier j 0) (getD generator j 0)
 
 -- ---- the table
--- A table of n rows goes by the steps: the first operation is the identity, and the step of j's parent, taken from the product with the parent, leads to
+-- A table of n rows goes by the steps: the first operation is the identity, and where generator k leads from p to j, it leads from the product with p to
 -- the product with j.
 pub record GoesBy (n m : ℕ) (steps table : List ℕ) : Type 0 where
   pub size : length table ≡ n * n
@@ -52,7 +52,7 @@ begun at table = padded 2304 0 (take at table)
 pub record RowReady (n m i : ℕ) (steps earlier generator cells : List ℕ) : Type 0 where
   pub row : i < n
   pub traversed : Traversed n m steps
-  pub parents : Parents n m steps earlier generator
+  pub parents : AllCome n m steps earlier generator
   pub table : List ℕ
   pub goes : GoesBy n m steps table
   pub filled : cells ≡ begun (i * n) table
@@ -83,23 +83,23 @@ module _ (n m : ℕ) (steps : List ℕ) (S : Traversed n m steps) where
 -- ---- the search for parents
 module _ (n m : ℕ) (steps earlier generator : List ℕ) where
   -- Once all steps were looked at, every parent is known.
-  pub parents-all : Traversed n m steps → ParentsUpTo (n * m) n m steps earlier generator → Parents n m steps earlier generator
-  parents-all S h j a b =
+  pub come-all : Traversed n m steps → AllComeUpTo (n * m) n m steps earlier generator → AllCome n m steps earlier generator
+  come-all S h j a b =
       let (t, lt, e) = S .parent j a b in
       h t j (omega (arith, mul-le-mul-right m b, suc-mul j m)) lt b e
 
-  module _ (at : ℕ) (h : ParentsUpTo at n m steps earlier generator) where
+  module _ (at : ℕ) (h : AllComeUpTo at n m steps earlier generator) where
     -- A step that does not stand before the steps of what it leads to is passed over,
-    pub parents-passed : getD steps at 0 * m ≤ at → ParentsUpTo (at + 1) n m steps earlier generator
-    parents-passed late t j lt before b e = elim (ℕ-discrete t at) [
+    pub come-passed : getD steps at 0 * m ≤ at → AllComeUpTo (at + 1) n m steps earlier generator
+    come-passed late t j lt before b e = elim (ℕ-discrete t at) [
       | yes q ↦ let same : getD steps at 0 ≡ j = rw q at e in absurd (omega (arith, ap (λ (x : ℕ). x * m) same))
       | no q ↦ h t j (omega arith) before b e
     ]
 
     -- and one that does is noted.
-    pub parents-noted : length earlier ≡ 48 → length generator ≡ 48 → getD steps at 0 < 48 → at < getD steps at 0 * m
-        → ParentsUpTo (at + 1) n m steps (set earlier (getD steps at 0) (at / m)) (set generator (getD steps at 0) (at % m))
-    parents-noted wide broad low first t j lt before b e = elim (ℕ-discrete j (getD steps at 0)) [
+    pub come-noted : length earlier ≡ 48 → length generator ≡ 48 → getD steps at 0 < 48 → at < getD steps at 0 * m
+        → AllComeUpTo (at + 1) n m steps (set earlier (getD steps at 0) (at / m)) (set generator (getD steps at 0) (at % m))
+    come-noted wide broad low first t j lt before b e = elim (ℕ-discrete j (getD steps at 0)) [
       | yes q ↦
           let positive = divisor at (getD steps at 0) m first in
           rw (q, getD-set-same earlier (getD steps at 0) (at / m) 0 (omega arith), getD-set-same generator (getD steps at 0) (at % m) 0 (omega arith))
@@ -139,11 +139,6 @@ module _ (table : List ℕ) (fits : length table ≤ 2304) where
   pub begun-at : (at t : ℕ) → t < at → at ≤ length table → getD (begun at table) t 0 ≡ getD table t 0
   unfolding begun
   begun-at at t h k = padded-at 2304 0 (take at table) t 0 (omega (arith, length-take-le at table k)) ∙ getD-take at table t 0 h
-
-  -- There are as many slots as there should be.
-  pub begun-length : (at : ℕ) → length (begun at table) ≡ 2304
-  unfolding begun
-  begun-length at = padded-length 2304 0 (take at table) (omega (arith, length-take at table))
 
 -- ---- a row
 -- There is room for the table.

@@ -1,11 +1,11 @@
 -- The table of an accepted symbol's operations goes by the steps of its traversal: a product with op_j, where op_j is op_p times generator k modulo L, is
 -- the product with op_p times generator k.
 use mathlib.Core.Path.{_≡_, refl, sym, _∙_, ap}
-use mathlib.Core.List.{List, map, Memᴰ·map as mem-map}
+use mathlib.Core.List.{List, Memᴰ·map as mem-map}
 use Prim.Native.Nat.{ℕ, _+_, _*_, _/_, _%_, _-_, _≤_, _<_}
 use native.Mathlib.Omega.{arith}
 use native.Mathlib.Nat.{suc-mul, mul-le-mul-right, div-add-mod', div-lt-iff-lt-mul, mod-lt}
-use lib.ListN.{length, getD, take, length-map, replicate}
+use lib.ListN.{length, getD, take, replicate}
 use lib.Seq.{take-at, length-take-le}
 use Rattle.laws.specs.Motion.{SpaceMotion, compose, identity, compose-assoc, compose-identity}
 use Rattle.laws.specs.MotionsModulo.{Keeps, motions-monoid}

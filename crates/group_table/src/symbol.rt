@@ -3,22 +3,22 @@
 ghost use mathlib.Core.Path.{_≡_};
 ghost use lib.ListN.{take};
 ghost use Rattle.group_table.specs.Tables.{cellsOf, symbolTable};
-ghost use Rattle.group_table.specs.StepTables.{Traversed, Parents, RowReady, RowFilled};
+ghost use Rattle.group_table.specs.StepTables.{Traversed, AllCome, RowReady, RowFilled};
 ghost use Rattle.group_table.specs.SymbolSteps.{TableBySteps};
 use crate::SymbolTable;
 use symbol_group::Answer;
 use symbol_group::SymbolGroup;
 
-// Of each operation but the first: the index of an earlier one, and that of the generator that leads from there to it.
-struct Origins {
+// The parent of each operation but the first: the index of an earlier operation, and that of the generator that leads from there to it.
+struct Parents {
     earlier: [u8; 48],
     generator: [u8; 48],
 }
 
 // A step that stands before the steps of the operation that it leads to comes from an earlier one.
-fn find_origins(steps: &[u8; 432], count: usize, generators: usize) -> Origins
+fn find_parents(steps: &[u8; 432], count: usize, generators: usize) -> Parents
     requires { ⌜ Traversed count generators (now steps) ⌝ }
-    ensures { λ r. ⌜ Parents count generators (now (steps .entry)) (r .earlier) (r .generator) ⌝ }
+    ensures { λ r. ⌜ AllCome count generators (now (steps .entry)) (r .earlier) (r .generator) ⌝ }
 {
     let mut earlier = [0u8; 48];
     let mut generator = [0u8; 48];
@@ -32,15 +32,15 @@ fn find_origins(steps: &[u8; 432], count: usize, generators: usize) -> Origins
         }
         at += 1;
     }
-    Origins { earlier, generator }
+    Parents { earlier, generator }
 }
 
-// The products of operation i, each by the step that leads on from the product with its right factor's origin.
-fn fill_row<'a>(
+// The products of operation i, each by the step that leads on from the product with its right factor's parent.
+fn fill_row(
     cells: &mut [u8; 2304],
-    steps: &'a [u8; 432],
-    earlier: &'a [u8; 48],
-    generator: &'a [u8; 48],
+    steps: &[u8; 432],
+    earlier: &[u8; 48],
+    generator: &[u8; 48],
     count: usize,
     generators: usize,
     i: usize,
@@ -60,6 +60,7 @@ fn fill_row<'a>(
     }
 }
 
+// The cells of an accepted symbol's table, row by row.
 fn filled(g: SymbolGroup) -> [u8; 2304]
     requires { ⌜ TableBySteps g ⌝ }
     ensures { λ r. ⌜ r ≡ cellsOf (g .centering) (take (g .count) (g .operations)) ⌝ }
@@ -67,7 +68,7 @@ fn filled(g: SymbolGroup) -> [u8; 2304]
     let steps = g.steps;
     let count = g.count;
     let generators = g.generators;
-    let found = find_origins(&steps, count, generators);
+    let found = find_parents(&steps, count, generators);
     let earlier = found.earlier;
     let generator = found.generator;
     let mut cells = [0u8; 2304];

@@ -22,7 +22,7 @@ slot c j b =
     let a = c .args in
     omega (arith, place-inside (a .i) j (a .count) (a .count) (c .pre .row) b, cells-fit (a .count) (a .generators) (a .steps .now) (c .pre .traversed))
 
--- Column j has its origin,
+-- Column j has its parent,
 comes : (c : tie.In-loop Inv-loop μ-loop) → Comes (c .before .before .args .generators) (c .before .before .args .steps .now) (c .before .loop .j) (getD (c .before .before .args .earlier .now) (c .before .loop .j) 0) (getD (c .before .before .args .generator .now) (c .before .loop .j) 0)
 comes c = c .before .before .pre .parents (c .before .loop .j) (omega arith) (c .loop-test .taken)
 
@@ -33,7 +33,7 @@ held c =
     let R = c .before .before .pre in
     c .before .loop .inv .2 (R .table) (R .goes) (row-first (a .count) (a .generators) (a .steps .now) (R .table) (a .cells .now) (R .traversed) (R .goes) (a .i) (R .row) (R .filled))
 
--- and what it has at the origin is an index, whose step has a slot.
+-- and what it has at the parent is an index, whose step has a slot.
 step-slot : (c : tie.In-loop Inv-loop μ-loop) →
     let a = c .before .before .args in
     let left = getD (c .before .loop .cells) (a .i * a .count + getD (a .earlier .now) (c .before .loop .j) 0) 0 in

@@ -11,7 +11,7 @@ use Rattle.group_table.proofs.symbol.filled.Tie as tie
 use Rattle.group_table.proofs.symbol.filled.Reads as reads
 use Rattle.group_table.proofs.symbol.filled.Lts as lts
 use Rattle.group_table.proofs.symbol.fill_row.Reads as fill-row-reads
-use Rattle.group_table.proofs.symbol.find_origins.Reads as find-origins-reads
+use Rattle.group_table.proofs.symbol.find_parents.Reads as find-parents-reads
 
 abbrev Inv-loop : tie.InvT-loop
 Inv-loop steps count generators earlier generator cells₀ i₀ cells i = (i ≤ count) × ((table : List ℕ) → GoesBy count generators steps table → cells ≡ begun (i * count) table)
@@ -19,8 +19,8 @@ Inv-loop steps count generators earlier generator cells₀ i₀ cells i = (i ≤
 abbrev μ-loop : tie.MeasureT-loop
 μ-loop steps count generators earlier generator cells₀ i₀ cells i = count - i
 
-find-origins-requires : tie.Need-find-origins-requires Inv-loop μ-loop
-find-origins-requires c κs = c .before .before .pre .traversed
+find-parents-requires : tie.Need-find-parents-requires Inv-loop μ-loop
+find-parents-requires c κs = c .before .before .pre .traversed
 
 loop-holds : tie.Need-loop-holds Inv-loop μ-loop
 loop-holds c =
@@ -35,7 +35,7 @@ fill-row-requires c κs =
     record {
       row = loop .loop-test .taken;
       traversed = start .pre .traversed;
-      parents = loop .before .before .before .before .find-origins .ensures;
+      parents = loop .before .before .before .before .find-parents .ensures;
       table = tableOf (a .g .centering) (take (a .g .count) (a .g .operations));
       goes = start .pre .goes;
       filled = loop .before .loop .inv .1 _ (start .pre .goes);
@@ -77,7 +77,7 @@ filled-spec =
     (tie.spec
     Inv-loop
     μ-loop
-    find-origins-requires
+    find-parents-requires
     loop-holds
     fill-row-requires
     add-i

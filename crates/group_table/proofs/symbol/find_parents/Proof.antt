@@ -1,18 +1,18 @@
 -- The invariant: of what the steps looked at so far lead to, whence it comes is noted.
 use mathlib.Core.Path.{_≡_, refl, _∙_}
 use mathlib.Core.Logic.{⊎-elim}
-use Prim.Native.Nat.{_≤_, _<_, _*_, _-_, _/_, _%_, _+_}
+use Prim.Native.Nat.{_≤_, _<_, _*_, _-_, _/_, _%_}
 use native.Mathlib.Nat.{div-lt-iff-lt-mul, mod-lt, mul-le-mul-right}
 use native.Mathlib.Omega.{arith}
-use lib.ListN.{length, getD, set, length-set}
-use Rattle.group_table.specs.StepTables.{ParentsUpTo, divisor, steps-fit, parents-all, parents-passed, parents-noted}
-use Rattle.group_table.proofs.symbol.find_origins.Statement.{statement}
-use Rattle.group_table.proofs.symbol.find_origins.Tie as tie
-use Rattle.group_table.proofs.symbol.find_origins.Reads as reads
-use Rattle.group_table.proofs.symbol.find_origins.Lts as lts
+use lib.ListN.{length, getD, length-set}
+use Rattle.group_table.specs.StepTables.{AllComeUpTo, divisor, steps-fit, come-all, come-passed, come-noted}
+use Rattle.group_table.proofs.symbol.find_parents.Statement.{statement}
+use Rattle.group_table.proofs.symbol.find_parents.Tie as tie
+use Rattle.group_table.proofs.symbol.find_parents.Reads as reads
+use Rattle.group_table.proofs.symbol.find_parents.Lts as lts
 
 abbrev Inv-loop : tie.InvT-loop
-Inv-loop steps count generators earlier₀ generator₀ end at₀ earlier generator at = (at ≤ count * generators) × (length earlier ≡ 48) × (length generator ≡ 48) × ParentsUpTo at count generators steps earlier generator
+Inv-loop steps count generators earlier₀ generator₀ end at₀ earlier generator at = (at ≤ count * generators) × (length earlier ≡ 48) × (length generator ≡ 48) × AllComeUpTo at count generators steps earlier generator
 
 abbrev μ-loop : tie.MeasureT-loop
 μ-loop steps count generators earlier₀ generator₀ end at₀ earlier generator at = end - at
@@ -25,9 +25,9 @@ fit c = steps-fit (c .args .count) (c .args .generators) (c .args .steps .now) (
 low : (c : tie.In-loop Inv-loop μ-loop) → (getD (c .before .before .args .steps .now) (c .before .loop .at) 0 < 48) × (c .before .before .args .generators ≤ 9)
 low c = let S = c .before .before .pre in (omega (arith, S .inside (c .before .loop .at) (c .loop-test .taken), S .few), S .narrow)
 
--- Where the step comes from.
-origin : (c : tie.Then1 Inv-loop μ-loop) → (0 < c .before .before .before .before .args .generators) × (c .before .before .before .loop .at / c .before .before .before .before .args .generators < 48) × (c .before .before .before .loop .at % c .before .before .before .before .args .generators < 9)
-origin c =
+-- Where a step comes from is small.
+parent : (c : tie.Then1 Inv-loop μ-loop) → (0 < c .before .before .before .before .args .generators) × (c .before .before .before .loop .at / c .before .before .before .before .args .generators < 48) × (c .before .before .before .loop .at % c .before .before .before .before .args .generators < 9)
+parent c =
     let at = c .before .before .before .loop .at in
     let m = c .before .before .before .before .args .generators in
     let to = getD (c .before .before .before .before .args .steps .now) at 0 in
@@ -57,19 +57,19 @@ mul-if1 c = record {
 }
 
 div-earlier : tie.Need-div-earlier Inv-loop μ-loop
-div-earlier c = origin c .0
+div-earlier c = parent c .0
 
 cast-earlier : tie.Need-cast-earlier Inv-loop μ-loop
-cast-earlier c = record { fits = let (_, below, _) = origin c in omega arith }
+cast-earlier c = record { fits = let (_, below, _) = parent c in omega arith }
 
 array-write-earlier : tie.Need-array-write-earlier Inv-loop μ-loop
 array-write-earlier c = low (c .before .before) .0
 
 rem-generator : tie.Need-rem-generator Inv-loop μ-loop
-rem-generator c = origin c .0
+rem-generator c = parent c .0
 
 cast-generator : tie.Need-cast-generator Inv-loop μ-loop
-cast-generator c = record { fits = let (_, _, below) = origin c in omega arith }
+cast-generator c = record { fits = let (_, _, below) = parent c in omega arith }
 
 array-write-generator : tie.Need-array-write-generator Inv-loop μ-loop
 array-write-generator c = low (c .before .before) .0
@@ -90,9 +90,9 @@ loop-again c =
     let m = a .generators in
     ⊎-elim
     (λ w. rw (w .1, w .2)
-    (omega arith, length-set (l .earlier) _ _ ∙ wide, length-set (l .generator) _ _ ∙ broad, parents-noted n m (a .steps .now) (l .earlier) (l .generator) (l .at) upTo wide broad below (w .0 .taken)))
+    (omega arith, length-set (l .earlier) _ _ ∙ wide, length-set (l .generator) _ _ ∙ broad, come-noted n m (a .steps .now) (l .earlier) (l .generator) (l .at) upTo wide broad below (w .0 .taken)))
     (λ w. rw (w .1, w .2)
-    (omega arith, wide, broad, parents-passed n m (a .steps .now) (l .earlier) (l .generator) (l .at) upTo (w .0 .left)))
+    (omega arith, wide, broad, come-passed n m (a .steps .now) (l .earlier) (l .generator) (l .at) upTo (w .0 .left)))
     (c .if1 .came)
 
 returns : tie.Need-returns Inv-loop μ-loop
@@ -100,10 +100,10 @@ returns c =
     let a = c .before .before .args in
     let l = c .before .loop in
     let all : l .at ≡ a .count * a .generators = omega arith in
-    parents-all (a .count) (a .generators) (a .steps .now) (l .earlier) (l .generator) (c .before .before .pre) (rw all at (l .inv .3))
+    come-all (a .count) (a .generators) (a .steps .now) (l .earlier) (l .generator) (c .before .before .pre) (rw all at (l .inv .3))
 
-pub find-origins-spec : {M : Type 1} → statement M
-find-origins-spec =
+pub find-parents-spec : {M : Type 1} → statement M
+find-parents-spec =
     tie.close
     (tie.spec
     Inv-loop
