@@ -1,11 +1,14 @@
 -- Tables of groups of motions: what the table of a list of operations is, and what is answered for a text and for a record.
 pub mod Tables
 pub mod TableLaws
+-- A record's table, by a search for each product.
 pub mod CodeSearch
 pub mod ReadTables
-pub mod TableMotions
-pub mod TableGroups
-pub mod TableAnswers
+-- A symbol's table, by the steps of its traversal.
 pub mod Parents
 pub mod StepTables
 pub mod SymbolSteps
+-- What the tables say of motions.
+pub mod TableMotions
+pub mod TableGroups
+pub mod TableAnswers
