@@ -1,7 +1,7 @@
 -- The loops of the search: what each of them keeps, and what the search answers in the end.
 use mathlib.Core.Path.{_≡_, refl, sym, ap, ap₂, _∙_, subst}
 use mathlib.Core.Logic.{inl, inr}
-use mathlib.Core.Bool.{Bool, true, false, cond}
+use mathlib.Core.Bool.{Bool, true, false}
 use mathlib.Core.List.{List, [], _∷_, _++_, List·Memᴰ as Mem, List·Memᴰ·head as here, List·Memᴰ·cases-cons as cases, List·Memᴰ·not-nil as not-nil, List·Memᴰ·eq-of-singleton as mem-one, Memᴰ·append-right as mem-right}
 use Prim.Native.Nat.{ℕ, suc, _+_, _*_, _-_, _/_, _^_, _<_, _≤_}
 use native.Mathlib.Decide.{decLt}
@@ -12,7 +12,7 @@ use lib.Seq.{split-at, drop-at, drop-append-add, drop-drop}
 use Rattle.laws.specs.ListOrder.{Precedes, precedes-irreflexive}
 use Rattle.laws.specs.Sets.{member, subset-antisymmetric}
 use Rattle.laws.specs.Sorted.{sorted-one, at-member}
-use Rattle.subgroup_laws.specs.Adjoin.{Barred, Extension, singleton-self, singleton-only}
+use Rattle.subgroup_laws.specs.Adjoin.{Extension, singleton-self, singleton-only}
 use Rattle.subgroup_laws.specs.Conjugation.{conjugate-source, conjugate-holds, conjugate-of-identity}
 use Rattle.subgroup_laws.specs.Groups.{Group}
 use Rattle.subgroup_laws.specs.Listing.{listed, listed-unique, listed-longest}
@@ -66,14 +66,6 @@ module _ (n : ℕ) (_·_ : ℕ → ℕ → ℕ) (e : ℕ) (classes : Bool) where
     -- h is its own extension by its members
     pub member-settled : member h g ≡ true → (l : List ℕ) → Mem h l → Settled n _·_ e classes l h g
     member-settled i l m = inl (h, own-extension n _·_ e classes G h g S i, listed-itself n _·_ e classes G l h (S .small) m)
-
-    -- an extension that holds a new element below g is passed over
-    pub barred-settled : Barred n _·_ e h g (cond classes 0 g) → (l : List ℕ) → Mem h l → Settled n _·_ e classes l h g
-    barred-settled B l m = either classes refl B
-      where
-        either : (c : Bool) → classes ≡ c → Barred n _·_ e h g (cond c 0 g) → Settled n _·_ e classes l h g
-        either true q B = absurd (let k = B .low in omega arith)
-        either false q B = inr (q, B)
 
     module _ (limit : n ≤ 48) (k m : ℕ) (E : Extension n _·_ e h g k) (new : member h g ≡ false) (R : Represented n _·_ e classes k m) where
       -- an extension whose representative is listed is settled

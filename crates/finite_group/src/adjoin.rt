@@ -78,23 +78,13 @@ fn taken(
 }
 
 // The representative r is followed by g and by the members of h.
-fn swept(
-    t: &[u8],
-    n: usize,
-    e: usize,
-    h: u64,
-    g: usize,
-    bound: usize,
-    k: u64,
-    waiting: u64,
-    r: usize,
-) -> Growth
-    requires { ⌜ (GroupTable n (now t) e) × (Subgroup n (product n (now t)) e h) × (g < n) × (bound ≤ n)
+fn swept(t: &[u8], n: usize, e: usize, h: u64, g: usize, k: u64, waiting: u64, r: usize) -> Growth
+    requires { ⌜ (GroupTable n (now t) e) × (Subgroup n (product n (now t)) e h) × (g < n)
         × (Forced n (product n (now t)) e h g r)
-        × (Growing n (product n (now t)) e h g bound k waiting (λ (x : ℕ). x ≡ r)) ⌝ }
-    ensures { λ s. ⌜ Swept n (product n (now (t .entry))) e h g bound k waiting s ⌝ }
+        × (Growing n (product n (now t)) e h g g k waiting (λ (x : ℕ). x ≡ r)) ⌝ }
+    ensures { λ s. ⌜ Swept n (product n (now (t .entry))) e h g g k waiting s ⌝ }
 {
-    let first = taken(t, n, e, h, bound, k, waiting, cell(t, n, r, g));
+    let first = taken(t, n, e, h, g, k, waiting, cell(t, n, r, g));
     if !first.ok {
         return first;
     }
@@ -103,7 +93,7 @@ fn swept(
     let mut left = h;
     while 0 < left {
         let x = lowest(left);
-        let next = taken(t, n, e, h, bound, set, rest, cell(t, n, r, x));
+        let next = taken(t, n, e, h, g, set, rest, cell(t, n, r, x));
         if !next.ok {
             return next;
         }
@@ -119,17 +109,17 @@ fn swept(
     }
 }
 
-// The least subgroup that holds h and g; or 0 if it holds an element below the bound that h does not hold.
-pub(crate) fn adjoin(t: &[u8], n: usize, e: usize, h: u64, g: usize, bound: usize) -> u64
-    requires { ⌜ (GroupTable n (now t) e) × (Subgroup n (product n (now t)) e h) × (g < n) × (bound ≤ n) ⌝ }
-    ensures { λ r. ⌜ Adjoined n (product n (now (t .entry))) e h g bound r ⌝ }
+// The least subgroup that holds h and g; or 0 if it holds an element below g that h does not hold: the search finds it elsewhere.
+pub(crate) fn adjoin(t: &[u8], n: usize, e: usize, h: u64, g: usize) -> u64
+    requires { ⌜ (GroupTable n (now t) e) × (Subgroup n (product n (now t)) e h) × (g < n) ⌝ }
+    ensures { λ r. ⌜ Adjoined n (product n (now (t .entry))) e h g g r ⌝ }
 {
     let mut set = h;
     let mut waiting = 1u64 << e;
     while 0 < waiting {
         let r = lowest(waiting);
         let rest = without(waiting, r);
-        let next = swept(t, n, e, h, g, bound, set, rest, r);
+        let next = swept(t, n, e, h, g, set, rest, r);
         if !next.ok {
             return 0;
         }

@@ -1,7 +1,6 @@
 // The search for subgroups, or for one of each class, in the lent slots.
 // Ported from subgroup/finite_group.rs of moyo 0.21.0 (`enumerate_subgroups`), and changed: the list is kept in order, in lent slots.
 ghost use mathlib.Core.Path.{_≡_};
-ghost use mathlib.Core.Bool.{cond};
 ghost use Prim.Native.Nat.{_<_, _≤_, _+_, _*_};
 ghost use lib.ListN.{length};
 ghost use Rattle.subgroup_laws.specs.Listing.{listed};
@@ -27,16 +26,6 @@ pub(crate) enum Found {
     Full,
 }
 
-// Where all subgroups are asked for, those are passed over that hold a new element below g: they come from elsewhere.
-fn bound_of(classes: bool, g: usize) -> usize
-    ensures { λ r. ⌜ r ≡ cond classes 0 g ⌝ }
-{
-    if classes {
-        return 0;
-    }
-    g
-}
-
 // The extension of h by g is put into the list, in front of h.
 fn extend_by(
     sets: &mut [u8],
@@ -54,7 +43,7 @@ fn extend_by(
     if contains(h, g) {
         return Found::Count(count);
     }
-    let k = adjoin(t, n, e, h, g, bound_of(classes, g));
+    let k = adjoin(t, n, e, h, g);
     if k == 0 {
         return Found::Count(count);
     }

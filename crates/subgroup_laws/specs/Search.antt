@@ -1,10 +1,10 @@
 -- The search for subgroups, or for one of each class: a list in order grows from the trivial subgroup. Each listed set h, the last first, is
--- extended by each element g; what comes has more members than h, so it stands before h, and what stands behind h is settled. The idea
--- of completeness: a subgroup S takes its elements in ascending order, and at each of them a listed set, or a conjugate of one, lies
--- inside S and has all of S below the next.
+-- extended by each element g; what comes has more members than h, so it stands before h, and what stands behind h is settled. An extension
+-- that holds a new element below g is passed over. The idea of completeness: where a listed set, moved by a conjugation, lies inside a
+-- subgroup S and is not S, its extension by the lowest element that S has more, moved back, is not passed over and lies inside S too.
 use mathlib.Core.Path.{_≡_, refl, sym, ap, ap₂, _∙_, subst}
 use mathlib.Core.Logic.{_⊎_, inl, inr}
-use mathlib.Core.Bool.{Bool, true, false, true≢false}
+use mathlib.Core.Bool.{Bool, true, false, not, _&&_, true≢false}
 use mathlib.Core.List.{List, [], _∷_, _++_, append-assoc, List·Memᴰ as Mem, List·Memᴰ·head as here, List·Memᴰ·tail as there, List·Memᴰ·not-nil as not-nil, List·Memᴰ·cases-cons as cases, List·Memᴰ·append-cases as append-cases, Memᴰ·append-left as mem-left, Memᴰ·append-right as mem-right, Memᴰ·cast as mem-cast}
 use Prim.Native.Nat.{ℕ, zero, suc, _+_, _*_, _/_, _^_, _<_, _≤_}
 use native.Mathlib.Decide.{ℕ-discrete, decLt}
@@ -13,18 +13,18 @@ use native.Mathlib.Omega.{arith}
 use lib.Count.{ones}
 use lib.ListN.{length, getD, take, drop, length-append, length-drop, take-append-drop}
 use lib.Pow.{pow-mono}
-use borrow.Author.Tests.{eqb-true}
+use borrow.Author.Tests.{eqb-true, not-true}
 use lib.Seq.{drop-cons, drop-drop, getD-take, take-append-le, drop-append-le, length-take-le}
 use Rattle.laws.specs.ListOrder.{Precedes, more-members, precedes-total, precedes-strict, earlier, earlier-precedes, precedes-earlier}
-use Rattle.laws.specs.Sets.{member, member-below, Subset, subset-antisymmetric, ones-proper, member-singleton}
+use Rattle.laws.specs.Sets.{member, member-below, Subset, subset-antisymmetric, ones-subset, ones-proper, member-singleton}
 use Rattle.laws.specs.Sorted.{Sorted, sorted-cons, sorted-append, append-sorted-left, append-sorted-right, append-sorted-across, at-member, before-all}
 use Rattle.subgroup_laws.specs.Adjoin.{Barred, Extension}
-use Rattle.subgroup_laws.specs.Bounded.{passes-or-fails}
-use Rattle.subgroup_laws.specs.Conjugation.{conjugate-subset, conjugate-set-by-identity, conjugate-set-twice, conjugate-set-back, conjugate-set-forth, conjugate-subgroup, conjugate-below, conjugate-holds, conjugate-forth, conjugate-element-below, inverse-below, conjugate-by-identity}
+use Rattle.subgroup_laws.specs.Bounded.{FirstPassing, first-cases, passes-or-fails, and-both, both-and}
+use Rattle.subgroup_laws.specs.Conjugation.{conjugate-ones, conjugate-subset, conjugate-set-by-identity, conjugate-set-twice, conjugate-set-back, conjugate-set-forth, conjugate-subgroup, inverse-below}
 use Rattle.subgroup_laws.specs.Groups.{Group, inverseOf}
 use Rattle.subgroup_laws.specs.Lists.{Chosen}
 use Rattle.subgroup_laws.specs.Slots.{Place, packed, bytesOf, movedUp, slotAt, Words, slot-packed, insertAt, inserted}
-use Rattle.subgroup_laws.specs.Subsets.{Subgroup, conjugateOf, conjugateElement}
+use Rattle.subgroup_laws.specs.Subsets.{Subgroup, conjugateOf}
 
 -- ---- lists
 
@@ -127,7 +127,7 @@ module _ (n : ℕ) (_·_ : ℕ → ℕ → ℕ) (e : ℕ) (classes : Bool) where
 
   -- the extension of h by g is listed; or it may be passed over, as it holds a new element below g
   abbrev pub Settled : List ℕ → ℕ → ℕ → Type 0
-  Settled l h g = ((k : ℕ) × Extension n _·_ e h g k × Listed l k) ⊎ ((classes ≡ false) × Barred n _·_ e h g g)
+  Settled l h g = ((k : ℕ) × Extension n _·_ e h g k × Listed l k) ⊎ Barred n _·_ e h g g
 
   -- there are more chosen sets than slots
   pub record TooMany (slots : ℕ) : Type 0 where
@@ -259,18 +259,17 @@ module _ (n : ℕ) (_·_ : ℕ → ℕ → ℕ) (e : ℕ) (classes : Bool) where
       pub settled : (h g : ℕ) → Mem h l → g < n → Settled l h g
 
     module _ (l : List ℕ) (C : Complete l) (S : ℕ) (T : Subgroup n _·_ e S) where
-      -- a listed set, or a conjugate of one, lies inside S and has all of S below i
-      record Inside (i : ℕ) : Type 0 where
+      -- a listed set, moved by a conjugation, lies inside S
+      record Inside : Type 0 where
         set : ℕ
         listed : Mem set l
         conjugator : ℕ
         below : conjugator < n
         same : classes ≡ false → conjugator ≡ e
         within : Subset (conjugateOf n _·_ e set conjugator) S
-        covers : (j : ℕ) → j < i → member S j ≡ true → member (conjugateOf n _·_ e set conjugator) j ≡ true
 
       -- the trivial subgroup lies inside
-      inside-start : Inside 0
+      inside-start : Inside
       inside-start = record {
         set = 2 ^ e;
         listed = C .trivial;
@@ -278,26 +277,13 @@ module _ (n : ℕ) (_·_ : ℕ → ℕ → ℕ) (e : ℕ) (classes : Bool) where
         below = G .identity-below;
         same = λ q. refl;
         within = λ x m. trivial-inside x (subst (λ (s : ℕ). member s x ≡ true) (conjugate-set-by-identity n _·_ e G (2 ^ e) (C .chosen _ (C .trivial) .subgroup .small)) m);
-        covers = λ j h. absurd (omega arith);
       }
         where
           trivial-inside : (x : ℕ) → member (2 ^ e) x ≡ true → member S x ≡ true
           trivial-inside x m = subst (λ (s : ℕ). member S s ≡ true) (eqb-true e x (sym (member-singleton e x) ∙ m)) (T .holds-identity)
 
-      -- an element more that is not in S, or is in the conjugate already, changes nothing
-      inside-more : (i : ℕ) (I : Inside i) → (member S i ≡ true → member (conjugateOf n _·_ e (I .set) (I .conjugator)) i ≡ true) → Inside (suc i)
-      inside-more i I f = record {
-        set = I .set;
-        listed = I .listed;
-        conjugator = I .conjugator;
-        below = I .below;
-        same = I .same;
-        within = I .within;
-        covers = λ j h m. elim (ℕ-discrete j i) [ yes q ↦ rw q (f (rw q at m)) | no q ↦ I .covers j (omega arith) m ];
-      }
-
-      -- an element of S that is new extends the listed set
-      module _ (i : ℕ) (I : Inside i) (m : member S i ≡ true) where
+      -- a listed set that lies inside
+      module _ (I : Inside) where
         -- the listed set
         abbrev old : ℕ
         old = I .set
@@ -310,105 +296,115 @@ module _ (n : ℕ) (_·_ : ℕ → ℕ → ℕ) (e : ℕ) (classes : Bool) where
         abbrev back : ℕ
         back = inverseOf n _·_ e mover
 
-        -- the element that mover conjugates to i
-        abbrev source : ℕ
-        source = conjugateElement n _·_ e i back
-
-        -- i is an element
-        element-below : i < n
-        element-below = member-below n S i (T .small) m
-
-        -- so is the way back
+        -- the way back is an element
         back-below : back < n
         back-below = inverse-below n _·_ e G mover (I .below)
-
-        -- and so is what is conjugated to i
-        source-below : source < n
-        source-below = conjugate-element-below n _·_ e G i back element-below back-below
-
-        -- the conjugator takes it to i
-        source-forth : conjugateElement n _·_ e source mover ≡ i
-        source-forth = conjugate-forth n _·_ e G i mover element-below (I .below)
 
         -- the listed set is one of elements
         small-old : old < 2 ^ n
         small-old = C .chosen old (I .listed) .subgroup .small
 
-        -- S conjugated back
+        -- S moved back
         abbrev behind : ℕ
         behind = conjugateOf n _·_ e S back
+
+        -- it is a subgroup
+        behind-subgroup : Subgroup n _·_ e behind
+        behind-subgroup = conjugate-subgroup n _·_ e G S back back-below T
 
         -- the listed set lies inside it
         old-behind : Subset old behind
         old-behind = subst (λ (s : ℕ). Subset s behind) (conjugate-set-back n _·_ e G old mover small-old (I .below))
             (conjugate-subset n _·_ e G _ S back (T .small) back-below (I .within))
 
-        -- the extension, which is listed, lies inside
-        extended-inside : (k : ℕ) → Extension n _·_ e old source k → Listed l k → Inside (suc i)
-        extended-inside k E L = record {
-          set = L .set;
-          listed = L .listed;
-          conjugator = L .conjugator · mover;
-          below = G .product-below _ mover (L .below) (I .below);
-          same = λ q. ap₂ _·_ (L .same q) (I .same q) ∙ G .left-identity e (G .identity-below);
-          within = λ z j. inner z (subst (λ (s : ℕ). member s z ≡ true) whole j);
-          covers = λ j h u. subst (λ (s : ℕ). member s j ≡ true) (sym whole) (elim (ℕ-discrete j i) [
-            | yes q ↦ subst (λ (z : ℕ). member (conjugateOf n _·_ e k mover) z ≡ true) (source-forth ∙ sym q) (conjugate-holds n _·_ e G k mover source (E .subgroup .small) (I .below) (E .adjoined))
-            | no q ↦ conjugate-subset n _·_ e G old k mover (E .subgroup .small) (I .below) (E .over) j (I .covers j (omega arith) u)
-          ]);
-        }
+        -- an element that S, moved back, has more than the listed set
+        abbrev isMore : ℕ → Bool
+        isMore j = member behind j && not (member old j)
+
+        -- without one the listed set is S, moved back
+        none-more : ((j : ℕ) → j < n → isMore j ≡ false) → S ≡ conjugateOf n _·_ e old mover
+        none-more none =
+            sym (conjugate-set-forth n _·_ e G S mover (T .small) (I .below))
+            ∙ ap (λ (s : ℕ). conjugateOf n _·_ e s mover) (subset-antisymmetric behind old (λ j m. held j m (none j (member-below n behind j (behind-subgroup .small) m))) old-behind)
           where
-            whole : conjugateOf n _·_ e (L .set) (L .conjugator · mover) ≡ conjugateOf n _·_ e k mover
-            whole = sym (conjugate-set-twice n _·_ e G (L .set) (L .conjugator) mover (C .chosen _ (L .listed) .subgroup .small) (L .below) (I .below))
-                ∙ ap (λ (s : ℕ). conjugateOf n _·_ e s mover) (sym (L .conjugate))
+            held : (j : ℕ) → member behind j ≡ true → isMore j ≡ false → member old j ≡ true
+            held j m f = elim (passes-or-fails (member old j)) [
+              | inl i ↦ i
+              | inr o ↦ absurd (true≢false (sym (both-and _ _ m (ap not o)) ∙ f))
+            ]
 
-            inner : Subset (conjugateOf n _·_ e k mover) S
-            inner = subst (λ (s : ℕ). Subset (conjugateOf n _·_ e k mover) s) (conjugate-set-forth n _·_ e G S mover (T .small) (I .below))
-                (conjugate-subset n _·_ e G k behind mover (conjugate-below n _·_ e G S back) (I .below)
-                (E .least behind (conjugate-subgroup n _·_ e G S back back-below T) old-behind (conjugate-holds n _·_ e G S back i (T .small) back-below m)))
+        -- with a lowest one the extension by it is not passed over, is listed, and lies inside too
+        module _ (i : ℕ) (F : FirstPassing isMore n i) where
+          -- it is one of S, moved back
+          more-held : member behind i ≡ true
+          more-held = and-both (member behind i) (not (member old i)) (F .passes) .0
 
-        -- an extension that was passed over cannot lie inside
-        barred-inside : classes ≡ false → Barred n _·_ e old source source → ⊥
-        barred-inside q B =
-            let trivially : conjugateOf n _·_ e old mover ≡ old = ap (conjugateOf n _·_ e old) (I .same q) ∙ conjugate-set-by-identity n _·_ e G old small-old in
-            let same-element : source ≡ i = sym (conjugate-by-identity n _·_ e G source source-below) ∙ ap (conjugateElement n _·_ e source) (sym (I .same q)) ∙ source-forth in
-            let over : Subset old S = subst (λ (s : ℕ). Subset s S) trivially (I .within) in
-            let held = B .forced .held S T over (rw same-element m) in
-            let low : B .element < i = let h = B .low in omega arith in
-            true≢false (sym (subst (λ (s : ℕ). member s (B .element) ≡ true) trivially (I .covers (B .element) low held)) ∙ B .new)
+          -- and none of the listed set
+          more-new : member old i ≡ false
+          more-new = not-true _ (and-both (member behind i) (not (member old i)) (F .passes) .1)
 
-        -- so the listed set reaches one element further
-        inside-new : Inside (suc i)
-        inside-new = elim (C .settled old source (I .listed) source-below) [
-          | inl (k, E, L) ↦ extended-inside k E L
-          | inr (q, B) ↦ absurd (barred-inside q B)
-        ]
+          -- the extension lies inside
+          extended-inside : (k : ℕ) → Extension n _·_ e old i k → Listed l k → (J : Inside) × (ones old < ones (J .set))
+          extended-inside k E L = (
+            record {
+              set = L .set;
+              listed = L .listed;
+              conjugator = L .conjugator · mover;
+              below = G .product-below _ mover (L .below) (I .below);
+              same = λ q. ap₂ _·_ (L .same q) (I .same q) ∙ G .left-identity e (G .identity-below);
+              within = λ z j. inner z (subst (λ (s : ℕ). member s z ≡ true) whole j);
+            },
+            subst (λ (m : ℕ). ones old < m) (ap ones (L .conjugate) ∙ conjugate-ones n _·_ e G (L .set) (L .conjugator) small-set (L .below))
+                (ones-proper old k (E .over) (λ q. true≢false (sym (E .adjoined) ∙ ap (λ (s : ℕ). member s i) (sym q) ∙ more-new))),
+          )
+            where
+              small-set : L .set < 2 ^ n
+              small-set = C .chosen _ (L .listed) .subgroup .small
 
-      -- up to any element
-      inside-all : (i : ℕ) → Inside i
-      inside-all zero = inside-start
-      inside-all (suc i) =
-          let I = inside-all i in
-          elim (passes-or-fails (member S i)) [
-            | inl m ↦ inside-new i I m
-            | inr f ↦ inside-more i I (λ t. absurd (true≢false (sym t ∙ f)))
+              whole : conjugateOf n _·_ e (L .set) (L .conjugator · mover) ≡ conjugateOf n _·_ e k mover
+              whole = sym (conjugate-set-twice n _·_ e G (L .set) (L .conjugator) mover small-set (L .below) (I .below))
+                  ∙ ap (λ (s : ℕ). conjugateOf n _·_ e s mover) (sym (L .conjugate))
+
+              inner : Subset (conjugateOf n _·_ e k mover) S
+              inner = subst (λ (s : ℕ). Subset (conjugateOf n _·_ e k mover) s) (conjugate-set-forth n _·_ e G S mover (T .small) (I .below))
+                  (conjugate-subset n _·_ e G k behind mover (behind-subgroup .small) (I .below) (E .least behind behind-subgroup old-behind more-held))
+
+          -- an element that bars the extension would be a lower one
+          not-barred : Barred n _·_ e old i i → ⊥
+          not-barred B =
+              let held = B .forced .held behind behind-subgroup old-behind more-held in
+              true≢false (sym (both-and _ _ held (ap not (B .new))) ∙ F .before (B .element) (B .low))
+
+          -- so a listed set with more members lies inside
+          inside-more : (J : Inside) × (ones old < ones (J .set))
+          inside-more = elim (C .settled old i (I .listed) (F .below)) [
+            | inl (k, E, L) ↦ extended-inside k E L
+            | inr B ↦ absurd (not-barred B)
           ]
 
-      -- so S is a conjugate of a listed set, and the set itself where no classes are asked for
-      reached : (s x : ℕ) × Mem s l × (x < n) × (S ≡ conjugateOf n _·_ e s x) × (classes ≡ false → x ≡ e)
-      reached =
-          let I = inside-all n in (
-            I .set,
-            I .conjugator,
-            I .listed,
-            I .below,
-            subset-antisymmetric S _ (λ j m. I .covers j (member-below n S j (T .small) m) m) (I .within),
-            I .same,
-          )
+        -- no set inside S has more members than S
+        inside-ones : ones old ≤ ones S
+        inside-ones = subst (λ (m : ℕ). m ≤ ones S) (conjugate-ones n _·_ e G old mover small-old (I .below)) (ones-subset _ S (I .within))
+
+      -- S is a conjugate of a listed set, and the set itself where no classes are asked for
+      abbrev Reached : Type 0
+      Reached = (s x : ℕ) × Mem s l × (x < n) × (S ≡ conjugateOf n _·_ e s x) × (classes ≡ false → x ≡ e)
+
+      -- it is so where S has nothing more, and else a listed set with more members lies inside
+      reached-or-more : (I : Inside) → Reached ⊎ ((J : Inside) × (ones (I .set) < ones (J .set)))
+      reached-or-more I = elim (first-cases (isMore I) n) [
+        | inr (q, none) ↦ inl (I .set, I .conjugator, I .listed, I .below, none-more I none, I .same)
+        | inl F ↦ inr (inside-more I _ F)
+      ]
+
+      -- which cannot go on for ever
+      reached : (fuel : ℕ) (I : Inside) → ones S ≤ fuel + ones (I .set) → Reached
+      reached zero I enough = elim (reached-or-more I) [ inl R ↦ R | inr (J, more) ↦ absurd (let most = inside-ones J in omega arith) ]
+      reached (suc fuel) I enough = elim (reached-or-more I) [ inl R ↦ R | inr (J, more) ↦ reached fuel J (omega arith) ]
 
       -- a chosen subgroup is listed
       pub complete-listed : Chosen n _·_ e classes S → Mem S l
-      complete-listed K = let (s, x, m, h, q, f) = reached in choose classes refl s x m h q f
+      complete-listed K = let (s, x, m, h, q, f) = reached (ones S) inside-start (omega arith) in choose classes refl s x m h q f
         where
           choose : (b : Bool) → classes ≡ b → (s x : ℕ) → Mem s l → x < n → S ≡ conjugateOf n _·_ e s x → (classes ≡ false → x ≡ e) → Mem S l
           choose false c s x m h q f =

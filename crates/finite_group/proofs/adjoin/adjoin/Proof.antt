@@ -1,6 +1,5 @@
 -- The invariant is the state of the growth with no representative being followed. Each turn takes one representative out of those that
 -- wait, and each that comes in makes the set larger.
--- a representative less waits
 use mathlib.Core.Path.{_≡_}
 use mathlib.Core.Bool.{true}
 use Prim.Native.Nat.{ℕ, _+_, _-_, _<_, _^_}
@@ -16,6 +15,7 @@ use Rattle.finite_group.specs.Growth.{growing-next, adjoined-end}
 use Rattle.finite_group.proofs.adjoin.adjoin.Statement.{statement}
 use Rattle.finite_group.proofs.adjoin.adjoin.Tie as tie
 
+-- a representative less waits
 fewer : (n k waiting r rest : ℕ) → k < 2 ^ n → ((x : ℕ) → member waiting x ≡ true → member k x ≡ true) → member waiting r ≡ true
     → Without waiting r rest → ones waiting ≡ ones rest + 1
 fewer n k waiting r rest small inside i W =
@@ -23,10 +23,10 @@ fewer n k waiting r rest small inside i W =
     (bounded n rest (λ x l. not-passing _ (λ m. let j = member-below n k x small (inside x (without-old waiting r rest W x m)) in omega arith)))
 
 abbrev Inv-loop : tie.InvT-loop
-Inv-loop t n e h g bound set₀ waiting₀ set waiting = Growing n (product n t) e h g bound set waiting (λ x. ⊥)
+Inv-loop t n e h g set₀ waiting₀ set waiting = Growing n (product n t) e h g g set waiting (λ x. ⊥)
 
 abbrev μ-loop : tie.MeasureT-loop
-μ-loop t n e h g bound set₀ waiting₀ set waiting = ones waiting + (n - ones set)
+μ-loop t n e h g set₀ waiting₀ set waiting = ones waiting + (n - ones set)
 
 shl-waiting : tie.Need-shl-waiting Inv-loop μ-loop
 shl-waiting c = let a = c .before .pre .0 .group .identity-below in let b = c .before .pre .0 .cells .limit in omega arith
@@ -36,7 +36,7 @@ loop-holds c =
     let a = c .before .args in
     let p = c .before .pre in
     let h : a .e < 64 = let x = p .0 .group .identity-below in let y = p .0 .cells .limit in omega arith in
-    rw (shifted-one 64 (a .e) h) (growing-start _ _ _ _ (a .g) (p .0 .group) (p .1) (a .bound))
+    rw (shifted-one 64 (a .e) h) (growing-start _ _ _ _ (a .g) (p .0 .group) (p .1) (a .g))
 
 lowest-requires : tie.Need-lowest-requires Inv-loop μ-loop
 lowest-requires c κs = c .loop-test .taken
@@ -52,7 +52,6 @@ swept-requires c κs =
       p .0,
       p .1,
       p .2,
-      p .3,
       l .inv .forced r (l .inv .waiting-inside r (c .before .lowest .ensures .0)),
       growing-next _ _ _ _ _ _ (p .0 .group) (p .1) (l .set) (l .waiting) r (c .without .result) (c .without .ensures) (l .inv),
     )
