@@ -7,7 +7,8 @@ use native.Mathlib.Omega.{arith}
 use lib.Bits.{bitOr}
 use lib.Count.{ones}
 use Rattle.laws.specs.Sets.{member, member-empty, Subset}
-use Rattle.subgroup_laws.specs.Adjoin.{Forced, Barred, Extension, Growing, cosetOf, growing-followed, growing-add, growing-count, coset-barred, joined-new, joined-over, growing-end}
+use Rattle.subgroup_laws.specs.Adjoin.{Forced, Barred, Extension, Growing, growing-followed, growing-add, growing-count, coset-barred, joined-new, joined-over, growing-end}
+use Rattle.subgroup_laws.specs.Cosets.{cosetOf}
 use Rattle.subgroup_laws.specs.Groups.{Group}
 use Rattle.subgroup_laws.specs.Removal.{Without, without-old, without-cases}
 use Rattle.subgroup_laws.specs.Subsets.{Subgroup}

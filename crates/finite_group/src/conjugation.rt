@@ -2,11 +2,14 @@
 // Ported from subgroup/finite_group.rs of moyo 0.21.0 (`conjugate`), and changed: sets as numbers.
 ghost use mathlib.Core.Path.{_≡_};
 ghost use Prim.Native.Nat.{_<_, _^_};
-ghost use Rattle.subgroup_laws.specs.Representatives.{FirstConjugate, Represented};
+ghost use Rattle.subgroup_laws.specs.Representatives.{FirstOfAll, Represented};
 ghost use Rattle.subgroup_laws.specs.Subsets.{Subgroup, conjugateOf};
 ghost use Rattle.subgroup_laws.specs.Table.{product, GroupTable};
 use super::adjoin::image;
-use super::sets::precedes;
+use super::sets::earlier_of;
+use super::sets::lowest;
+use super::sets::outside;
+use super::sets::rest_of;
 use super::table::inverse;
 
 // The set of the g⁻¹ x g for the members x of s.
@@ -17,18 +20,21 @@ pub(crate) fn conjugate_set(t: &[u8], n: usize, e: usize, s: u64, g: usize) -> u
     image(t, n, s, inverse(t, n, e, g), g)
 }
 
+// The first conjugate of a subgroup. One element of each coset is tried: the others conjugate to the same set.
 fn first_conjugate(t: &[u8], n: usize, e: usize, s: u64) -> u64
-    requires { ⌜ (GroupTable n (now t) e) × (s < 2 ^ n) ⌝ }
-    ensures { λ r. ⌜ FirstConjugate n (product n (now (t .entry))) e s n r ⌝ }
+    requires { ⌜ (GroupTable n (now t) e) × (Subgroup n (product n (now t)) e s) ⌝ }
+    ensures { λ r. ⌜ FirstOfAll n (product n (now (t .entry))) e s r ⌝ }
 {
     let mut best = s;
-    let mut g = 0usize;
-    while g < n {
+    let mut left = rest_of(n, s);
+    while 0 < left {
+        let g = lowest(left);
         let c = conjugate_set(t, n, e, s, g);
-        if precedes(c, best) {
-            best = c;
-        }
-        g += 1;
+        let first = earlier_of(c, best);
+        best = first;
+        let coset = image(t, n, s, e, g);
+        let rest = outside(left, coset);
+        left = rest;
     }
     best
 }

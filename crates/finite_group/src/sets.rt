@@ -1,12 +1,12 @@
 // Sets of elements as 64-bit numbers, bit i set for member i.
 ghost use mathlib.Core.Path.{_≡_};
-ghost use mathlib.Core.Bool.{true};
+ghost use mathlib.Core.Bool.{true, cond};
 ghost use Prim.Native.Nat.{_<_, _^_};
 ghost use lib.Bits.{bitAnd, bitOr};
 ghost use lib.Dec.{eqb};
 ghost use Rattle.laws.specs.Sets.{member};
 ghost use Rattle.laws.specs.ListOrder.{earlier};
-ghost use Rattle.subgroup_laws.specs.Removal.{Without};
+ghost use Rattle.subgroup_laws.specs.Removal.{Without, outsideOf, restOf};
 
 pub(crate) fn contains(s: u64, i: usize) -> bool
     requires { ⌜ i < 64 ⌝ }
@@ -36,6 +36,21 @@ pub(crate) fn without(s: u64, i: usize) -> u64
     s ^ (1u64 << i)
 }
 
+// The members of a that are none of b.
+pub(crate) fn outside(a: u64, b: u64) -> u64
+    ensures { λ r. ⌜ r ≡ outsideOf a b ⌝ }
+{
+    a ^ (a & b)
+}
+
+// The elements that are none of s.
+pub(crate) fn rest_of(n: usize, s: u64) -> u64
+    requires { ⌜ n < 64 ⌝ }
+    ensures { λ r. ⌜ r ≡ restOf n s ⌝ }
+{
+    outside((1u64 << n) - 1, s)
+}
+
 // Whether each member of a is one of b.
 pub(crate) fn within(a: u64, b: u64) -> bool
     ensures { λ r. ⌜ r ≡ eqb (bitAnd a b) a ⌝ }
@@ -60,4 +75,14 @@ pub(crate) fn precedes(a: u64, b: u64) -> bool
         return contains(a, d as usize);
     }
     false
+}
+
+// The one of the two that stands before the other.
+pub(crate) fn earlier_of(a: u64, b: u64) -> u64
+    ensures { λ r. ⌜ r ≡ cond (earlier 64 a b) a b ⌝ }
+{
+    if precedes(a, b) {
+        return a;
+    }
+    b
 }

@@ -12,10 +12,10 @@ use lib.Dec.{eqb}
 use borrow.Author.Tests.{eq-eqb, eqb-true}
 use Rattle.laws.specs.Sets.{member, member-below, member-empty, member-singleton, bounded, member-or, with-member, Subset, setOf, setOf-below, member-setOf, or-new, ones-add, ones-proper}
 use Rattle.subgroup_laws.specs.Bounded.{or-either, or-holds-left, or-holds-right, not-passing, every, passes-every, every-passes}
+use Rattle.subgroup_laws.specs.Cosets.{cosetOf, coset-below, coset-source, coset-holds, coset-new}
 use Rattle.subgroup_laws.specs.Groups.{Group}
-use Rattle.subgroup_laws.specs.Images.{image-below, image-holds, image-source}
 use Rattle.subgroup_laws.specs.SubgroupLaws.{closed-set}
-use Rattle.subgroup_laws.specs.Subsets.{Subgroup, imageOf}
+use Rattle.subgroup_laws.specs.Subsets.{Subgroup}
 
 -- the set of i holds i
 pub singleton-self : (i : ℕ) → member (2 ^ i) i ≡ true
@@ -24,10 +24,6 @@ singleton-self i = member-singleton i i ∙ eq-eqb i i refl
 -- and nothing else
 pub singleton-only : (i j : ℕ) → member (2 ^ i) j ≡ true → j ≡ i
 singleton-only i j m = sym (eqb-true i j (sym (member-singleton i j) ∙ m))
-
--- the right coset h p, as the code makes it
-abbrev pub cosetOf : ℕ → (ℕ → ℕ → ℕ) → ℕ → ℕ → ℕ → ℕ
-cosetOf n times e h p = imageOf n (λ x. times (times e x) p) h
 
 module _ (n : ℕ) (_·_ : ℕ → ℕ → ℕ) (e : ℕ) (h g : ℕ) where
   infixl 70 _·_
@@ -113,24 +109,6 @@ module _ (n : ℕ) (_·_ : ℕ → ℕ → ℕ) (e : ℕ) (h g : ℕ) where
       }
 
       module _ (W : Growing bound k waiting Current) (p : ℕ) (F : Forced p) where
-        -- a member of the coset is a member of h times p
-        coset-source : (y : ℕ) → member (cosetOf n _·_ e h p) y ≡ true → (b : ℕ) × (b < n) × (member h b ≡ true) × (y ≡ b · p)
-        coset-source y i =
-            let (b, l, j, q) = image-source n (λ x. e · x · p) h y i in
-            (b, l, j, sym q ∙ ap (λ w. w · p) (G .left-identity b l))
-
-        -- a member of h times p is in the coset
-        coset-holds : (b : ℕ) → member h b ≡ true → member (cosetOf n _·_ e h p) (b · p) ≡ true
-        coset-holds b i =
-            let l = member-below n h b (H .small) i in
-            let q = G .left-identity b l in
-            let m : e · b · p ≡ b · p = ap (λ w. w · p) q in
-            rw m at (image-holds n (λ x. e · x · p) h b l (rw m (G .product-below b p l (F .below))) i)
-
-        -- p itself is
-        coset-new : member (cosetOf n _·_ e h p) p ≡ true
-        coset-new = rw (G .left-identity p (F .below)) at (coset-holds e (H .holds-identity))
-
         -- the set with the coset
         abbrev joined : ℕ
         joined = bitOr k (cosetOf n _·_ e h p)
@@ -150,19 +128,19 @@ module _ (n : ℕ) (_·_ : ℕ → ℕ → ℕ) (e : ℕ) (h g : ℕ) where
         -- the members of the coset are forced
         coset-forced : (x : ℕ) → member (cosetOf n _·_ e h p) x ≡ true → Forced x
         coset-forced x i =
-            let (b, l, j, q) = coset-source x i in
+            let (b, l, j, q) = coset-source n _·_ e G h H p (F .below) x i in
             rw q (product-forced b p (old-forced b j) F)
 
         -- the coset joins the set, and p waits, if the coset has no new element below the bound
         pub growing-add : ((i : ℕ) → i < bound → member (cosetOf n _·_ e h p) i ≡ true → member h i ≡ true)
             → Growing bound joined (bitOr waiting (2 ^ p)) Current
         growing-add test = record {
-          small = or-lt n k _ (W .small) (image-below n (λ x. e · x · p) h);
+          small = or-lt n k _ (W .small) (coset-below n _·_ e G h H p);
           over = λ x i. joined-old x (W .over x i);
           stable = λ x y i j. elim (joined-cases y j) [
             | inl l ↦ joined-old _ (W .stable x y i l)
-            | inr l ↦ let (b, m, c, q) = coset-source y l in
-                joined-coset _ (rw (q, ← G .associative x b p (member-below n h x (H .small) i) m (F .below)) (coset-holds (x · b) (H .holds-products x b i c)))
+            | inr l ↦ let (b, m, c, q) = coset-source n _·_ e G h H p (F .below) y l in
+                joined-coset _ (rw (q, ← G .associative x b p (member-below n h x (H .small) i) m (F .below)) (coset-holds n _·_ e G h H p (F .below) (x · b) (H .holds-products x b i c)))
           ];
           forced = λ x i. elim (joined-cases x i) [ inl l ↦ W .forced x l | inr l ↦ coset-forced x l ];
           represented = λ x i. elim (joined-cases x i) [
@@ -177,19 +155,19 @@ module _ (n : ℕ) (_·_ : ℕ → ℕ → ℕ) (e : ℕ) (h g : ℕ) where
                 | inr d ↦ elim d [ inl u ↦ inr (inl u) | inr v ↦ inr (inr (followed-more k joined r joined-old v)) ]
               ],
             )
-            | inr l ↦ let (b, m, c, q) = coset-source x l in
+            | inr l ↦ let (b, m, c, q) = coset-source n _·_ e G h H p (F .below) x l in
                 (b, p, c, F .below, q, inl (with-member waiting p p ∙ or-holds-right (member waiting p) _ (eq-eqb p p refl)))
           ];
           waiting-inside = λ x i. elim (or-either (member waiting x) (eqb p x) (sym (with-member waiting p x) ∙ i)) [
             | inl w ↦ joined-old x (W .waiting-inside x w)
-            | inr q ↦ rw (← eqb-true p x q) (joined-coset p coset-new)
+            | inr q ↦ rw (← eqb-true p x q) (joined-coset p (coset-new n _·_ e G h H p (F .below)))
           ];
           low = λ x l i. elim (joined-cases x i) [ inl m ↦ W .low x l m | inr m ↦ test x l m ];
         }
 
         -- p is in the set now
         pub joined-new : member joined p ≡ true
-        joined-new = joined-coset p coset-new
+        joined-new = joined-coset p (coset-new n _·_ e G h H p (F .below))
 
         -- the old members stay
         pub joined-over : Subset k joined

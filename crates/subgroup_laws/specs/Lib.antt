@@ -11,9 +11,10 @@ pub mod Subsets
 pub mod SubgroupLaws
 pub mod Images
 pub mod Conjugation
+pub mod Cosets
+pub mod LowMembers
 pub mod Removal
 pub mod ImageLoop
-pub mod LowMembers
 -- Adjoining an element to a subgroup.
 pub mod Adjoin
 -- Lists of sets in lent slots, and the list order.

@@ -1,21 +1,19 @@
 -- What the lists of subgroups and of class representatives hold, in the words of group theory (document 01, "Tables and subgroups").
 use mathlib.Core.Path.{_≡_, refl, sym, ap, _∙_, subst}
 use mathlib.Core.Logic.{inl, inr, _↔_}
-use mathlib.Core.Bool.{Bool, true, false, true≢false}
+use mathlib.Core.Bool.{Bool, true, false, cond, true≢false}
 use mathlib.Core.List.{List, List·Memᴰ as Mem}
-use Prim.Native.Nat.{ℕ, zero, suc, _^_, _<_}
-use native.Mathlib.Numerals.{add-one}
+use Prim.Native.Nat.{ℕ, zero, suc, _^_, _<_, _≤_}
 use native.Mathlib.Omega.{arith}
 use native.Mathlib.Decide.{ℕ-discrete}
-use Rattle.laws.specs.ListOrder.{Precedes, precedes-total, earlier, earlier-precedes, precedes-earlier}
+use Rattle.laws.specs.ListOrder.{Precedes, precedes-total, earlier}
 use Rattle.laws.specs.Sets.{member, member-below, setOf, setOf-below, member-setOf}
 use Rattle.laws.specs.Sorted.{Sorted}
-use Rattle.subgroup_laws.specs.Bounded.{passes-or-fails}
 use Rattle.subgroup_laws.specs.Conjugation.{conjugate-below, conjugate-set-back, inverse-below}
 use Rattle.subgroup_laws.specs.Groups.{Group, inverseOf}
 use Rattle.subgroup_laws.specs.Listing.{listed-passes, passes-listed, listed-sorted, listed-unique}
 use Rattle.subgroup_laws.specs.Lists.{chosen, Chosen, chosen-passes, passes-chosen, subgroupsOf, representativesOf}
-use Rattle.subgroup_laws.specs.Representatives.{FirstConjugate, first-start, first-kept, first-taken, first-represented}
+use Rattle.subgroup_laws.specs.Representatives.{FirstConjugate, first-start, first-next, first-end, first-represented}
 use Rattle.subgroup_laws.specs.SubgroupLaws.{closed-set}
 use Rattle.subgroup_laws.specs.Subsets.{Subgroup, conjugateOf}
 
@@ -83,29 +81,22 @@ module _ (n : ℕ) (_·_ : ℕ → ℕ → ℕ) (e : ℕ) where
     representatives-sorted = listed-sorted n (chosen n _·_ e true)
 
     -- the first of the conjugates by the elements below g
-    first-of : (s : ℕ) → s < 2 ^ n → (g : ℕ) → (r : ℕ) × (g < suc n → FirstConjugate n _·_ e s g r)
-    first-of s small zero = (s, λ h. first-start n _·_ e G s small)
+    first-of : (s : ℕ) → s < 2 ^ n → (g : ℕ) → (r : ℕ) × (g ≤ n → FirstConjugate n _·_ e s (λ j. g ≤ j) r)
+    first-of s small zero = (s, λ h. first-start n _·_ e G s (λ j. 0 ≤ j) small (λ j h. inl (omega arith)))
     first-of s small (suc g) =
-        let (r, F) = first-of s small g in
-        elim (passes-or-fails (earlier n (conjugateOf n _·_ e s g) r)) [
-          | inl t ↦ (
-            conjugateOf n _·_ e s g,
-            λ h. subst (λ (i : ℕ). FirstConjugate n _·_ e s i (conjugateOf n _·_ e s g)) (add-one g)
-                (first-taken n _·_ e G s g r (omega arith) (F (omega arith)) (earlier-precedes n _ r t)),
-          )
-          | inr t ↦ (
-            r,
-            λ h. subst (λ (i : ℕ). FirstConjugate n _·_ e s i r) (add-one g)
-                (first-kept n _·_ e G s g r (F (omega arith)) (λ p. true≢false (sym (precedes-earlier n _ r (conjugate-below n _·_ e G s g) p) ∙ t))),
-          )
-        ]
+        let (r, F) = first-of s small g in (
+          cond (earlier n (conjugateOf n _·_ e s g) r) (conjugateOf n _·_ e s g) r,
+          λ h. first-next n _·_ e G n s g r (λ j. g ≤ j) (λ j. suc g ≤ j) (conjugate-below n _·_ e G s g) (omega arith)
+              (λ j l. elim (ℕ-discrete j g) [ yes q ↦ inr (ap (conjugateOf n _·_ e s) q) | no q ↦ inl (omega arith) ]) (F (omega arith)),
+        )
 
     -- each subgroup is conjugate to a representative
     pub some-representative : (s : ℕ) → Subgroup n _·_ e s → (r g : ℕ) × Mem r (representativesOf n _·_ e) × (g < n) × (r ≡ conjugateOf n _·_ e s g)
     some-representative s S =
-        let (r, F) = first-of s (S .small) n in
-        let R = first-represented n _·_ e G s r true refl S (F (omega arith)) in
-        (r, F (omega arith) .conjugator, representatives r .1 (R .chosen), F (omega arith) .below, F (omega arith) .conjugate)
+        let (r, first) = first-of s (S .small) n in
+        let F = first-end n _·_ e G s r (λ j. n ≤ j) (λ j h l. omega arith) (first (omega arith)) in
+        let R = first-represented n _·_ e G s r true refl S F in
+        (r, F .conjugator, representatives r .1 (R .chosen), F .below, F .conjugate)
 
     -- and to no other: conjugate representatives are equal
     pub one-representative : (r s g : ℕ) → Mem r (representativesOf n _·_ e) → Mem s (representativesOf n _·_ e) → g < n → r ≡ conjugateOf n _·_ e s g → r ≡ s

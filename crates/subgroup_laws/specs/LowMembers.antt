@@ -17,16 +17,17 @@ unfolding setOf
 full-set zero = refl
 full-set (suc b) = let h = full-set b in let e = pow-suc 2 b in omega arith
 
--- the remainder by 2 ^ b is the set of the members below b
-pub member-remainder : (b s i : ℕ) → i < b → member (s % 2 ^ b) i ≡ member s i
-member-remainder b s i h =
-    ap (λ (k : ℕ). member k i) (sym (and-mask s b)) ∙ member-and s (2 ^ b - 1) i ∙ rw inside (and-true (member s i))
+-- 2 ^ b - 1 is the set of all numbers below b
+pub member-all : (b i : ℕ) → i < b → member (2 ^ b - 1) i ≡ true
+member-all b i h = ap (λ (k : ℕ). member k i) (sym whole) ∙ member-setOf b (λ i. true) i h
   where
     whole : setOf b (λ i. true) ≡ 2 ^ b - 1
     whole = let f = full-set b in omega arith
 
-    inside : member (2 ^ b - 1) i ≡ true
-    inside = ap (λ (k : ℕ). member k i) (sym whole) ∙ member-setOf b (λ i. true) i h
+-- the remainder by 2 ^ b is the set of the members below b
+pub member-remainder : (b s i : ℕ) → i < b → member (s % 2 ^ b) i ≡ member s i
+member-remainder b s i h =
+    ap (λ (k : ℕ). member k i) (sym (and-mask s b)) ∙ member-and s (2 ^ b - 1) i ∙ rw (member-all b i h) (and-true (member s i))
 
 -- the remainder has no others
 pub remainder-below : (b s i : ℕ) → member (s % 2 ^ b) i ≡ true → i < b

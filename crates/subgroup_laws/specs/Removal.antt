@@ -1,17 +1,18 @@
--- A set without one of its members, as loops over the members of a set take them out.
+-- A set without one of its members, or without those of another set, as loops over the members of a set take them out.
 use mathlib.Core.Path.{_≡_, refl, sym, ap, _∙_}
 use mathlib.Core.Logic.{_⊎_, inl, inr}
-use mathlib.Core.Bool.{Bool, true, false, not, _&&_, _||_}
-use Prim.Native.Nat.{ℕ, _+_, _^_, _<_}
+use mathlib.Core.Bool.{Bool, true, false, not, _&&_, _||_, true≢false}
+use Prim.Native.Nat.{ℕ, _+_, _-_, _^_, _<_}
 use native.Mathlib.Decide.{ℕ-discrete}
 use native.Mathlib.Omega.{arith}
-use lib.Bits.{bitOr, bitXor}
+use lib.Bits.{bitAnd, bitOr, bitXor}
 use lib.Count.{ones}
 use lib.Dec.{eqb}
 use lib.Pow.{pow-pos}
 use borrow.Author.Tests.{eq-eqb, ne-eqb, eqb-true}
-use Rattle.laws.specs.Sets.{member, member-singleton, member-difference, same-sets, or-new, member-add, ones-add, with-member, Subset}
-use Rattle.subgroup_laws.specs.Bounded.{or-either, or-holds-left}
+use Rattle.laws.specs.Sets.{member, member-and, member-singleton, member-difference, subset-le, same-sets, or-new, member-add, ones-add, with-member, Subset}
+use Rattle.subgroup_laws.specs.Bounded.{and-both, both-and, and-fails, or-either, or-holds-left, passes-or-fails}
+use Rattle.subgroup_laws.specs.LowMembers.{member-all}
 
 -- r is s without its member i
 pub record Without (s i r : ℕ) : Type 0 where
@@ -66,3 +67,50 @@ module _ (s i r : ℕ) (W : Without s i r) where
   -- and has a member less
   pub without-ones : (n : ℕ) → i < n → r < 2 ^ n → ones s ≡ ones r + 1
   without-ones n h k = ap ones (W .whole) ∙ ones-add n r i h k (W .gone) ∙ omega arith
+
+-- the members of s that are none of t
+unfoldable pub outsideOf : ℕ → ℕ → ℕ
+outsideOf s t = bitXor s (bitAnd s t)
+
+-- what is left is in s and not in t
+pub outside-member : (s t i : ℕ) → member (outsideOf s t) i ≡ (member s i && not (member t i))
+unfolding outsideOf
+outside-member s t i =
+    member-difference s (bitAnd s t) i (λ j h. and-both (member s j) (member t j) (sym (member-and s t j) ∙ h) .0)
+    ∙ ap (λ (b : Bool). member s i && not b) (member-and s t i) ∙ both (member s i) (member t i)
+  where
+    both : (a b : Bool) → (a && not (a && b)) ≡ (a && not b)
+    both true b = refl
+    both false b = refl
+
+-- what was in s is left or in t
+pub outside-cases : (s t i : ℕ) → member s i ≡ true → (member (outsideOf s t) i ≡ true) ⊎ (member t i ≡ true)
+outside-cases s t i h = elim (passes-or-fails (member t i)) [
+  | inl k ↦ inr k
+  | inr k ↦ inl (outside-member s t i ∙ both-and _ _ h (ap not k))
+]
+
+-- nothing else is left
+pub outside-old : (s t : ℕ) → Subset (outsideOf s t) s
+outside-old s t i h = and-both (member s i) (not (member t i)) (sym (outside-member s t i) ∙ h) .0
+
+-- with a common member it is a smaller number
+pub outside-less : (s t i : ℕ) → member s i ≡ true → member t i ≡ true → outsideOf s t < s
+outside-less s t i h k = elim (ℕ-discrete (outsideOf s t) s) [
+  | no q ↦ omega (arith, subset-le (outsideOf s t) s (outside-old s t))
+  | yes q ↦ absurd (true≢false (sym h ∙ ap (λ (x : ℕ). member x i) (sym q) ∙ outside-member s t i ∙ and-fails (member s i) _ (ap not k)))
+]
+
+-- the numbers below n that are none of s
+unfoldable pub restOf : ℕ → ℕ → ℕ
+restOf n s = outsideOf (2 ^ n - 1) s
+
+-- it is a set of numbers below n
+pub rest-below : (n s : ℕ) → restOf n s < 2 ^ n
+unfolding restOf
+rest-below n s = omega (arith, pow-pos n, subset-le (outsideOf (2 ^ n - 1) s) (2 ^ n - 1) (outside-old (2 ^ n - 1) s))
+
+-- each of the numbers is in it or in s
+pub rest-cases : (n s i : ℕ) → i < n → (member (restOf n s) i ≡ true) ⊎ (member s i ≡ true)
+unfolding restOf
+rest-cases n s i h = outside-cases (2 ^ n - 1) s i (member-all n i h)

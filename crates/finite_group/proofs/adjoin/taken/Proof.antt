@@ -9,7 +9,7 @@ use lib.Pow.{pow-pos}
 use borrow.Author.Needs.{needs}
 use borrow.Author.Tests.{not-true, not-false}
 use Rattle.laws.specs.Sets.{shifted-one}
-use Rattle.subgroup_laws.specs.Adjoin.{cosetOf}
+use Rattle.subgroup_laws.specs.Cosets.{cosetOf}
 use Rattle.subgroup_laws.specs.LowMembers.{within-passes, within-fails}
 use Rattle.subgroup_laws.specs.Table.{product}
 use Rattle.finite_group.specs.Growth.{seen, barred, joins}

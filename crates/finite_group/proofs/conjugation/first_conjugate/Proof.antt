@@ -1,63 +1,64 @@
--- The invariant: a conjugate, before which none of those tried so far stands.
-use mathlib.Core.Path.{_≡_, sym, _∙_, subst}
-use mathlib.Core.Logic.{⊎-elim}
-use mathlib.Core.Bool.{true≢false}
-use Prim.Native.Nat.{ℕ, _≤_, _-_, _+_, _<_}
+-- The invariant is `Trying`. Each turn tries the lowest element that is left, and is done with its coset.
+use mathlib.Core.Path.{_≡_}
 use native.Mathlib.Omega.{arith}
 use borrow.Author.Needs.{needs}
-use Rattle.laws.specs.ListOrder.{Precedes, earlier-precedes, precedes-earlier}
-use Rattle.subgroup_laws.specs.Representatives.{FirstConjugate, first-start, first-kept, first-taken, conjugate-word}
+use Rattle.subgroup_laws.specs.Representatives.{Trying, trying-start, trying-below, trying-less, trying-next, trying-end}
 use Rattle.subgroup_laws.specs.Table.{product}
 use Rattle.finite_group.proofs.conjugation.first_conjugate.Statement.{statement}
 use Rattle.finite_group.proofs.conjugation.first_conjugate.Tie as tie
 
 abbrev Inv-loop : tie.InvT-loop
-Inv-loop t n e s best₀ g₀ best g = (g ≤ n) × FirstConjugate n (product n t) e s g best
+Inv-loop t n e s best₀ left₀ best left = Trying n (product n t) e s left best
 
 abbrev μ-loop : tie.MeasureT-loop
-μ-loop t n e s best₀ g₀ best g = n - g
+μ-loop t n e s best₀ left₀ best left = left
+
+rest-of-requires : tie.Need-rest-of-requires Inv-loop μ-loop
+rest-of-requires c κs = let h = c .before .pre .0 .cells .limit in omega arith
 
 loop-holds : tie.Need-loop-holds Inv-loop μ-loop
-loop-holds c = (omega arith, first-start _ _ _ (c .before .pre .0 .group) _ (c .before .pre .1))
+loop-holds c = rw (c .rest-of .ensures) (trying-start _ _ _ (c .before .before .pre .0 .group) _ (c .before .before .pre .1))
+
+lowest-requires : tie.Need-lowest-requires Inv-loop μ-loop
+lowest-requires c κs = c .loop-test .taken
 
 conjugate-set-requires : tie.Need-conjugate-set-requires Inv-loop μ-loop
-conjugate-set-requires c κs = let p = c .before .before .before .pre in (p .0, p .1, c .loop-test .taken)
+conjugate-set-requires c κs =
+    let p = c .before .before .before .before .before .pre in
+    let l = c .before .before .loop in
+    (p .0, p .1 .small, trying-below _ _ _ (p .0 .group) _ (p .1) (l .left) (l .best) (l .inv) (c .lowest .result) (c .lowest .ensures .0))
 
-precedes-requires : tie.Need-precedes-requires Inv-loop μ-loop
-precedes-requires c κs = search needs
+earlier-of-requires : tie.Need-earlier-of-requires Inv-loop μ-loop
+earlier-of-requires c κs = search needs
 
-add-g : tie.Need-add-g Inv-loop μ-loop
-add-g c = omega arith
+image-requires : tie.Need-image-requires Inv-loop μ-loop
+image-requires c κs =
+    let p = c .before .before .before .before .before .before .before .pre in
+    let l = c .before .before .before .before .loop in
+    (p .0 .cells, p .1 .small, p .0 .group .identity-below, trying-below _ _ _ (p .0 .group) _ (p .1) (l .left) (l .best) (l .inv) (c .before .before .lowest .result) (c .before .before .lowest .ensures .0))
+
+outside-requires : tie.Need-outside-requires Inv-loop μ-loop
+outside-requires c κs = search needs
 
 loop-less : tie.Need-loop-less Inv-loop μ-loop
-loop-less c = omega arith
+loop-less c =
+    let p = c .before .before .before .before .before .before .before .before .before .pre in
+    let l = c .before .before .before .before .before .before .loop in
+    rw (c .outside .ensures, c .before .image .ensures) (trying-less _ _ _ (p .0 .group) _ (p .1) (l .left) (l .best) (l .inv) (c .before .before .before .before .lowest .result) (c .before .before .before .before .lowest .ensures .0))
 
 loop-again : tie.Need-loop-again Inv-loop μ-loop
 loop-again c =
-    let a = c .before .before .before .before .before .before .args in
-    let p = c .before .before .before .before .before .before .pre in
-    let l = c .before .before .before .before .loop in
-    let G = p .0 .group in
-    let times = product (a .n) (a .t .now) in
-    let it = c .before .before .conjugate-set .ensures in
-    let h : l .g < a .n = c .before .before .before .loop-test .taken in (
-      omega arith,
-      ⊎-elim {C = FirstConjugate (a .n) times (a .e) (a .s) (l .g + 1) (c .if1 .best)}
-          (λ w. subst (λ (z : ℕ). FirstConjugate (a .n) times (a .e) (a .s) (l .g + 1) z) (sym (w .1 ∙ it))
-          (first-taken (a .n) times (a .e) G (a .s) (l .g) (l .best) h (l .inv .1)
-          (subst (λ (z : ℕ). Precedes z (l .best)) it (earlier-precedes 64 _ _ (sym (c .before .precedes .ensures) ∙ w .0 .taken)))))
-          (λ w. subst (λ (z : ℕ). FirstConjugate (a .n) times (a .e) (a .s) (l .g + 1) z) (sym (w .1))
-          (first-kept (a .n) times (a .e) G (a .s) (l .g) (l .best) (l .inv .1)
-          (λ q. true≢false (sym (precedes-earlier 64 _ _ (rw it (conjugate-word (a .n) times (a .e) G (p .0 .cells .limit) (a .s) (l .g))) (subst (λ (z : ℕ). Precedes z (l .best)) (sym it) q)) ∙ sym (c .before .precedes .ensures) ∙ w .0 .left))))
-          (c .if1 .came),
-    )
+    let p = c .before .before .before .before .before .before .before .before .before .pre in
+    let l = c .before .before .before .before .before .before .loop in
+    rw (c .outside .ensures, c .before .image .ensures, c .before .before .earlier-of .ensures, c .before .before .before .conjugate-set .ensures)
+    (trying-next _ _ _ (p .0 .group) _ (p .1) (l .left) (l .best) (l .inv) (c .before .before .before .before .lowest .result) (c .before .before .before .before .lowest .ensures .0) (p .0 .cells .limit))
 
 returns : tie.Need-returns Inv-loop μ-loop
 returns c =
+    let p = c .before .before .before .before .pre in
     let l = c .before .loop in
-    let a = c .before .before .before .args in
-    let e : l .g ≡ a .n = omega arith in
-    subst (λ (g : ℕ). FirstConjugate (a .n) (product (a .n) (a .t .now)) (a .e) (a .s) g (l .best)) e (l .inv .1)
+    let none : l .left ≡ 0 = omega arith in
+    trying-end _ _ _ (p .0 .group) _ (p .1) (l .left) (l .best) none (l .inv)
 
 pub first-conjugate-spec : {M : Type 1} → statement M
 first-conjugate-spec =
@@ -65,10 +66,13 @@ first-conjugate-spec =
     (tie.spec
     Inv-loop
     μ-loop
+    rest-of-requires
     loop-holds
+    lowest-requires
     conjugate-set-requires
-    precedes-requires
-    add-g
+    earlier-of-requires
+    image-requires
+    outside-requires
     loop-less
     loop-again
     returns)
