@@ -1,16 +1,16 @@
 -- What a step of the search answers: sets were put in before the one that is extended; or there are too many.
-use mathlib.Core.Path.{_≡_, sym, _∙_, subst}
-use mathlib.Core.Bool.{Bool, true}
+use mathlib.Core.Path.{_≡_, sym, subst}
+use mathlib.Core.Bool.{Bool}
 use mathlib.Core.List.{List, _∷_, _++_, List·Memᴰ as Mem}
 use Prim.Native.Nat.{ℕ, _+_, _/_, _<_, _≤_}
 use native.Mathlib.Decide.{decLt}
 use native.Mathlib.Omega.{arith}
 use lib.ListN.{length}
 use lib.Seq.{getD-append-seam}
-use Rattle.laws.specs.ListOrder.{Precedes, precedes-irreflexive, precedes-transitive, earlier, earlier-precedes}
+use Rattle.laws.specs.ListOrder.{Precedes, precedes-irreflexive, precedes-transitive}
 use Rattle.subgroup_laws.specs.Lists.{Chosen}
-use Rattle.subgroup_laws.specs.Search.{Holding, TooMany, holding-slot, holding-full, holding-added, holding-present, insert-front, insert-member, insert-here}
-use Rattle.subgroup_laws.specs.Slots.{Place, slotAt, insertAt}
+use Rattle.subgroup_laws.specs.Search.{Holding, TooMany, place-before, holding-full, holding-added, holding-present, insert-front, insert-member, insert-here}
+use Rattle.subgroup_laws.specs.Slots.{Place, insertAt}
 use Rattle.finite_group.specs.Insertion.{Inserted, present, full, added}
 use Rattle.finite_group.specs.declared.search.Found.{Found}
 use Rattle.finite_group.specs.declared.search.Found.the-variants.{Count, Full as Overflow}
@@ -33,10 +33,8 @@ module _ (n : ℕ) (_·_ : ℕ → ℕ → ℕ) (e : ℕ) (classes : Bool) where
       place-front p Q = elim (decLt (length front) p) [
         | no k ↦ omega arith
         | yes k ↦
-            let inside = Q .inside in
-            let s : slotAt b (length front) ≡ h = holding-slot n _·_ e classes limit came b (front ++ h ∷ tail) count H (length front) (omega arith) ∙ getD-append-seam front h tail 0 in
-            absurd (precedes-irreflexive m (precedes-transitive m h m P
-            (earlier-precedes 64 h m (subst (λ (z : ℕ). earlier 64 z m ≡ true) s (Q .before (length front) k)))))
+            absurd (precedes-irreflexive m (precedes-transitive m h m P (subst (λ (z : ℕ). Precedes z m) (getD-append-seam front h tail 0)
+            (place-before n _·_ e classes limit came b (front ++ h ∷ tail) count H m p Q (length front) k))))
       ]
 
       -- each outcome of the insertion is progress

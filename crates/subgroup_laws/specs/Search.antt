@@ -6,7 +6,7 @@ use mathlib.Core.Path.{_≡_, refl, sym, ap, ap₂, _∙_, subst}
 use mathlib.Core.Logic.{_⊎_, inl, inr}
 use mathlib.Core.Bool.{Bool, true, false, not, _&&_, true≢false}
 use mathlib.Core.List.{List, [], _∷_, _++_, append-assoc, List·Memᴰ as Mem, List·Memᴰ·head as here, List·Memᴰ·tail as there, List·Memᴰ·not-nil as not-nil, List·Memᴰ·cases-cons as cases, List·Memᴰ·append-cases as append-cases, Memᴰ·append-left as mem-left, Memᴰ·append-right as mem-right, Memᴰ·cast as mem-cast}
-use Prim.Native.Nat.{ℕ, zero, suc, _+_, _*_, _/_, _^_, _<_, _≤_}
+use Prim.Native.Nat.{ℕ, zero, suc, _+_, _-_, _*_, _/_, _^_, _<_, _≤_}
 use native.Mathlib.Decide.{ℕ-discrete, decLt}
 use native.Mathlib.Nat.{lt-of-lt-of-le}
 use native.Mathlib.Omega.{arith}
@@ -15,9 +15,9 @@ use lib.ListN.{length, getD, take, drop, length-append, length-drop, take-append
 use lib.Pow.{pow-mono}
 use borrow.Author.Tests.{eqb-true, not-true}
 use lib.Seq.{drop-cons, drop-drop, getD-take, take-append-le, drop-append-le, length-take-le}
-use Rattle.laws.specs.ListOrder.{Precedes, more-members, precedes-total, precedes-strict, earlier, earlier-precedes, precedes-earlier}
+use Rattle.laws.specs.ListOrder.{Precedes, more-members, precedes-transitive, precedes-total, precedes-strict, earlier, earlier-precedes, precedes-earlier}
 use Rattle.laws.specs.Sets.{member, member-below, Subset, subset-antisymmetric, ones-subset, ones-proper, member-singleton}
-use Rattle.laws.specs.Sorted.{Sorted, sorted-cons, sorted-append, append-sorted-left, append-sorted-right, append-sorted-across, at-member, before-all}
+use Rattle.laws.specs.Sorted.{Sorted, sorted-cons, sorted-append, append-sorted-left, append-sorted-right, append-sorted-across, at-member, before-all, sorted-places}
 use Rattle.subgroup_laws.specs.Adjoin.{Barred, Extension}
 use Rattle.subgroup_laws.specs.Bounded.{FirstPassing, first-cases, passes-or-fails, and-both, both-and}
 use Rattle.subgroup_laws.specs.Conjugation.{conjugate-ones, conjugate-subset, conjugate-set-by-identity, conjugate-set-twice, conjugate-set-back, conjugate-set-forth, conjugate-subgroup, inverse-below}
@@ -168,14 +168,20 @@ module _ (n : ℕ) (_·_ : ℕ → ℕ → ℕ) (e : ℕ) (classes : Bool) where
           ap (λ (x : List ℕ). slotAt x k) (H .bytes)
           ∙ slot-packed l (drop (8 * count) came) k holding-words (let q = H .size in omega arith)
 
+      -- the sets before the place of m stand before it
+      pub place-before : (m p : ℕ) → Place b count m p → (i : ℕ) → i < p → Precedes (getD l i 0) m
+      place-before m p P i h =
+          let k = P .inside in
+          let last : suc (p - 1) ≡ p = omega arith in
+          let before : Precedes (getD l (p - 1) 0) m =
+          earlier-precedes 64 _ m (subst (λ (s : ℕ). earlier 64 s m ≡ true) (holding-slot (p - 1) (omega arith)) (P .before (p - 1) last)) in
+          elim (ℕ-discrete i (p - 1)) [
+            | yes q ↦ rw q before
+            | no q ↦ precedes-transitive _ _ m (sorted-places Precedes (H .sorted) 0 i (p - 1) (omega arith) (let r = H .size in omega arith)) before
+          ]
+
       -- a set that is put in
       module _ (m p : ℕ) (C : Chosen n _·_ e classes m) (P : Place b count m p) (apart : p < count → slotAt b p ≡ m → ⊥) where
-        -- those before the place stand before m
-        place-before : (i : ℕ) → i < p → Precedes (getD l i 0) m
-        place-before i h =
-            let k = P .inside in
-            earlier-precedes 64 _ m (subst (λ (s : ℕ). earlier 64 s m ≡ true) (holding-slot i (omega arith)) (P .before i h))
-
         -- m stands before the one at the place
         place-after : p < length l → Precedes m (getD l p 0)
         place-after h =
@@ -193,7 +199,7 @@ module _ (n : ℕ) (_·_ : ℕ → ℕ → ℕ) (e : ℕ) (classes : Bool) where
 
         -- the list stays in order
         pub holding-sorted : Sorted Precedes (insertAt p m l)
-        holding-sorted = insert-sorted p m l (H .sorted) place-inside place-before place-after
+        holding-sorted = insert-sorted p m l (H .sorted) place-inside (place-before m p P) place-after
 
         -- the sets stay chosen
         pub holding-chosen : (s : ℕ) → Mem s (insertAt p m l) → Chosen n _·_ e classes s
