@@ -13,4 +13,5 @@ pub mod SearchLoop
 pub mod ConjugateLists
 -- What is answered.
 pub mod Answers
+pub mod Built
 pub mod ListAnswers

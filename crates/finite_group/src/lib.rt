@@ -10,6 +10,7 @@ use subgroup::normalizer_in;
 use table::from_table;
 
 mod adjoin;
+mod built;
 mod conjugate_list;
 mod conjugation;
 mod permutation;
@@ -19,8 +20,10 @@ mod slots;
 mod subgroup;
 mod table;
 
-// Why there is no answer: document 01's refusals 21 to 29.
+// Why there is no answer: document 01's refusals 21 to 29, or that of the symbol or the record that a table was to be built from.
 pub enum Refusal {
+    Symbol(symbol_group::refusal::Refusal),
+    Record(group_record::Refusal),
     Order,
     Cells,
     Identity,
