@@ -14,4 +14,5 @@ pub mod ConjugateLists
 -- What is answered.
 pub mod Answers
 pub mod Built
+pub mod BuiltGroups
 pub mod ListAnswers

@@ -86,12 +86,7 @@ pub(crate) fn normalizer_built(b: Built, set: u64) -> Answer
     }
 }
 
-pub(crate) fn permutation_built(
-    positions: &mut [u8],
-    b: Built,
-    set: u64,
-    element: usize,
-) -> Answer
+pub(crate) fn permutation_built(positions: &mut [u8], b: Built, set: u64, element: usize) -> Answer
     requires { ⌜ Sound b ⌝ }
     ensures { λ r. ⌜ (r ≡ permutationIn b set element (now (positions .entry)))
         × (now (positions .exit) ≡ positionsIn b set element (now (positions .entry))) ⌝ }

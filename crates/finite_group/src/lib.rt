@@ -14,10 +14,12 @@ mod built;
 mod conjugate_list;
 mod conjugation;
 mod permutation;
+pub mod record;
 mod search;
 mod sets;
 mod slots;
 mod subgroup;
+pub mod symbol;
 mod table;
 
 // Why there is no answer: document 01's refusals 21 to 29, or that of the symbol or the record that a table was to be built from.
