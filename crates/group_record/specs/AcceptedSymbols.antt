@@ -1,5 +1,5 @@
 -- What an accepted symbol's group is for a record: its operations are a listing, and they are allowed. All of it follows from what is listed for an accepted symbol.
-use mathlib.Core.Path.{_≡_, refl, sym, _∙_, ap, subst}
+use mathlib.Core.Path.{_≡_, refl, sym, _∙_, ap}
 use mathlib.Core.List.{List, map, List·Memᴰ as Mem, List·Memᴰ·head as here, Memᴰ·map as mem-map, Memᴰ·of-map as mem-of-map, Memᴰ·cast as mem-cast}
 use Prim.Native.Nat.{ℕ, _-_, _≤_}
 use native.Mathlib.Omega.{arith}
@@ -41,6 +41,7 @@ pub record AcceptedText (text : List ℕ) : Type 0 where
   pub same-operations : take (symbolAnswer text .count) (symbolAnswer text .operations) ≡ operations
 
 module _ (text : List ℕ) where
+  -- Its generators decide,
   by-outcome : (c : Centering) (gens : List Operation) → readSymbol text ≡ symbol c gens → (o : Outcome) → outcomeOf c gens ≡ o → outcomeAnswer c (length gens) o .answer ≡ Group → AcceptedText text
   unfolding symbolAnswer
   by-outcome c gens e (group operations steps) p a =
@@ -59,10 +60,12 @@ module _ (text : List ℕ) where
       }
   by-outcome c gens e (refused r) p a = let z : _≡_ {A = ℕ} 0 1 = cc in absurd (omega arith)
 
+  -- and before them its spelling.
   by-reading : (s : Reading) → readSymbol text ≡ s → readingAnswer s .answer ≡ Group → AcceptedText text
   by-reading (symbol c gens) e a = by-outcome c gens e (outcomeOf c gens) refl a
   by-reading (refusal r) e a = let z : _≡_ {A = ℕ} 0 1 = cc in absurd (omega arith)
 
+  -- A group is answered only so.
   pub accepted-text : symbolAnswer text .answer ≡ Group → AcceptedText text
   unfolding symbolAnswer
   accepted-text a = by-reading (readSymbol text) refl a

@@ -16,7 +16,7 @@ use Rattle.operation.specs.declared.Operation.{Operation}
 use Rattle.symbol_group.specs.Answers.{symbolAnswer}
 use Rattle.symbol_group.specs.declared.Answer.{Answer}
 use Rattle.symbol_group.specs.declared.Answer.the-variants.{Group, Refused}
-use Rattle.group_record.specs.Record.{itemWidth, totalLength, listedForm, recordOf}
+use Rattle.group_record.specs.Record.{itemWidth, totalLength, listedForm}
 use Rattle.group_record.specs.Reading.{readOf, acceptedGroup, slots}
 use Rattle.group_record.specs.Groups.{InSet}
 use Rattle.group_record.specs.ListedForm.{form-length, form-set}
@@ -55,6 +55,7 @@ module _ (text : List ℕ) (A : AcceptedText text) where
     λ h. form-set (A .letter) (A .operations) m .1 (set-of-list text A m .0 h),
   )
 
+  -- So what a record of them is read as is the symbol's group.
   form-reads : ReadsAs text (acceptedGroup (A .letter) form)
   unfolding acceptedGroup
   form-reads =
@@ -88,16 +89,18 @@ record-in out bytes start n room long =
     ∙ take-at (take start out ++ bytes) rest (start + totalLength itemWidth n) size
 
 module _ (text out : List ℕ) (start n : ℕ) where
-  -- The count of an accepted text is its record's.
+  -- An accepted text's count tells the length of its record.
   text-length : AcceptedText text → length (textRecord text) ≡ totalLength itemWidth (symbolAnswer text .count)
   text-length A = ap length (record-of-list text A) ∙ record-length (A .letter) (A .operations) ∙ ap (totalLength itemWidth) (sym (A .same-count))
 
+  -- An accepted text is written where there is room,
   by-room : symbolAnswer text .answer ≡ Group → (b : Bool) → roomFor start (symbolAnswer text .count) (length out) ≡ b → cond b (Written (symbolAnswer text .count)) NoRoom ≡ Written n → ReadsAs text (readOf (take (start + totalLength itemWidth n) (placedIn out start (symbolAnswer text .count) (textRecord text))))
   by-room a true room e =
       let count : symbolAnswer text .count ≡ n = cc in
       rw (← count, record-in out (textRecord text) start (symbolAnswer text .count) room (text-length (accepted-text text a))) (symbol-record-read text (take start out) a)
   by-room a false room e = let z : _≡_ {A = ℕ} 0 1 = cc in absurd (omega arith)
 
+  -- and a refused one nowhere.
   by-answer : (a : Answer) → symbolAnswer text .answer ≡ a → writtenBy a (symbolAnswer text .count) start (length out) ≡ Written n → ReadsAs text (readOf (take (start + totalLength itemWidth n) (placedBy a out start (symbolAnswer text .count) (textRecord text))))
   by-answer Group a e = by-room a (roomFor start (symbolAnswer text .count) (length out)) refl e
   by-answer (Refused r) a e = let z : _≡_ {A = ℕ} 0 1 = cc in absurd (omega arith)

@@ -1,12 +1,13 @@
 -- The record of a symbol's text, written from a stated place of a lent buffer: what is answered, and what the buffer holds afterwards.
-use mathlib.Core.Path.{_≡_, sym, _∙_, ap}
-use mathlib.Core.Bool.{cond}
+use mathlib.Core.Path.{_≡_}
+use mathlib.Core.Bool.{Bool, cond}
 use mathlib.Core.List.{List}
 use Prim.Native.Nat.{ℕ}
 use lib.ListN.{length, take}
 use Rattle.operation.specs.Answer as answer
 use Rattle.symbol_group.specs.Answers.{symbolAnswer}
 use Rattle.symbol_group.specs.Refusals.{numberOf, placeOf}
+use Rattle.symbol_group.specs.declared.refusal.Refusal.{Refusal}
 use Rattle.symbol_group.specs.declared.Answer.{Answer}
 use Rattle.symbol_group.specs.declared.Answer.the-variants.{Group, Refused}
 use Rattle.symbol_group.specs.declared.SymbolGroup.{SymbolGroup}
@@ -52,14 +53,12 @@ symbolBufferOf text out start = placedBy (symbolAnswer text .answer) out start (
 
 -- ---- by the symbol's answer
 module _ (text out : List ℕ) (start : ℕ) (g : SymbolGroup) (e : g ≡ symbolAnswer text) where
-  -- The answer.
-  pub written-by : (a : Answer) → g .answer ≡ a → writtenBy a (g .count) start (length out) ≡ symbolRecordOf text out start
-  unfolding symbolRecordOf
-  written-by a p = ap (λ (b : Answer). writtenBy b (g .count) start (length out)) (sym p) ∙ ap (λ (h : SymbolGroup). writtenBy (h .answer) (h .count) start (length out)) e
+  -- The answer to a symbol that is refused, and the buffer.
+  pub refused-by : (r : Refusal) → g .answer ≡ Refused r → (NotWritten r ≡ symbolRecordOf text out start) × (out ≡ symbolBufferOf text out start)
+  unfolding symbolRecordOf symbolBufferOf
+  refused-by r a = (rw (← e, a), rw (← e, a))
 
-  -- The buffer.
-  pub placed-by : (a : Answer) → g .answer ≡ a → placedBy a out start (g .count) (groupRecord g) ≡ symbolBufferOf text out start
-  unfolding symbolBufferOf textRecord
-  placed-by a p =
-      ap (λ (b : Answer). placedBy b out start (g .count) (groupRecord g)) (sym p)
-      ∙ ap (λ (h : SymbolGroup). placedBy (h .answer) out start (h .count) (groupRecord h)) e
+  -- The answer to one that is accepted, by whether there was room, and the buffer.
+  pub accepted-by : g .answer ≡ Group → (b : Bool) → b ≡ roomFor start (g .count) (length out) → (left : List ℕ) → left ≡ placedIn out start (g .count) (groupRecord g) → (cond b (Written (g .count)) NoRoom ≡ symbolRecordOf text out start) × (left ≡ symbolBufferOf text out start)
+  unfolding symbolRecordOf symbolBufferOf textRecord
+  accepted-by a b room left placed = (rw (room, ← e, a), rw (placed, ← e, a))

@@ -1,9 +1,10 @@
 -- The symbol's answer decides, then whether there was room; an accepted symbol's operations may be written.
-use mathlib.Core.Path.{sym, _∙_}
+use mathlib.Core.Path.{_≡_, sym, _∙_}
+use mathlib.Core.Bool.{Bool, true, false, cond}
 use borrow.Author.Tests.{not-true, not-false}
-use Rattle.symbol_group.specs.declared.Answer.the-variants.{Group}
-use Rattle.group_record.specs.SymbolRecords.{written-by, placed-by}
+use Rattle.group_record.specs.SymbolRecords.{symbolRecordOf, symbolBufferOf, refused-by, accepted-by}
 use Rattle.group_record.specs.AcceptedSymbols.{symbol-writable}
+use Rattle.group_record.specs.declared.SymbolRecord.the-variants.{Written, NoRoom}
 use borrow.Author.Needs.{needs}
 use Rattle.group_record.proofs.symbol.write_record.Statement.{statement}
 use Rattle.group_record.proofs.symbol.write_record.Tie as tie
@@ -27,39 +28,27 @@ place-group-requires c κs = symbol-writable (c .before .before .before .before 
 same-length : tie.Need-same-length
 same-length c = search needs
 
+-- What is answered, by what the writer answered.
+placed-answer : (c : tie.After-place-group) (b : Bool) → c .place-group .result ≡ b → (cond b (Written (c .before .before .before .before .before .new .result .count)) NoRoom ≡ symbolRecordOf (c .before .before .before .before .before .before .before .before .args .text .now) (c .before .before .before .before .before .before .before .before .args .out .now) (c .before .before .before .before .before .before .before .before .args .start)) × (c .place-group .last .0 ≡ symbolBufferOf (c .before .before .before .before .before .before .before .before .args .text .now) (c .before .before .before .before .before .before .before .before .args .out .now) (c .before .before .before .before .before .before .before .before .args .start))
+placed-answer c b told =
+    let a = c .before .before .before .before .before .before .before .before .args in
+    let new = c .before .before .before .before .before .new in
+    accepted-by (a .text .now) (a .out .now) (a .start) (new .result) (new .ensures) (c .before .before .before .enum-told .given .1) b (sym told ∙ c .place-group .ensures .0) _ (c .place-group .ensures .1)
+
 returns : tie.Need-returns
-returns c =
-    let a = c .before .before .before .before .before .before .before .before .before .before .before .args in
-    let new = c .before .before .before .before .before .before .before .before .new in
-    let told = c .before .before .before .before .before .before .enum-told .given .1 in
-    let placed = c .before .before .before .place-group in
-    let room = sym (placed .ensures .0) ∙ not-true (placed .result) (c .if1 .taken) in (
-      rw room at (written-by (a .text .now) (a .out .now) (a .start) (new .result) (new .ensures) Group told),
-      placed .ensures .1 ∙ placed-by (a .text .now) (a .out .now) (a .start) (new .result) (new .ensures) Group told,
-    )
+returns c = placed-answer (c .before .before .before) false (not-true _ (c .if1 .taken))
 
 returns-2 : tie.Need-returns-2
 returns-2 c =
     let a = c .before .before .before .before .before .before .args in
     let new = c .before .before .before .new in
-    let told = c .before .answer .given .1 in (
-      written-by (a .text .now) (a .out .now) (a .start) (new .result) (new .ensures) _ told,
-      placed-by (a .text .now) (a .out .now) (a .start) (new .result) (new .ensures) _ told,
-    )
+    refused-by (a .text .now) (a .out .now) (a .start) (new .result) (new .ensures) _ (c .before .answer .given .1)
 
 same-length-2 : tie.Need-same-length-2
 same-length-2 c = search needs
 
 returns-3 : tie.Need-returns-3
-returns-3 c =
-    let a = c .before .before .before .before .before .before .before .before .before .before .before .args in
-    let new = c .before .before .before .before .before .before .before .before .new in
-    let told = c .before .before .before .before .before .before .enum-told .given .1 in
-    let placed = c .before .before .before .place-group in
-    let room = sym (placed .ensures .0) ∙ not-false (placed .result) (c .if1 .left) in (
-      rw room at (written-by (a .text .now) (a .out .now) (a .start) (new .result) (new .ensures) Group told),
-      placed .ensures .1 ∙ placed-by (a .text .now) (a .out .now) (a .start) (new .result) (new .ensures) Group told,
-    )
+returns-3 c = placed-answer (c .before .before .before) true (not-false _ (c .if1 .left))
 
 pub write-record-spec : {M : Type 1} → statement M
 write-record-spec =
