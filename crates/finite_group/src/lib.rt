@@ -11,6 +11,7 @@ use table::from_table;
 
 mod adjoin;
 mod built;
+mod associativity;
 mod conjugate_list;
 mod conjugation;
 mod permutation;

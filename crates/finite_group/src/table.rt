@@ -2,11 +2,12 @@
 // Ported from subgroup/finite_group.rs of moyo 0.21.0 (`from_table`), and changed: the order is limited and associativity is checked.
 ghost use mathlib.Core.Path.{_≡_};
 ghost use Prim.Native.Nat.{_<_, _≤_, _*_};
-ghost use Rattle.subgroup_laws.specs.Groups.{isIdentity, identityOf, isInverse, inverseOf, hasInverses, associates};
+ghost use Rattle.subgroup_laws.specs.Groups.{isIdentity, identityOf, isInverse, inverseOf, hasInverses};
 ghost use Rattle.subgroup_laws.specs.Table.{product, Cells, goodCells};
 ghost use Rattle.finite_group.specs.TableCheck.{checkOf};
 use super::Checked;
 use super::Refusal;
+use super::associativity::is_associative;
 
 // The product of i and j.
 pub(crate) fn cell(t: &[u8], n: usize, i: usize, j: usize) -> usize
@@ -112,26 +113,6 @@ fn has_inverses(t: &[u8], n: usize, e: usize) -> bool
     true
 }
 
-fn is_associative(t: &[u8], n: usize) -> bool
-    requires { ⌜ Cells n (now t) ⌝ }
-    ensures { λ r. ⌜ r ≡ associates n (product n (now (t .entry))) ⌝ }
-{
-    let mut good = true;
-    'search: for i in 0..n {
-        for j in 0..n {
-            let ij = cell(t, n, i, j);
-            for k in 0..n {
-                let jk = cell(t, n, j, k);
-                if cell(t, n, ij, k) != cell(t, n, i, jk) {
-                    good = false;
-                    break 'search;
-                }
-            }
-        }
-    }
-    good
-}
-
 // Refusals 21 to 25 in their order, or the identity of the group.
 pub(crate) fn from_table(n: usize, t: &[u8]) -> Checked
     ensures { λ r. ⌜ r ≡ checkOf n (now (t .entry)) ⌝ }
@@ -152,7 +133,7 @@ pub(crate) fn from_table(n: usize, t: &[u8]) -> Checked
     if !has_inverses(t, n, e) {
         return Checked::NoGroup(Refusal::Inverse);
     }
-    if !is_associative(t, n) {
+    if !is_associative(t, n, e) {
         return Checked::NoGroup(Refusal::Associativity);
     }
     Checked::Group(e)

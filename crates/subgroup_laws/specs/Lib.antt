@@ -15,6 +15,8 @@ pub mod Cosets
 pub mod LowMembers
 pub mod Removal
 pub mod ImageLoop
+-- Generators, by which associativity is told.
+pub mod Generators
 -- Adjoining an element to a subgroup.
 pub mod Adjoin
 -- Lists of sets in lent slots, and the list order.

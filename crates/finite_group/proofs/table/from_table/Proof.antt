@@ -2,6 +2,7 @@
 use mathlib.Core.Path.{sym, _∙_}
 use borrow.Author.Needs.{needs}
 use borrow.Author.Tests.{eq-eqb, ne-eqb, lt-ltb, le-ltb, not-true, not-false}
+use Rattle.subgroup_laws.specs.GroupLaws.{found-identity}
 use Rattle.subgroup_laws.specs.TableLaws.{good-cells}
 use Rattle.finite_group.specs.TableCheck.{checkOf}
 use Rattle.finite_group.proofs.table.from_table.Statement.{statement}
@@ -59,8 +60,10 @@ returns-5 c =
 
 is-associative-requires : tie.Need-is-associative-requires
 is-associative-requires c κs =
-    good-cells _ _ (c .before .before .before .before .before .before .if2 .left)
-    (sym (c .before .before .before .before .before .good-cells .ensures) ∙ not-false _ (c .before .before .before .before .if3 .left))
+    let it = c .before .before .before .identity-of .ensures in (
+      good-cells _ _ (c .before .before .before .before .before .before .if2 .left) (sym (c .before .before .before .before .before .good-cells .ensures) ∙ not-false _ (c .before .before .before .before .if3 .left)),
+      rw it (found-identity _ _ (rw it at (c .before .before .if4 .left))),
+    )
 
 returns-6 : tie.Need-returns-6
 unfolding checkOf
