@@ -1,0 +1,38 @@
+-- What the entries of the other rooms say where C asks for a part of it: a symbol's letter, a record's order and letter, and what a table answers.
+use mathlib.Core.List.{List}
+use Prim.Native.Nat.{ℕ}
+use lib.ListN.{length}
+use Rattle.operation.specs.Answer.{Answer, given, refused, Nothing}
+use Rattle.operation.specs.declared.Operation.{Operation}
+use Rattle.centering.specs.declared.Centering.{Centering}
+use Rattle.symbol_group.specs.Refusals as symbol
+use Rattle.symbol_group.specs.declared.Answer as symbol-answer
+use Rattle.symbol_group.specs.declared.Answer.the-variants as symbol-answers
+use Rattle.symbol_group.specs.declared.SymbolGroup.{SymbolGroup}
+use Rattle.group_record.specs.Reading.{groupAnswer}
+use Rattle.group_record.specs.declared.RecordGroup.{RecordGroup}
+use Rattle.finite_group.specs.Answers as table
+use Rattle.finite_group.specs.declared.Answer as table-answer
+use Rattle.finite_group.specs.declared.Answer.the-variants.{Value, Refused}
+use Rattle.calls.specs.Packing.{mapped}
+
+-- The letter of a symbol's group.
+abbrev pub letterBy : symbol-answer.Answer → Centering → Answer Centering Nothing
+letterBy symbol-answers.Group c = given c
+letterBy (symbol-answers.Refused r) c = refused (symbol.numberOf r) (symbol.placeOf r) tt
+
+abbrev pub letterAnswer : SymbolGroup → Answer Centering Nothing
+letterAnswer g = letterBy (g .answer) (g .centering)
+
+-- The letter that a record states,
+abbrev pub recordLetter : RecordGroup → Answer Centering Nothing
+recordLetter g = mapped (λ (c : Centering × List Operation). c .0) (groupAnswer g)
+
+-- and how many operations it lists.
+abbrev pub recordOrder : RecordGroup → Answer ℕ Nothing
+recordOrder g = mapped (λ (c : Centering × List Operation). length (c .1)) (groupAnswer g)
+
+-- What is answered on a table.
+abbrev pub tableAnswer : table-answer.Answer → Answer ℕ Nothing
+tableAnswer (Value n) = given n
+tableAnswer (Refused r) = refused (table.numberOf r) (table.placeOf r) tt

@@ -1,0 +1,4 @@
+-- What the entries for C answer, in numbers.
+pub mod Packing
+pub mod Answers
+pub mod SymbolBounds

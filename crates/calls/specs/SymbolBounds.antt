@@ -1,0 +1,148 @@
+-- What is answered for a symbol's text can be packed: orders are at most 48, operations have entries in −1..1 and coordinates below 12, and places are at most 80.
+use mathlib.Core.Path.{_≡_, refl, sym, _∙_, ap, subst}
+use mathlib.Core.Bool.{Bool, true, false, cond}
+use mathlib.Core.List.{List, _++_, List·Memᴰ as Mem}
+use Prim.Native.Nat.{ℕ, _+_, _-_, _<_, _≤_}
+use native.Mathlib.Omega.{arith}
+use lib.Dec.{ltb}
+use lib.ListN.{length, getD, replicate, length-append, List·getD-append}
+use borrow.Author.Tests.{ltb-true}
+use Rattle.operation.specs.Entries.{digits-entries}
+use Rattle.operation.specs.Meaning.{matrixOf}
+use Rattle.operation.specs.Product.{identityOperation}
+use Rattle.operation.specs.declared.Operation.{Operation}
+use Rattle.centering.specs.declared.Centering.{Centering}
+use Rattle.hall_token.specs.Answers.{Reduced}
+use Rattle.hall_token.specs.declared.Previous.{Previous}
+use Rattle.hall_token.specs.declared.ParsedOperation.{ParsedOperation}
+use Rattle.hall_symbol.specs.Spelling.{Fit, Begins, lattice, rotation, Next, Spells, Refuses, ends, opens}
+use Rattle.hall_symbol.specs.Answers.{begins-place, symbol-count}
+use Rattle.hall_symbol.specs.Agreement.{symbol-exactly}
+use Rattle.hall_symbol.specs.Reader.{Reading, symbol, refusal, readSymbol}
+use Rattle.hall_symbol.specs.Refusals as text
+use Rattle.hall_symbol.specs.declared.refusal.Refusal as text-refusal
+use Rattle.hall_symbol.specs.declared.refusal.Refusal.the-variants.{TooLong, ForbiddenByte, NoToken, Lattice as NoLattice, Misspelt, Unsettled, Digit, Primed, Shift, NoRotation, TooMany}
+use Rattle.space_group.specs.Acceptance.{SmallGenerators, accepted-list, member-at}
+use Rattle.space_group.specs.Generated.{Outcome, group, refused, outcomeOf}
+use Rattle.space_group.specs.Members.{translation-below, rotation-generated}
+use Rattle.space_group.specs.declared.refusal.Refusal.the-variants.{Lattice, Rotations, Translations}
+use Rattle.symbol_group.specs.Answers.{outcomeAnswer, readingAnswer, symbolAnswer, orderBy, orderOf, orderAnswer, operationBy, operationAt, operationAnswer}
+use Rattle.symbol_group.specs.Exactly.{symbol-small, text-exactly, twelve-exactly}
+use Rattle.symbol_group.specs.Slots.{symbol-slots}
+use Rattle.symbol_group.specs.Refusals.{numberOf, placeOf}
+use Rattle.symbol_group.specs.declared.Answer.{Answer}
+use Rattle.symbol_group.specs.declared.Answer.the-variants.{Group, Refused}
+use Rattle.symbol_group.specs.declared.SymbolOperation.the-variants.{Operation as Found, PastEnd}
+use Rattle.symbol_group.specs.declared.refusal.Refusal.{Refusal}
+use Rattle.symbol_group.specs.declared.refusal.Refusal.the-variants.{Text, Group as NoGroup}
+use Rattle.calls.specs.Answers.{letterBy, letterAnswer}
+use Rattle.calls.specs.Packing.{Told, Within, Low, AnyLetter}
+
+-- ---- places
+-- A text that begins well has at most 80 bytes.
+begins-fit : (bytes : List ℕ) {c : Centering} {found : List Operation} {previous : Previous} {p : ℕ} {s : List ℕ} → Begins bytes c found previous p s → length bytes ≤ 80
+begins-fit bytes (lattice inverted c fit cut) = fit .0
+begins-fit bytes (rotation o f a begins cut start few says) = begins-fit bytes begins
+
+-- The next token stands within them.
+next-place : (bytes : List ℕ) {previous : Previous} {place : ℕ} {t after : List ℕ} → Next bytes previous place t after → place ≤ 80
+next-place bytes {place = place} {t} {after} N =
+    let (before, split, long) = begins-place bytes (N .begins) in
+    let fit = begins-fit bytes (N .begins) in
+    let whole = ap length split ∙ length-append before (N .s) in
+    let rest = ap length (N .cut .text) ∙ length-append (N .w) (t ++ after) in
+    let stands = N .stands in
+    omega arith
+
+-- A refusal of 01 at a place up to 80 can be told.
+near : {number place : ℕ} → 1 ≤ number → number ≤ 255 → place ≤ 80 → Told number place
+near some one-byte low = record { some = some; one-byte = one-byte; low = omega arith }
+
+-- 1 to 11: by the rule of each.
+text-told : (bytes : List ℕ) (r : text-refusal.Refusal) → Refuses bytes r → Told (text.numberOf r) (text.placeOf r)
+text-told bytes TooLong h = near (omega arith) (omega arith) (omega arith)
+text-told bytes (ForbiddenByte p) h =
+    let short = h .short in
+    let within = h .within in
+    near (omega arith) (omega arith) (omega arith)
+text-told bytes NoToken h = near (omega arith) (omega arith) (omega arith)
+text-told bytes (NoLattice p) h =
+    let whole = ap length (h .cut .text) ∙ length-append (h .w) (h .t ++ h .after) in
+    let fit = h .fit .0 in
+    let stands = h .stands in
+    near (omega arith) (omega arith) (omega arith)
+text-told bytes (Misspelt p) h = near (omega arith) (omega arith) (next-place bytes (h .next))
+text-told bytes (Unsettled p) h = near (omega arith) (omega arith) (next-place bytes (h .next))
+text-told bytes (Digit p) h = near (omega arith) (omega arith) (next-place bytes (h .next))
+text-told bytes (Primed p) h = near (omega arith) (omega arith) (next-place bytes (h .next))
+text-told bytes (Shift p) h = near (omega arith) (omega arith) (next-place bytes (h .next))
+text-told bytes (NoRotation p) (ends begins none blank) = near (omega arith) (omega arith) (begins-fit bytes begins)
+text-told bytes (NoRotation p) (opens next none bracket) = near (omega arith) (omega arith) (next-place bytes next)
+text-told bytes (TooMany p) h = near (omega arith) (omega arith) (next-place bytes (h .next))
+
+-- 12 at a generator's index, of which there are at most nine; 13 and 14 at 0.
+pub symbol-told : (bytes : List ℕ) (r : Refusal) → symbolAnswer bytes .answer ≡ Refused r → Told (numberOf r) (placeOf r)
+symbol-told bytes (Text r) e = text-told bytes r (text-exactly bytes r .0 e)
+symbol-told bytes (NoGroup (Lattice i)) e =
+    let (c, gens, spells, off) = twelve-exactly bytes i .0 e in
+    let (low, high) = symbol-count bytes c gens spells in
+    let within = off .within in
+    near (omega arith) (omega arith) (omega arith)
+symbol-told bytes (NoGroup Rotations) e = near (omega arith) (omega arith) (omega arith)
+symbol-told bytes (NoGroup Translations) e = near (omega arith) (omega arith) (omega arith)
+
+-- ---- the order
+order-by : (bytes : List ℕ) (a : Answer) → symbolAnswer bytes .answer ≡ a → Within Low (orderAnswer (orderBy a (symbolAnswer bytes .count)))
+order-by bytes Group e = omega (arith, symbol-slots bytes .0)
+order-by bytes (Refused r) e = symbol-told bytes r e
+
+pub order-within : (bytes : List ℕ) → Within Low (orderAnswer (orderOf bytes))
+unfolding orderOf
+order-within bytes = order-by bytes (symbolAnswer bytes .answer) refl
+
+-- ---- an operation
+module _ (c : Centering) (gens : List Operation) (small : SmallGenerators gens) where
+  listed-reduced : (operations : List Operation) (steps : List ℕ) → outcomeOf c gens ≡ group operations steps → (o : Operation) → Mem o operations → Reduced o
+  listed-reduced operations steps e o m =
+      let A = accepted-list c gens small operations steps e in
+      let below = translation-below c gens operations steps A o m in
+      let turn = rotation-generated c gens operations steps A o m in
+      record { digits = digits-entries (o .rotation) .1 (A .small (matrixOf (o .rotation)) turn); x = below .0; y = below .1; z = below .2 }
+
+  outcome-reduced : (n : ℕ) (o : Outcome) → outcomeOf c gens ≡ o → (i : ℕ) → i < outcomeAnswer c n o .count → Reduced (getD (outcomeAnswer c n o .operations) i identityOperation)
+  outcome-reduced n (group operations steps) e i h =
+      rw (List·getD-append operations (replicate (48 - length operations) identityOperation) identityOperation i h) (listed-reduced operations steps e (getD operations i identityOperation) (member-at operations i identityOperation h))
+  outcome-reduced n (refused r) e i h = absurd (omega arith)
+
+reading-reduced : (bytes : List ℕ) (s : Reading) → readSymbol bytes ≡ s → (i : ℕ) → i < readingAnswer s .count → Reduced (getD (readingAnswer s .operations) i identityOperation)
+reading-reduced bytes (symbol c gens) e i h =
+    outcome-reduced c gens (symbol-small bytes c gens (symbol-exactly bytes c gens .0 e)) (length gens) (outcomeOf c gens) refl i h
+reading-reduced bytes (refusal r) e i h = absurd (omega arith)
+
+-- An operation of a symbol has entries in −1..1 and a translation 0 to 11.
+symbol-reduced : (bytes : List ℕ) (i : ℕ) → i < symbolAnswer bytes .count → Reduced (getD (symbolAnswer bytes .operations) i identityOperation)
+unfolding symbolAnswer
+symbol-reduced bytes i h = reading-reduced bytes (readSymbol bytes) refl i h
+
+past-end : Told 28 0
+past-end = near (omega arith) (omega arith) (omega arith)
+
+operation-by : (bytes : List ℕ) (i : ℕ) (a : Answer) → symbolAnswer bytes .answer ≡ a → Within Reduced (operationAnswer (operationBy a (symbolAnswer bytes .count) (symbolAnswer bytes .operations) i))
+operation-by bytes i Group e = by-test (ltb i (symbolAnswer bytes .count)) refl
+  where
+    by-test : (b : Bool) → ltb i (symbolAnswer bytes .count) ≡ b → Within Reduced (operationAnswer (cond b (Found (getD (symbolAnswer bytes .operations) i identityOperation)) PastEnd))
+    by-test true t = symbol-reduced bytes i (ltb-true i (symbolAnswer bytes .count) t)
+    by-test false t = past-end
+operation-by bytes i (Refused r) e = symbol-told bytes r e
+
+pub operation-within : (bytes : List ℕ) (i : ℕ) → Within Reduced (operationAnswer (operationAt bytes i))
+unfolding operationAt
+operation-within bytes i = operation-by bytes i (symbolAnswer bytes .answer) refl
+
+-- ---- the letter
+letter-by : (bytes : List ℕ) (a : Answer) → symbolAnswer bytes .answer ≡ a → Within AnyLetter (letterBy a (symbolAnswer bytes .centering))
+letter-by bytes Group e = tt
+letter-by bytes (Refused r) e = symbol-told bytes r e
+
+pub letter-within : (bytes : List ℕ) → Within AnyLetter (letterAnswer (symbolAnswer bytes))
+letter-within bytes = letter-by bytes (symbolAnswer bytes .answer) refl
