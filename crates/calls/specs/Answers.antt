@@ -25,12 +25,18 @@ abbrev pub letterAnswer : SymbolGroup → Answer Centering Nothing
 letterAnswer g = letterBy (g .answer) (g .centering)
 
 -- The letter that a record states,
+abbrev pub letterIn : Centering × List Operation → Centering
+letterIn g = g .0
+
 abbrev pub recordLetter : RecordGroup → Answer Centering Nothing
-recordLetter g = mapped (λ (c : Centering × List Operation). c .0) (groupAnswer g)
+recordLetter g = mapped letterIn (groupAnswer g)
 
 -- and how many operations it lists.
+abbrev pub listLength : Centering × List Operation → ℕ
+listLength g = length (g .1)
+
 abbrev pub recordOrder : RecordGroup → Answer ℕ Nothing
-recordOrder g = mapped (λ (c : Centering × List Operation). length (c .1)) (groupAnswer g)
+recordOrder g = mapped listLength (groupAnswer g)
 
 -- What is answered on a table.
 abbrev pub tableAnswer : table-answer.Answer → Answer ℕ Nothing

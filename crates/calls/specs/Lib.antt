@@ -2,3 +2,5 @@
 pub mod Packing
 pub mod Answers
 pub mod SymbolBounds
+pub mod RecordBounds
+pub mod TableBounds

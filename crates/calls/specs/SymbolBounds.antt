@@ -36,7 +36,7 @@ use Rattle.symbol_group.specs.declared.SymbolOperation.the-variants.{Operation 
 use Rattle.symbol_group.specs.declared.refusal.Refusal.{Refusal}
 use Rattle.symbol_group.specs.declared.refusal.Refusal.the-variants.{Text, Group as NoGroup}
 use Rattle.calls.specs.Answers.{letterBy, letterAnswer}
-use Rattle.calls.specs.Packing.{Told, Within, Low, AnyLetter}
+use Rattle.calls.specs.Packing.{Told, near, Within, Low, AnyLetter}
 
 -- ---- places
 -- A text that begins well has at most 80 bytes.
@@ -53,10 +53,6 @@ next-place bytes {place = place} {t} {after} N =
     let rest = ap length (N .cut .text) ∙ length-append (N .w) (t ++ after) in
     let stands = N .stands in
     omega arith
-
--- A refusal of 01 at a place up to 80 can be told.
-near : {number place : ℕ} → 1 ≤ number → number ≤ 255 → place ≤ 80 → Told number place
-near some one-byte low = record { some = some; one-byte = one-byte; low = omega arith }
 
 -- 1 to 11: by the rule of each.
 text-told : (bytes : List ℕ) (r : text-refusal.Refusal) → Refuses bytes r → Told (text.numberOf r) (text.placeOf r)

@@ -1,0 +1,189 @@
+-- What is answered on the table of a group of order at most 48 can be packed: elements and orders are at most 48, sets are below 2⁴⁸, and a list of
+-- different sets is no longer than that.
+use mathlib.Core.Path.{_≡_, refl, sym, _∙_, ap}
+use mathlib.Core.Bool.{Bool, true, false, cond, _&&_}
+use mathlib.Core.List.{List, [], _∷_}
+use Prim.Native.Nat.{ℕ, zero, suc, _+_, _/_, _^_, _<_, _≤_}
+use native.Mathlib.Decide.{ℕ-discrete}
+use native.Mathlib.Omega.{arith}
+use lib.Count.{ones, ones-le}
+use lib.Dec.{eqb, ltb}
+use lib.ListN.{length}
+use lib.Pow.{pow-lt}
+use borrow.Author.Tests.{ltb-true}
+use Rattle.laws.specs.ListOrder.{earlier}
+use Rattle.laws.specs.Sets.{setOf-below}
+use Rattle.laws.specs.Sorted.{keep, sort, sort-length}
+use Rattle.finite_group.specs.Answers.{onGroup, orderAnswer, identityAnswer, listAnswer, subgroupsAnswer, classesAnswer, conjugateAnswer, conjugateEntry, normalizerAnswer, normalizerEntry, ofNormalizer, permutationAnswer, permutationEntry, conjugatesAnswer, conjugatesEntry, numberOf, placeOf}
+use Rattle.finite_group.specs.Bounded.{and-both}
+use Rattle.finite_group.specs.ConjugateLists.{tooShort}
+use Rattle.finite_group.specs.Conjugates.{othersOf, isOther, conjugatesOf}
+use Rattle.finite_group.specs.Conjugation.{conjugate-below}
+use Rattle.finite_group.specs.Groups.{Group}
+use Rattle.finite_group.specs.Listing.{listed}
+use Rattle.finite_group.specs.Lists.{chosen, subgroupsOf, representativesOf}
+use Rattle.finite_group.specs.SubgroupLaws.{below}
+use Rattle.finite_group.specs.Subsets.{isSubgroup, conjugateOf, normalizerOf}
+use Rattle.finite_group.specs.Table.{checkOf, product}
+use Rattle.finite_group.specs.TableVerdict.{Verdict, order-refused, cells-refused, identity-refused, inverse-refused, associativity-refused, accepted, checked-verdict}
+use Rattle.finite_group.specs.declared.Answer.{Answer}
+use Rattle.finite_group.specs.declared.Answer.the-variants.{Value, Refused}
+use Rattle.finite_group.specs.declared.Refusal.{Refusal}
+use Rattle.finite_group.specs.declared.Refusal.the-variants.{Order, Cells, Identity, Inverse, Associativity, Slots, Subgroup, Element, Normalizer}
+use Rattle.calls.specs.Answers.{tableAnswer}
+use Rattle.calls.specs.Packing.{Told, near, Within, Low}
+
+-- An answer that can be packed.
+abbrev pub Packable : Answer → Type 0
+Packable a = Within Low (tableAnswer a)
+
+-- ---- refusals
+-- 21 to 29, at 0.
+pub table-told : (r : Refusal) → Told (numberOf r) (placeOf r)
+unfolding numberOf placeOf
+table-told Order = near (omega arith) (omega arith) (omega arith)
+table-told Cells = near (omega arith) (omega arith) (omega arith)
+table-told Identity = near (omega arith) (omega arith) (omega arith)
+table-told Inverse = near (omega arith) (omega arith) (omega arith)
+table-told Associativity = near (omega arith) (omega arith) (omega arith)
+table-told Slots = near (omega arith) (omega arith) (omega arith)
+table-told Subgroup = near (omega arith) (omega arith) (omega arith)
+table-told Element = near (omega arith) (omega arith) (omega arith)
+table-told Normalizer = near (omega arith) (omega arith) (omega arith)
+
+-- Either answer of a test, where the test's outcome may be used.
+either : (test : Bool) (a b : Answer) → (test ≡ true → Packable a) → Packable b → Packable (cond test a b)
+either true a b h k = h refl
+either false a b h k = k
+
+-- ---- lengths of lists
+below-length : (n : ℕ) → length (below n) ≡ n
+unfolding below
+below-length zero = refl
+below-length (suc n) = ap suc (below-length n)
+
+keep-short : (p : ℕ → Bool) (l : List ℕ) → length (keep p l) ≤ length l
+unfolding keep
+keep-short p [] = omega arith
+keep-short p (x ∷ l) = by-test (p x) (keep-short p l)
+  where
+    by-test : (b : Bool) → length (keep p l) ≤ length l → length (cond b (x ∷ keep p l) (keep p l)) ≤ suc (length l)
+    by-test true h = omega arith
+    by-test false h = omega arith
+
+-- A list of sets of numbers below n has at most 2ⁿ.
+listed-short : (n : ℕ) (p : ℕ → Bool) → length (listed n p) ≤ 2 ^ n
+unfolding listed
+listed-short n p =
+    omega (arith, sort-length (earlier n) (keep p (below (2 ^ n))), keep-short p (below (2 ^ n)), below-length (2 ^ n))
+
+-- At most 48 elements make at most 2⁴⁸ sets.
+few-sets : (n : ℕ) → n ≤ 48 → 2 ^ n ≤ 281474976710656
+few-sets n h = elim (ℕ-discrete n 48) [
+  | yes e ↦ rw e (omega arith)
+  | no d ↦ let less = pow-lt {i = n} {j = 48} (omega arith) in omega arith
+]
+
+-- ---- on a group of order at most 48
+module _ (n : ℕ) (times : ℕ → ℕ → ℕ) (e : ℕ) (G : Group n times e) (limit : n ≤ 48) where
+  set-low : (s : ℕ) → s < 2 ^ n → Low s
+  set-low s h = omega (arith, few-sets n limit)
+
+  list-packable : (p : ℕ → Bool) (b : List ℕ) → Packable (listAnswer (listed n p) b)
+  unfolding listAnswer
+  list-packable p b =
+      either (ltb (length b / 8) (length (listed n p))) (Refused Slots) (Value (length (listed n p)))
+      (λ _. table-told Slots) (omega (arith, listed-short n p, few-sets n limit))
+
+  pub order-packable : Packable (Value n)
+  order-packable = omega arith
+
+  pub identity-packable : Packable (Value e)
+  identity-packable = omega (arith, G .identity-below)
+
+  pub subgroups-packable : (b : List ℕ) → Packable (listAnswer (subgroupsOf n times e) b)
+  unfolding subgroupsOf
+  subgroups-packable b = list-packable (chosen n times e false) b
+
+  pub classes-packable : (b : List ℕ) → Packable (listAnswer (representativesOf n times e) b)
+  unfolding representativesOf
+  classes-packable b = list-packable (chosen n times e true) b
+
+  pub conjugate-packable : (s g : ℕ) → Packable (conjugateAnswer n times e s g)
+  unfolding conjugateAnswer
+  conjugate-packable s g =
+      either (isSubgroup n times e s) (cond (ltb g n) (Value (conjugateOf n times e s g)) (Refused Element)) (Refused Subgroup)
+      (λ _. either (ltb g n) (Value (conjugateOf n times e s g)) (Refused Element)
+      (λ _. set-low (conjugateOf n times e s g) (conjugate-below n times e G s g)) (table-told Element))
+      (table-told Subgroup)
+
+  pub normalizer-packable : (s : ℕ) → Packable (normalizerAnswer n times e s)
+  unfolding normalizerAnswer normalizerOf
+  normalizer-packable s =
+      either (isSubgroup n times e s) (Value (normalizerOf n times e s)) (Refused Subgroup)
+      (λ _. set-low (normalizerOf n times e s) (setOf-below n (λ g. eqb (conjugateOf n times e s g) s))) (table-told Subgroup)
+
+  -- A subgroup has at most as many members as the group.
+  members-few : (s : ℕ) → isSubgroup n times e s ≡ true → ones s ≤ n
+  unfolding isSubgroup
+  members-few s t = ones-le n s (ltb-true s (2 ^ n) (and-both _ _ t .0))
+
+  pub permutation-packable : (s g : ℕ) (b : List ℕ) → Packable (permutationAnswer n times e s g b)
+  unfolding permutationAnswer
+  permutation-packable s g b =
+      let slots = cond (ltb (length b) (ones s)) (Refused Slots) (Value (ones s)) in
+      let normal = cond (eqb (conjugateOf n times e s g) s) slots (Refused Normalizer) in
+      either (isSubgroup n times e s) (cond (ltb g n) normal (Refused Element)) (Refused Subgroup)
+      (λ t. either (ltb g n) normal (Refused Element)
+      (λ _. either (eqb (conjugateOf n times e s g) s) slots (Refused Normalizer)
+      (λ _. either (ltb (length b) (ones s)) (Refused Slots) (Value (ones s)) (λ _. table-told Slots) (omega (arith, members-few s t)))
+      (table-told Normalizer))
+      (table-told Element))
+      (table-told Subgroup)
+
+  pub conjugates-packable : (s : ℕ) (b c : List ℕ) → Packable (conjugatesAnswer n times e s b c)
+  unfolding conjugatesAnswer conjugatesOf othersOf
+  conjugates-packable s b c =
+      let fits = cond (tooShort n times e s b c) (Refused Slots) (Value (length (conjugatesOf n times e s))) in
+      either (isSubgroup n times e s) fits (Refused Subgroup)
+      (λ _. either (tooShort n times e s b c) (Refused Slots) (Value (length (conjugatesOf n times e s)))
+      (λ _. table-told Slots) (omega (arith, listed-short n (isOther n times e s), few-sets n limit)))
+      (table-told Subgroup)
+
+-- ---- from table bytes
+-- What is packable on every group is packable from the bytes of a table.
+on-table : (n : ℕ) (t : List ℕ) (f : ℕ → Answer) → ((e : ℕ) → Group n (product n t) e → n ≤ 48 → Packable (f e)) → Packable (onGroup (checkOf n t) f)
+on-table n t f h = by-verdict (checked-verdict n t)
+  where
+    by-verdict : {c : _} → Verdict n t c → Packable (onGroup c f)
+    by-verdict (order-refused k) = table-told Order
+    by-verdict (cells-refused k l m) = table-told Cells
+    by-verdict (identity-refused k C m) = table-told Identity
+    by-verdict (inverse-refused k C e I x l m) = table-told Inverse
+    by-verdict (associativity-refused k C e I J x y z l m o p) = table-told Associativity
+    by-verdict (accepted k C e G) = h e G (C .limit)
+
+module _ (n : ℕ) (t : List ℕ) where
+  pub table-order : Packable (orderAnswer n t)
+  table-order = on-table n t (λ e. Value n) (λ e G k. order-packable n (product n t) e G k)
+
+  pub table-identity : Packable (identityAnswer n t)
+  table-identity = on-table n t (λ e. Value e) (λ e G k. identity-packable n (product n t) e G k)
+
+  pub table-subgroups : (b : List ℕ) → Packable (subgroupsAnswer n t b)
+  table-subgroups b = on-table n t (λ e. listAnswer (subgroupsOf n (product n t) e) b) (λ e G k. subgroups-packable n (product n t) e G k b)
+
+  pub table-classes : (b : List ℕ) → Packable (classesAnswer n t b)
+  table-classes b = on-table n t (λ e. listAnswer (representativesOf n (product n t) e) b) (λ e G k. classes-packable n (product n t) e G k b)
+
+  pub table-conjugate : (s g : ℕ) → Packable (conjugateEntry n t s g)
+  table-conjugate s g = on-table n t (λ e. conjugateAnswer n (product n t) e s g) (λ e G k. conjugate-packable n (product n t) e G k s g)
+
+  pub table-conjugates : (s : ℕ) (b c : List ℕ) → Packable (conjugatesEntry n t s b c)
+  table-conjugates s b c = on-table n t (λ e. conjugatesAnswer n (product n t) e s b c) (λ e G k. conjugates-packable n (product n t) e G k s b c)
+
+  pub table-normalizer : (s : ℕ) → Packable (normalizerEntry n t s)
+  table-normalizer s = on-table n t (λ e. normalizerAnswer n (product n t) e s) (λ e G k. normalizer-packable n (product n t) e G k s)
+
+  pub table-permutation : (s g : ℕ) (b : List ℕ) → Packable (permutationEntry n t s g b)
+  table-permutation s g b = on-table n t (λ e. permutationAnswer n (product n t) e s g b) (λ e G k. permutation-packable n (product n t) e G k s g b)
