@@ -19,7 +19,7 @@ use Rattle.group_record.specs.declared.RecordGroup.{RecordGroup}
 use Rattle.group_record.specs.declared.Refusal.{Refusal}
 use Rattle.group_record.specs.declared.Refusal.the-variants.{NoRoom, Short, WrongEdition, WrongLetter, WrongLength, WrongItem, NotAllowed}
 use Rattle.calls.specs.Answers.{letterIn, recordLetter, listLength, recordOrder}
-use Rattle.calls.specs.Packing.{Told, near, Within, Low, AnyLetter, mapped}
+use Rattle.calls.specs.Packing.{Told, near, Within, Low, AnyLetter, packed, mapped}
 
 -- 20 and 30 to 35, at 0.
 pub record-told : (r : Refusal) → Told (refusalNumber r) 0
@@ -38,6 +38,12 @@ record-count bytes b e =
     (length-take-le (readOf bytes .count) (readOf bytes .operations) (W .there), W .few)
 
 module _ (bytes : List ℕ) (b : Bytes bytes) where
+  -- The count of a record that is read is the answer.
+  pub order-read : (g : RecordGroup) → g ≡ readOf bytes → g .answer ≡ Accepted → g .count ≡ packed (recordOrder (readOf bytes))
+  order-read g e a =
+      let accepted : readOf bytes .answer ≡ Accepted = sym (ap (λ (h : RecordGroup). h .answer) e) ∙ a in
+      ap (λ (h : RecordGroup). h .count) e ∙ rw accepted (sym (record-count bytes b accepted .0))
+
   order-by : (a : Reading) → readOf bytes .answer ≡ a → Within Low (mapped listLength (readingAnswer a (readOf bytes .centering) (take (readOf bytes .count) (readOf bytes .operations))))
   order-by Accepted e = let (long, few) = record-count bytes b e in omega arith
   order-by (Refused r) e = record-told r

@@ -1,0 +1,21 @@
+-- Every refusal of a record can be told.
+use Rattle.calls.specs.RecordBounds.{record-told}
+use borrow.Author.Needs.{needs}
+use Rattle.calls.proofs.record.refused_record.Statement.{statement}
+use Rattle.calls.proofs.record.refused_record.Tie as tie
+use Rattle.calls.proofs.record.refused_record.Reads as reads
+use Rattle.calls.proofs.record.refused_record.Lts as lts
+use Rattle.calls.proofs.packing.refused.Reads as refused-reads
+use Rattle.calls.proofs.record.number.Reads as number-reads
+
+number-requires : tie.Need-number-requires
+number-requires c κs = search needs
+
+refused-requires : tie.Need-refused-requires
+refused-requires c κs = rw (c .number .ensures) (record-told (c .before .args .why))
+
+returns : tie.Need-returns
+returns c = search needs
+
+pub refused-record-spec : {M : Type 1} → statement M
+refused-record-spec = tie.close (tie.spec number-requires refused-requires returns)

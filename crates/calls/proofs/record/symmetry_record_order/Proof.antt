@@ -1,0 +1,41 @@
+-- By what was read; a record that is read lists as many operations as it counts.
+use mathlib.Core.Path.{_∙_}
+use native.Mathlib.Omega.{arith}
+use Rattle.calls.specs.RecordBounds.{order-read}
+use borrow.Author.Needs.{needs}
+use Rattle.calls.proofs.record.symmetry_record_order.Statement.{statement}
+use Rattle.calls.proofs.record.symmetry_record_order.Tie as tie
+use Rattle.calls.proofs.record.symmetry_record_order.Reads as reads
+use Rattle.calls.proofs.record.symmetry_record_order.Lts as lts
+use Rattle.calls.proofs.record.refused_record.Reads as refused-record-reads
+use Rattle.group_record.proofs.reader.read_record.Reads as read-record-reads
+
+read-record-requires : tie.Need-read-record-requires
+read-record-requires c κs = search needs
+
+enum-told : tie.Need-enum-told
+enum-told c = search needs
+
+enum-known-answer : tie.Need-enum-known-answer
+enum-known-answer c = search needs
+
+refused-record-requires : tie.Need-refused-record-requires
+refused-record-requires c κs = search needs
+
+returns : tie.Need-returns
+returns c =
+    order-read _ (λ i. omega (arith, c .before .before .before .shared-slice-known .given i)) _ (c .before .before .read-record .ensures) (c .enum-told .given .1)
+
+returns-2 : tie.Need-returns-2
+returns-2 c = c .refused-record .ensures ∙ rw (← (c .before .before .before .before .read-record .ensures), c .before .before .answer .given .1)
+
+pub symmetry-record-order-spec : {M : Type 1} → statement M
+symmetry-record-order-spec =
+    tie.close
+    (tie.spec
+    read-record-requires
+    enum-told
+    enum-known-answer
+    refused-record-requires
+    returns
+    returns-2)

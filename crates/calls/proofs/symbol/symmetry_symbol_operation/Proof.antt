@@ -1,0 +1,67 @@
+-- Each case of the answer, packed.
+use mathlib.Core.Path.{sym, _∙_, ap, subst}
+use Rattle.hall_token.specs.Answers.{Reduced}
+use Rattle.symbol_group.specs.Answers.{operationAnswer}
+use Rattle.symbol_group.specs.declared.SymbolOperation.{SymbolOperation}
+use Rattle.calls.specs.Packing.{packed, mapped, operationNumber, Within}
+use Rattle.calls.specs.SymbolBounds.{operation-within}
+use borrow.Author.Needs.{needs}
+use Rattle.calls.proofs.symbol.symmetry_symbol_operation.Statement.{statement}
+use Rattle.calls.proofs.symbol.symmetry_symbol_operation.Tie as tie
+use Rattle.calls.proofs.symbol.symmetry_symbol_operation.Reads as reads
+use Rattle.calls.proofs.symbol.symmetry_symbol_operation.Lts as lts
+use Rattle.calls.proofs.packing.refused.Reads as refused-reads
+use Rattle.calls.proofs.symbol.operation_number.Reads as operation-number-reads
+use Rattle.calls.proofs.symbol.refused_symbol.Reads as refused-symbol-reads
+use Rattle.symbol_group.proofs.operation_at.Reads as operation-at-reads
+
+operation-at-requires : tie.Need-operation-at-requires
+operation-at-requires c κs = search needs
+
+enum-known-o : tie.Need-enum-known-o
+enum-known-o c = search needs
+
+operation-number-requires : tie.Need-operation-number-requires
+operation-number-requires c κs = search needs
+
+enum-told : tie.Need-enum-told
+enum-told c = search needs
+
+refused-requires : tie.Need-refused-requires
+refused-requires c κs = search needs
+
+enum-known-refusal : tie.Need-enum-known-refusal
+enum-known-refusal c = search needs
+
+refused-symbol-requires : tie.Need-refused-symbol-requires
+refused-symbol-requires c κs = subst (λ (a : SymbolOperation). Within Reduced (operationAnswer a)) (sym (c .before .before .before .operation-at .ensures) ∙ c .before .refusal .given .1) (operation-within _ _)
+
+returns : tie.Need-returns
+returns c =
+    c .operation-number .ensures
+    ∙ ap (λ (a : SymbolOperation). packed (mapped operationNumber (operationAnswer a))) (sym (c .before .before .o .given .1) ∙ c .before .before .before .before .operation-at .ensures)
+
+returns-2 : tie.Need-returns-2
+returns-2 c =
+    c .refused .ensures
+    ∙ ap (λ (a : SymbolOperation). packed (mapped operationNumber (operationAnswer a))) (sym (c .before .enum-told .given .1) ∙ c .before .before .before .operation-at .ensures)
+
+returns-3 : tie.Need-returns-3
+returns-3 c =
+    c .refused-symbol .ensures
+    ∙ ap (λ (a : SymbolOperation). packed (mapped operationNumber (operationAnswer a))) (sym (c .before .before .refusal .given .1) ∙ c .before .before .before .before .operation-at .ensures)
+
+pub symmetry-symbol-operation-spec : {M : Type 1} → statement M
+symmetry-symbol-operation-spec =
+    tie.close
+    (tie.spec
+    operation-at-requires
+    enum-known-o
+    operation-number-requires
+    enum-told
+    refused-requires
+    enum-known-refusal
+    refused-symbol-requires
+    returns
+    returns-2
+    returns-3)

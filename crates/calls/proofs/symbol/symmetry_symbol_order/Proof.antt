@@ -1,0 +1,44 @@
+-- Each case of the answer, packed.
+use mathlib.Core.Path.{sym, _∙_, ap, subst}
+use Rattle.symbol_group.specs.Answers.{orderAnswer}
+use Rattle.symbol_group.specs.declared.SymbolOrder.{SymbolOrder}
+use Rattle.calls.specs.Packing.{packed, Within, Low}
+use Rattle.calls.specs.SymbolBounds.{order-within}
+use borrow.Author.Needs.{needs}
+use Rattle.calls.proofs.symbol.symmetry_symbol_order.Statement.{statement}
+use Rattle.calls.proofs.symbol.symmetry_symbol_order.Tie as tie
+use Rattle.calls.proofs.symbol.symmetry_symbol_order.Reads as reads
+use Rattle.calls.proofs.symbol.symmetry_symbol_order.Lts as lts
+use Rattle.calls.proofs.symbol.refused_symbol.Reads as refused-symbol-reads
+use Rattle.symbol_group.proofs.order.Reads as order-reads
+
+order-requires : tie.Need-order-requires
+order-requires c κs = search needs
+
+enum-known-n : tie.Need-enum-known-n
+enum-known-n c = search needs
+
+enum-known-refusal : tie.Need-enum-known-refusal
+enum-known-refusal c = search needs
+
+refused-symbol-requires : tie.Need-refused-symbol-requires
+refused-symbol-requires c κs = subst (λ (a : SymbolOrder). Within Low (orderAnswer a)) (sym (c .before .before .before .order .ensures) ∙ c .before .refusal .given .1) (order-within _)
+
+returns : tie.Need-returns
+returns c = ap (λ (a : SymbolOrder). packed (orderAnswer a)) (sym (c .before .n .given .1) ∙ c .before .before .before .order .ensures)
+
+returns-2 : tie.Need-returns-2
+returns-2 c =
+    c .refused-symbol .ensures
+    ∙ ap (λ (a : SymbolOrder). packed (orderAnswer a)) (sym (c .before .before .refusal .given .1) ∙ c .before .before .before .before .order .ensures)
+
+pub symmetry-symbol-order-spec : {M : Type 1} → statement M
+symmetry-symbol-order-spec =
+    tie.close
+    (tie.spec
+    order-requires
+    enum-known-n
+    enum-known-refusal
+    refused-symbol-requires
+    returns
+    returns-2)

@@ -1,0 +1,42 @@
+-- The value as it is, or the refusal by its number, at 0.
+use mathlib.Core.Path.{_∙_}
+use Rattle.finite_group.specs.Answers.{placeOf}
+use Rattle.calls.specs.TableBounds.{table-told}
+use borrow.Author.Needs.{needs}
+use Rattle.calls.proofs.table.answered.Statement.{statement}
+use Rattle.calls.proofs.table.answered.Tie as tie
+use Rattle.calls.proofs.table.answered.Reads as reads
+use Rattle.calls.proofs.table.answered.Lts as lts
+use Rattle.calls.proofs.packing.refused.Reads as refused-reads
+use Rattle.calls.proofs.table.number.Reads as number-reads
+
+enum-known-answer : tie.Need-enum-known-answer
+enum-known-answer c = search needs
+
+enum-known-answer-2 : tie.Need-enum-known-answer-2
+enum-known-answer-2 c = search needs
+
+number-requires : tie.Need-number-requires
+number-requires c κs = search needs
+
+refused-requires : tie.Need-refused-requires
+unfolding placeOf
+refused-requires c κs = rw (c .number .ensures) (table-told (c .before .before .answer2 .given .0 .0))
+
+returns : tie.Need-returns
+returns c = search needs
+
+returns-2 : tie.Need-returns-2
+unfolding placeOf
+returns-2 c = c .refused .ensures ∙ simp (c .before .number .ensures, c .before .before .before .answer2 .given .1)
+
+pub answered-spec : {M : Type 1} → statement M
+answered-spec =
+    tie.close
+    (tie.spec
+    enum-known-answer
+    enum-known-answer-2
+    number-requires
+    refused-requires
+    returns
+    returns-2)

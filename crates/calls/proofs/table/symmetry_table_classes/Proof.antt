@@ -1,0 +1,30 @@
+-- The answer on the table, packed, and the lent list as it was left.
+use mathlib.Core.Path.{_∙_, ap}
+use Rattle.finite_group.specs.declared.Answer.{Answer}
+use Rattle.calls.specs.Answers.{tableAnswer}
+use Rattle.calls.specs.Packing.{packed}
+use borrow.Author.Needs.{needs}
+use Rattle.calls.proofs.table.symmetry_table_classes.Statement.{statement}
+use Rattle.calls.proofs.table.symmetry_table_classes.Tie as tie
+use Rattle.calls.proofs.table.symmetry_table_classes.Reads as reads
+use Rattle.calls.proofs.table.symmetry_table_classes.Lts as lts
+use Rattle.calls.proofs.table.answered.Reads as answered-reads
+use Rattle.finite_group.proofs.conjugacy_classes.Reads as conjugacy-classes-reads
+
+conjugacy-classes-requires : tie.Need-conjugacy-classes-requires
+conjugacy-classes-requires c κs = search needs
+
+answered-requires : tie.Need-answered-requires
+answered-requires c κs = search needs
+
+same-length : tie.Need-same-length
+same-length c = search needs
+
+returns : tie.Need-returns
+returns c =
+    let listed = c .before .before .before .conjugacy-classes .ensures in
+    (c .answered .ensures ∙ ap (λ (a : Answer). packed (tableAnswer a)) (listed .0), listed .1)
+
+pub symmetry-table-classes-spec : {M : Type 1} → statement M
+symmetry-table-classes-spec =
+    tie.close (tie.spec conjugacy-classes-requires answered-requires same-length returns)

@@ -1,0 +1,33 @@
+-- The answer on the table, packed, and the lent lists as they were left.
+use mathlib.Core.Path.{_∙_, ap}
+use Rattle.finite_group.specs.declared.Answer.{Answer}
+use Rattle.calls.specs.Answers.{tableAnswer}
+use Rattle.calls.specs.Packing.{packed}
+use borrow.Author.Needs.{needs}
+use Rattle.calls.proofs.table.symmetry_table_conjugates.Statement.{statement}
+use Rattle.calls.proofs.table.symmetry_table_conjugates.Tie as tie
+use Rattle.calls.proofs.table.symmetry_table_conjugates.Reads as reads
+use Rattle.calls.proofs.table.symmetry_table_conjugates.Lts as lts
+use Rattle.calls.proofs.table.answered.Reads as answered-reads
+use Rattle.finite_group.proofs.conjugates.Reads as conjugates-reads
+
+conjugates-requires : tie.Need-conjugates-requires
+conjugates-requires c κs = search needs
+
+answered-requires : tie.Need-answered-requires
+answered-requires c κs = search needs
+
+same-length : tie.Need-same-length
+same-length c = search needs
+
+same-length-2 : tie.Need-same-length-2
+same-length-2 c = search needs
+
+returns : tie.Need-returns
+returns c =
+    let listed = c .before .before .before .before .before .conjugates .ensures in
+    (c .answered .ensures ∙ ap (λ (a : Answer). packed (tableAnswer a)) (listed .0), listed .1, listed .2)
+
+pub symmetry-table-conjugates-spec : {M : Type 1} → statement M
+symmetry-table-conjugates-spec =
+    tie.close (tie.spec conjugates-requires answered-requires same-length same-length-2 returns)

@@ -1,0 +1,30 @@
+-- The answer on the table, packed, and the lent list as it was left.
+use mathlib.Core.Path.{_∙_, ap}
+use Rattle.finite_group.specs.declared.Answer.{Answer}
+use Rattle.calls.specs.Answers.{tableAnswer}
+use Rattle.calls.specs.Packing.{packed}
+use borrow.Author.Needs.{needs}
+use Rattle.calls.proofs.table.symmetry_table_permutation.Statement.{statement}
+use Rattle.calls.proofs.table.symmetry_table_permutation.Tie as tie
+use Rattle.calls.proofs.table.symmetry_table_permutation.Reads as reads
+use Rattle.calls.proofs.table.symmetry_table_permutation.Lts as lts
+use Rattle.calls.proofs.table.answered.Reads as answered-reads
+use Rattle.finite_group.proofs.normalizer_action.Reads as normalizer-action-reads
+
+normalizer-action-requires : tie.Need-normalizer-action-requires
+normalizer-action-requires c κs = search needs
+
+answered-requires : tie.Need-answered-requires
+answered-requires c κs = search needs
+
+same-length : tie.Need-same-length
+same-length c = search needs
+
+returns : tie.Need-returns
+returns c =
+    let listed = c .before .before .before .normalizer-action .ensures in
+    (c .answered .ensures ∙ ap (λ (a : Answer). packed (tableAnswer a)) (listed .0), listed .1)
+
+pub symmetry-table-permutation-spec : {M : Type 1} → statement M
+symmetry-table-permutation-spec =
+    tie.close (tie.spec normalizer-action-requires answered-requires same-length returns)

@@ -1,0 +1,11 @@
+// An answer as one number: a value stands as it is, and a refusal has its number in the top byte and its place below.
+ghost use mathlib.Core.Path.{_≡_};
+ghost use Prim.Native.Nat.{_+_, _*_};
+ghost use Rattle.calls.specs.Packing.{topByte, Told};
+
+pub(crate) fn refused(number: u8, place: usize) -> u64
+    requires { ⌜ Told number place ⌝ }
+    ensures { λ r. ⌜ r ≡ number * topByte + place ⌝ }
+{
+    (number as u64) * 72057594037927936 + place as u64
+}

@@ -1,0 +1,70 @@
+// What is asked of a record.
+ghost use mathlib.Core.Path.{_≡_};
+ghost use Prim.Native.Nat.{_+_, _*_};
+ghost use Rattle.centering.specs.Letters.{byteOf};
+ghost use Rattle.group_record.specs.Copying.{copyAnswer, copiedOf, bufferOf};
+ghost use Rattle.group_record.specs.Reading.{refusalNumber, readOf};
+ghost use Rattle.calls.specs.Answers.{recordLetter, recordOrder};
+ghost use Rattle.calls.specs.Packing.{topByte, packed, mapped};
+use super::packing::refused;
+use group_record::Copied;
+use group_record::Reading;
+use group_record::Refusal;
+use group_record::copier::copy_record;
+use group_record::reader::read_record;
+
+#[no_mangle]
+pub extern "C" fn symmetry_record_order(bytes: &[u8]) -> u64
+    ensures { λ r. ⌜ r ≡ packed (recordOrder (readOf (now (bytes .entry)))) ⌝ }
+{
+    let group = read_record(bytes);
+    let answer = group.answer;
+    match answer {
+        Reading::Accepted => group.count as u64,
+        Reading::Refused(why) => refused_record(why),
+    }
+}
+
+#[no_mangle]
+pub extern "C" fn symmetry_record_letter(bytes: &[u8]) -> u64
+    ensures { λ r. ⌜ r ≡ packed (mapped byteOf (recordLetter (readOf (now (bytes .entry))))) ⌝ }
+{
+    let group = read_record(bytes);
+    let answer = group.answer;
+    let centering = group.centering;
+    match answer {
+        Reading::Accepted => centering.byte() as u64,
+        Reading::Refused(why) => refused_record(why),
+    }
+}
+
+#[no_mangle]
+pub extern "C" fn symmetry_record_copy(bytes: &[u8], out: &mut [u8], start: u64) -> u64
+    ensures { λ r. ⌜ (r ≡ packed (copyAnswer (copiedOf (now (bytes .entry)) (now (out .entry)) start)))
+        × (now (out .exit) ≡ bufferOf (now (bytes .entry)) (now (out .entry)) start) ⌝ }
+{
+    match copy_record(bytes, out, start as usize) {
+        Copied::Written(n) => n as u64,
+        Copied::Refused(why) => refused_record(why),
+    }
+}
+
+fn refused_record(why: Refusal) -> u64
+    ensures { λ r. ⌜ r ≡ refusalNumber why * topByte + 0 ⌝ }
+{
+    refused(number(why), 0)
+}
+
+fn number(why: Refusal) -> u8
+    ensures { λ r. ⌜ r ≡ refusalNumber why ⌝ }
+{
+    match why {
+        Refusal::NoRoom => 20,
+        Refusal::Short => 30,
+        Refusal::WrongEdition => 31,
+        Refusal::WrongLetter => 32,
+        Refusal::WrongLength => 33,
+        Refusal::WrongItem => 34,
+        Refusal::NotAllowed => 35,
+    }
+}
