@@ -1,0 +1,206 @@
+/*
+ * Groups of crystal symmetry, from C or C++: what a Hall symbol, a group record or a table of products says, and the subgroups of such a group.
+ * Link with libcalls.a, which `rt staticlib calls` makes for x86-64.
+ *
+ * Every function is a pure one: the same arguments get the same answer, on every day and every machine. Nothing is kept between calls, there is no
+ * heap, and calls from several threads do not meet unless they lend the same memory.
+ *
+ * Slices. A slice is two arguments, a pointer and a length in bytes. The pointer must be good for reading (and where it is not const, for writing)
+ * as many bytes as the length says; NULL with length 0 is an empty slice. A slice that is lent for writing overlaps no other slice of the call.
+ *
+ * Answers. Each function returns one number. Its top byte is 0 and the value stands below it; or its top byte is the number of a refusal and the rest
+ * is the refusal's place. Two different answers never share a number. symmetry_number, symmetry_place and symmetry_value take an answer apart.
+ *
+ * Sources. The functions come in three families that differ in what the group is given by:
+ *   symmetry_symbol_...   text    the bytes of a Hall symbol, at most 80; no byte 0 ends it. Elements are numbered in list order: breadth first from
+ *                                 the identity, right factors running over the symbol's generators in order. Refusals 1 to 14.
+ *   symmetry_record_...   record  bytes that end with a group record; what stands before it is not looked at. Elements are numbered in the record's
+ *                                 order, by ascending rotation code. Refusals 30 to 35.
+ *   symmetry_table_...    order and table   n and n * n bytes by rows, the byte at i * n + j being the product of i and j. Refusals 21 to 25.
+ * A source is checked in every call, before anything else that is asked; no function takes a group on trust.
+ *
+ * Sets. A set of elements is a 64-bit number: bit i is set if i is a member. A list of sets is lent as bytes, eight bytes a slot, high byte first;
+ * bytes left over behind the last whole slot are no slot and are never written. symmetry_set reads a slot. In a list of conjugators or positions a
+ * slot is one byte. In the order of a list of sets, the one with more members stands first; of two with as many, the one that holds the lowest
+ * element in which they differ. So a subgroup has the same position in its list whenever it is asked for.
+ *
+ * Lent memory. Where a function writes, its comment says what the lent bytes hold after it: in the first slots a list, and every other byte as it
+ * was. Where the answer is a refusal nothing was written, except by refusal 26: it leaves 0 in every slot of every list lent to that call. Lists that
+ * fit exactly are no refusal.
+ */
+#ifndef SYMMETRY_H
+#define SYMMETRY_H
+
+#include <stddef.h>
+#include <stdint.h>
+
+#ifdef __cplusplus
+extern "C" {
+#endif
+
+/*
+ * Why there is no answer. "At" says what the place is; places are in bytes from 0, and a token's place is that of its first byte.
+ * The numbers 15 and 16 belong to parts of the port that C has no function for.
+ */
+enum symmetry_refusal {
+    /* The text of a symbol, read from the left. */
+    SYMMETRY_TEXT_TOO_LONG = 1,     /* over 80 bytes; at 80 */
+    SYMMETRY_BYTE_FORBIDDEN = 2,    /* a byte that is not 9 to 13 or 32 to 126; at the first such byte */
+    SYMMETRY_NO_TOKEN = 3,          /* nothing but whitespace; at 0 */
+    SYMMETRY_LATTICE_WRONG = 4,     /* the first token is not one of P A B C I R F, with or without a minus; at that token */
+    SYMMETRY_TOKEN_MISSPELT = 5,    /* an N token that no rule spells; at that token */
+    SYMMETRY_AXIS_UNSETTLED = 6,    /* no axis follows from the token and those before it, or fold and axis have no matrix; at that token */
+    SYMMETRY_DIGIT_WRONG = 7,       /* a screw digit out of range, on another axis than z, not first, or a second one; at that token */
+    SYMMETRY_TOKEN_PRIMED = 8,      /* an apostrophe, which only magnetic symbols have; at that token */
+    SYMMETRY_SHIFT_MALFORMED = 9,   /* the shift of origin is not three numbers 0 to 11 in brackets at the end; at its opening bracket */
+    SYMMETRY_NO_ROTATION = 10,      /* no N token; at the opening bracket, or at the text's length */
+    SYMMETRY_TOO_MANY_TOKENS = 11,  /* a ninth N token; at that token */
+    /* The generators that a symbol spells. */
+    SYMMETRY_LATTICE_NOT_KEPT = 12, /* a generator does not map the centred lattice onto itself; at its index from 0 */
+    SYMMETRY_TOO_MANY_ROTATIONS = 13, /* over 48 rotations, or one with an entry outside -1..1; at 0 */
+    SYMMETRY_TWO_TRANSLATIONS = 14, /* one rotation with two translations that differ by no vector of the lattice; at 0 */
+    /* A place in lent memory; at 0. */
+    SYMMETRY_NO_ROOM = 20,          /* the start is beyond the buffer, or fewer bytes than the record needs are left from it */
+    /* A table of products; at 0. */
+    SYMMETRY_ORDER = 21,            /* the order is 0 or over 48 */
+    SYMMETRY_CELLS = 22,            /* not as many bytes as the square of the order, or a byte that is no element */
+    SYMMETRY_NO_IDENTITY = 23,      /* no two-sided identity */
+    SYMMETRY_NO_INVERSE = 24,       /* an element without a two-sided inverse */
+    SYMMETRY_NOT_ASSOCIATIVE = 25,  /* the product is not associative */
+    /* What is asked of a group; at 0. */
+    SYMMETRY_TOO_FEW_SLOTS = 26,    /* a lent list is shorter than the answer; all its slots are 0 now */
+    SYMMETRY_NOT_A_SUBGROUP = 27,   /* the set is no subgroup */
+    SYMMETRY_NOT_AN_ELEMENT = 28,   /* the element or the index is not below the order */
+    SYMMETRY_NOT_NORMALIZING = 29,  /* a permutation asked for an element that does not conjugate the subgroup to itself */
+    /* A group record; at 0. */
+    SYMMETRY_RECORD_SHORT = 30,     /* under 10 bytes */
+    SYMMETRY_RECORD_EDITION = 31,   /* the edition is not 1 */
+    SYMMETRY_RECORD_LETTER = 32,    /* the letter is not one of P A B C I R F */
+    SYMMETRY_RECORD_LENGTH = 33,    /* not 1 to 48 operations, or a stated length that is wrong or beyond the buffer */
+    SYMMETRY_RECORD_ITEM = 34,      /* a code over 19682, a coordinate over 11, a translation not the smallest of its class, or codes not ascending */
+    SYMMETRY_RECORD_NO_GROUP = 35   /* what is listed is no group that a record may hold */
+};
+
+/* ---- an answer, taken apart ---- */
+
+/* The number of the refusal, or 0 for an answer with a value. */
+static inline unsigned symmetry_number(uint64_t answer) { return (unsigned)(answer >> 56); }
+
+/* 1 if the answer is a refusal, else 0. */
+static inline int symmetry_refused(uint64_t answer) { return symmetry_number(answer) != 0; }
+
+/* The place of a refusal. */
+static inline uint64_t symmetry_place(uint64_t answer) { return answer & UINT64_C(0x00FFFFFFFFFFFFFF); }
+
+/* The value of an answer that is no refusal. */
+static inline uint64_t symmetry_value(uint64_t answer) { return answer & UINT64_C(0x00FFFFFFFFFFFFFF); }
+
+/* The set in slot k of a list of sets, which must have that slot. */
+static inline uint64_t symmetry_set(const uint8_t *sets, size_t k)
+{
+    uint64_t set = 0;
+    size_t i;
+    for (i = 0; i < 8; i++)
+        set = set << 8 | sets[8 * k + i];
+    return set;
+}
+
+/*
+ * The value that symmetry_symbol_operation answers, taken apart: the entry -1, 0 or 1 of the rotation's matrix in a row and a column 0 to 2, and the
+ * translation 0 to 11 twelfths along axis 0, 1 or 2.
+ */
+static inline int symmetry_entry(uint64_t value, unsigned row, unsigned column)
+{
+    uint64_t code = value / 1728;
+    unsigned i;
+    for (i = 3 * row + column; i < 8; i++)
+        code /= 3;
+    return (int)(code % 3) - 1;
+}
+
+static inline unsigned symmetry_twelfths(uint64_t value, unsigned axis)
+{
+    return (unsigned)(axis == 0 ? value / 144 % 12 : axis == 1 ? value / 12 % 12 : value % 12);
+}
+
+/* ---- the group itself ---- */
+
+/* The order: how many operations modulo the lattice, or how many elements. 1 to 48. */
+uint64_t symmetry_symbol_order(const uint8_t *text, size_t text_length);
+uint64_t symmetry_record_order(const uint8_t *record, size_t record_length);
+uint64_t symmetry_table_order(uint64_t order, const uint8_t *table, size_t table_length);
+
+/* The index of the identity; a symbol's is 0. */
+uint64_t symmetry_symbol_identity(const uint8_t *text, size_t text_length);
+uint64_t symmetry_record_identity(const uint8_t *record, size_t record_length);
+uint64_t symmetry_table_identity(uint64_t order, const uint8_t *table, size_t table_length);
+
+/* The byte of the centring letter, one of P A B C I R F. */
+uint64_t symmetry_symbol_letter(const uint8_t *text, size_t text_length);
+uint64_t symmetry_record_letter(const uint8_t *record, size_t record_length);
+
+/*
+ * The operation with this index in list order: code * 1728 + x * 144 + y * 12 + z, the code being the sum of (entry + 1) * 3^(8 - i) over the
+ * rotation's nine entries by rows, and x, y, z its translation in twelfths. 28 if the index is not below the order.
+ */
+uint64_t symmetry_symbol_operation(const uint8_t *text, size_t text_length, uint64_t index);
+
+/* ---- group records ---- */
+
+/*
+ * Writes the record of the group from out + start on, and answers the order n. The 5 * n + 5 bytes from there hold the record, all others are as they
+ * were. Two symbols get the same bytes exactly if their groups are the same set of motions. 20 if the record has no room there.
+ */
+uint64_t symmetry_symbol_record(const uint8_t *text, size_t text_length, uint8_t *out, size_t out_length, uint64_t start);
+
+/* The same for the group that a record holds: reads it, and writes it from out + start on. */
+uint64_t symmetry_record_copy(const uint8_t *record, size_t record_length, uint8_t *out, size_t out_length, uint64_t start);
+
+/* ---- subgroups ---- */
+
+/* Lists all subgroups in the slots of sets, and answers how many there are. 26 if there are more than slots. */
+uint64_t symmetry_symbol_subgroups(const uint8_t *text, size_t text_length, uint8_t *sets, size_t sets_length);
+uint64_t symmetry_record_subgroups(const uint8_t *record, size_t record_length, uint8_t *sets, size_t sets_length);
+uint64_t symmetry_table_subgroups(uint64_t order, const uint8_t *table, size_t table_length, uint8_t *sets, size_t sets_length);
+
+/*
+ * Lists of each class of conjugate subgroups the one that stands first in the list of all subgroups, in the order of that list, and answers how many
+ * classes there are. 26 if there are more than slots.
+ */
+uint64_t symmetry_symbol_classes(const uint8_t *text, size_t text_length, uint8_t *sets, size_t sets_length);
+uint64_t symmetry_record_classes(const uint8_t *record, size_t record_length, uint8_t *sets, size_t sets_length);
+uint64_t symmetry_table_classes(uint64_t order, const uint8_t *table, size_t table_length, uint8_t *sets, size_t sets_length);
+
+/* The conjugate of a subgroup H by an element g, the set of all inverse(g) h g. 27 if the set is no subgroup, then 28 if g is not below the order. */
+uint64_t symmetry_symbol_conjugate(const uint8_t *text, size_t text_length, uint64_t set, uint64_t element);
+uint64_t symmetry_record_conjugate(const uint8_t *record, size_t record_length, uint64_t set, uint64_t element);
+uint64_t symmetry_table_conjugate(uint64_t order, const uint8_t *table, size_t table_length, uint64_t set, uint64_t element);
+
+/*
+ * Lists the conjugates of a subgroup in the slots of sets, and beside each, in the byte of conjugators with the same position, the smallest element
+ * that conjugates to it: the subgroup itself first with the identity, then the others in the order of lists. Answers how many there are. 27 if the
+ * set is no subgroup, then 26 if either list is too short; both lists are 0 then, also one that was long enough.
+ */
+uint64_t symmetry_symbol_conjugates(const uint8_t *text, size_t text_length, uint64_t set, uint8_t *sets, size_t sets_length, uint8_t *conjugators, size_t conjugators_length);
+uint64_t symmetry_record_conjugates(const uint8_t *record, size_t record_length, uint64_t set, uint8_t *sets, size_t sets_length, uint8_t *conjugators, size_t conjugators_length);
+uint64_t symmetry_table_conjugates(uint64_t order, const uint8_t *table, size_t table_length, uint64_t set, uint8_t *sets, size_t sets_length, uint8_t *conjugators, size_t conjugators_length);
+
+/* The set of the elements that conjugate a subgroup to itself. 27 if the set is no subgroup. */
+uint64_t symmetry_symbol_normalizer(const uint8_t *text, size_t text_length, uint64_t set);
+uint64_t symmetry_record_normalizer(const uint8_t *record, size_t record_length, uint64_t set);
+uint64_t symmetry_table_normalizer(uint64_t order, const uint8_t *table, size_t table_length, uint64_t set);
+
+/*
+ * How an element g of its normalizer permutes a subgroup's members: members ascend and have positions from 0, and byte i of positions becomes the
+ * position of inverse(g) h g, h being the member at position i. Answers how many members there are. 27 if the set is no subgroup, then 28 if g is not
+ * below the order, then 29 if it is not in the normalizer, then 26 if the list is too short.
+ */
+uint64_t symmetry_symbol_permutation(const uint8_t *text, size_t text_length, uint64_t set, uint64_t element, uint8_t *positions, size_t positions_length);
+uint64_t symmetry_record_permutation(const uint8_t *record, size_t record_length, uint64_t set, uint64_t element, uint8_t *positions, size_t positions_length);
+uint64_t symmetry_table_permutation(uint64_t order, const uint8_t *table, size_t table_length, uint64_t set, uint64_t element, uint8_t *positions, size_t positions_length);
+
+#ifdef __cplusplus
+}
+#endif
+
+#endif
