@@ -15,16 +15,17 @@ use Rattle.laws.specs.ListOrder.{earlier}
 use Rattle.laws.specs.Sets.{setOf-below}
 use Rattle.laws.specs.Sorted.{keep, sort, sort-length}
 use Rattle.finite_group.specs.Answers.{onGroup, orderAnswer, identityAnswer, listAnswer, subgroupsAnswer, classesAnswer, conjugateAnswer, conjugateEntry, normalizerAnswer, normalizerEntry, ofNormalizer, permutationAnswer, permutationEntry, conjugatesAnswer, conjugatesEntry, numberOf, placeOf}
-use Rattle.finite_group.specs.Bounded.{and-both}
+use Rattle.subgroup_laws.specs.Bounded.{and-both}
 use Rattle.finite_group.specs.ConjugateLists.{tooShort}
-use Rattle.finite_group.specs.Conjugates.{othersOf, isOther, conjugatesOf}
-use Rattle.finite_group.specs.Conjugation.{conjugate-below}
-use Rattle.finite_group.specs.Groups.{Group}
-use Rattle.finite_group.specs.Listing.{listed}
-use Rattle.finite_group.specs.Lists.{chosen, subgroupsOf, representativesOf}
-use Rattle.finite_group.specs.SubgroupLaws.{below}
-use Rattle.finite_group.specs.Subsets.{isSubgroup, conjugateOf, normalizerOf}
-use Rattle.finite_group.specs.Table.{checkOf, product}
+use Rattle.subgroup_laws.specs.Conjugates.{othersOf, isOther, conjugatesOf}
+use Rattle.subgroup_laws.specs.Conjugation.{conjugate-below}
+use Rattle.subgroup_laws.specs.Groups.{Group}
+use Rattle.subgroup_laws.specs.Listing.{listed}
+use Rattle.subgroup_laws.specs.Lists.{chosen, subgroupsOf, representativesOf}
+use Rattle.subgroup_laws.specs.SubgroupLaws.{below}
+use Rattle.subgroup_laws.specs.Subsets.{isSubgroup, conjugateOf, normalizerOf}
+use Rattle.subgroup_laws.specs.Table.{product}
+use Rattle.finite_group.specs.TableCheck.{checkOf}
 use Rattle.finite_group.specs.TableVerdict.{Verdict, order-refused, cells-refused, identity-refused, inverse-refused, associativity-refused, accepted, checked-verdict}
 use Rattle.finite_group.specs.declared.Answer.{Answer}
 use Rattle.finite_group.specs.declared.Answer.the-variants.{Value, Refused}
