@@ -35,6 +35,9 @@ use Rattle.symbol_group.specs.declared.Answer.the-variants.{Group, Refused}
 use Rattle.symbol_group.specs.declared.SymbolOperation.the-variants.{Operation as Found, PastEnd}
 use Rattle.symbol_group.specs.declared.refusal.Refusal.{Refusal}
 use Rattle.symbol_group.specs.declared.refusal.Refusal.the-variants.{Text, Group as NoGroup}
+use Rattle.group_record.specs.Copying.{roomFor}
+use Rattle.group_record.specs.SymbolRecords.{writtenBy, symbolRecordOf, symbolRecordAnswer}
+use Rattle.group_record.specs.declared.SymbolRecord.the-variants.{Written, NoRoom}
 use Rattle.calls.specs.Answers.{letterBy, letterAnswer}
 use Rattle.calls.specs.Packing.{Told, near, Within, Low, AnyLetter}
 
@@ -142,3 +145,16 @@ letter-by bytes (Refused r) e = symbol-told bytes r e
 
 pub letter-within : (bytes : List ℕ) → Within AnyLetter (letterAnswer (symbolAnswer bytes))
 letter-within bytes = letter-by bytes (symbolAnswer bytes .answer) refl
+
+-- ---- the record
+record-by : (bytes : List ℕ) (start size : ℕ) (a : Answer) → symbolAnswer bytes .answer ≡ a → Within Low (symbolRecordAnswer (writtenBy a (symbolAnswer bytes .count) start size))
+record-by bytes start size Group e = by-room (roomFor start (symbolAnswer bytes .count) size)
+  where
+    by-room : (b : Bool) → Within Low (symbolRecordAnswer (cond b (Written (symbolAnswer bytes .count)) NoRoom))
+    by-room true = omega (arith, symbol-slots bytes .0)
+    by-room false = near (omega arith) (omega arith) (omega arith)
+record-by bytes start size (Refused r) e = symbol-told bytes r e
+
+pub record-within : (bytes out : List ℕ) (start : ℕ) → Within Low (symbolRecordAnswer (symbolRecordOf bytes out start))
+unfolding symbolRecordOf
+record-within bytes out start = record-by bytes start (length out) (symbolAnswer bytes .answer) refl

@@ -4,9 +4,12 @@ ghost use Prim.Native.Nat.{_+_, _*_};
 ghost use Rattle.centering.specs.Letters.{byteOf};
 ghost use Rattle.symbol_group.specs.Answers.{symbolAnswer, orderOf, orderAnswer, operationAt, operationAnswer};
 ghost use Rattle.symbol_group.specs.Refusals.{numberOf, placeOf};
+ghost use Rattle.group_record.specs.SymbolRecords.{symbolRecordAnswer, symbolRecordOf, symbolBufferOf};
 ghost use Rattle.calls.specs.Answers.{letterAnswer};
 ghost use Rattle.calls.specs.Packing.{topByte, packed, mapped, operationNumber, Told};
 use super::packing::refused;
+use group_record::SymbolRecord;
+use group_record::symbol::write_record;
 use operation::Operation;
 use operation::code::rotation_code;
 use symbol_group::Answer;
@@ -46,6 +49,18 @@ pub extern "C" fn symmetry_symbol_operation(text: &[u8], index: u64) -> u64
         SymbolOperation::Operation(o) => operation_number(o),
         SymbolOperation::PastEnd => refused(28, 0),
         SymbolOperation::Refused(refusal) => refused_symbol(refusal),
+    }
+}
+
+#[no_mangle]
+pub extern "C" fn symmetry_symbol_record(text: &[u8], out: &mut [u8], start: u64) -> u64
+    ensures { λ r. ⌜ (r ≡ packed (symbolRecordAnswer (symbolRecordOf (now (text .entry)) (now (out .entry)) start)))
+        × (now (out .exit) ≡ symbolBufferOf (now (text .entry)) (now (out .entry)) start) ⌝ }
+{
+    match write_record(text, out, start as usize) {
+        SymbolRecord::Written(n) => n as u64,
+        SymbolRecord::NoRoom => refused(20, 0),
+        SymbolRecord::Refused(refusal) => refused_symbol(refusal),
     }
 }
 
