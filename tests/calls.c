@@ -1,0 +1,248 @@
+/* The C entries held to answers derived by hand from the rules: empty slices, refusals with their places, lists that fit exactly, lack a slot or have
+   none, and the bytes that no call may touch. Prints 'N passed, M failed' and exits with 1 where M is not 0. */
+#include <stdint.h>
+#include <stdio.h>
+#include <string.h>
+#include "../include/symmetry.h"
+
+enum { ROOM = 160, MARK = 0xA5 };
+
+static int passed, failed;
+
+static void expect(int right, const char *what, uint64_t got) {
+    if (right) passed++;
+    else failed++, printf("%s: %016llx\n", what, (unsigned long long)got);
+}
+
+static uint64_t refusal(unsigned number, uint64_t place) { return (uint64_t)number << 56 | place; }
+
+static void answers(uint64_t got, uint64_t wanted, const char *what) { expect(got == wanted, what, got); }
+
+/* A symbol as it stands in the source, without the byte 0 behind it; an empty one is lent as NULL. */
+#define TEXT(s) (sizeof(s) == 1 ? NULL : (const uint8_t *)(s)), sizeof(s) - 1
+
+/* ---- the groups ----
+   The group of order 2, and the group of the triangle: 0 1 2 are the turns r^i, 3 4 5 the flips s r^i, with r s = s r^2. */
+static const uint8_t two[4] = { 0, 1, 1, 0 };
+static uint8_t triangle[36];
+
+static void make_triangle(void) {
+    for (unsigned i = 0; i < 6; i++)
+        for (unsigned j = 0; j < 6; j++) {
+            unsigned a = i % 3, b = j % 3;
+            unsigned turn = j < 3 ? (a + b) % 3 : (b + 3 - a) % 3;
+            triangle[6 * i + j] = (uint8_t)(turn + ((i < 3) == (j < 3) ? 0 : 3));
+        }
+}
+
+/* ---- lent lists ----
+   Calls with a list of every length from none to more than enough, and looks at every byte of it and behind it. A slot has `width` bytes. */
+typedef uint64_t lister(uint8_t *list, size_t length);
+
+static void every_length(lister *call, const uint8_t *wanted, size_t count, size_t width, const char *what) {
+    for (size_t length = 0; length <= (count + 2) * width; length++) {
+        uint8_t list[ROOM], after[ROOM];
+        memset(list, MARK, ROOM);
+        memset(after, MARK, ROOM);
+        size_t slots = length / width;
+        if (slots < count) memset(after, 0, slots * width);
+        else memcpy(after, wanted, count * width);
+        uint64_t got = call(length == 0 ? NULL : list, length);
+        expect(got == (slots < count ? refusal(26, 0) : count) && memcmp(list, after, ROOM) == 0, what, got);
+    }
+}
+
+static uint64_t two_subgroups(uint8_t *list, size_t length) { return symmetry_table_subgroups(2, two, 4, list, length); }
+static uint64_t two_classes(uint8_t *list, size_t length) { return symmetry_table_classes(2, two, 4, list, length); }
+static uint64_t triangle_subgroups(uint8_t *list, size_t length) { return symmetry_table_subgroups(6, triangle, 36, list, length); }
+static uint64_t triangle_classes(uint8_t *list, size_t length) { return symmetry_table_classes(6, triangle, 36, list, length); }
+static uint64_t turned(uint8_t *list, size_t length) { return symmetry_table_permutation(6, triangle, 36, 63, 1, list, length); }
+static uint64_t flipped(uint8_t *list, size_t length) { return symmetry_table_permutation(6, triangle, 36, 7, 3, list, length); }
+
+/* Sets below 256 as slots, high byte first. */
+static size_t slots_of(const uint8_t *sets, size_t count, uint8_t *slots) {
+    memset(slots, 0, 8 * count);
+    for (size_t i = 0; i < count; i++) slots[8 * i + 7] = sets[i];
+    return count;
+}
+
+static void lists(void) {
+    /* more members first, then the one with the lower flip */
+    static const uint8_t two_sets[] = { 3, 1 }, triangle_sets[] = { 63, 7, 9, 17, 33, 1 }, triangle_firsts[] = { 63, 7, 9, 1 };
+    static const uint8_t turned_positions[] = { 0, 1, 2, 5, 3, 4 }, flipped_positions[] = { 0, 2, 1 };
+    uint8_t slots[ROOM];
+    every_length(two_subgroups, slots, slots_of(two_sets, 2, slots), 8, "subgroups of the group of order 2");
+    every_length(two_classes, slots, slots_of(two_sets, 2, slots), 8, "classes of the group of order 2");
+    every_length(triangle_subgroups, slots, slots_of(triangle_sets, 6, slots), 8, "subgroups of the triangle's group");
+    every_length(triangle_classes, slots, slots_of(triangle_firsts, 4, slots), 8, "classes of the triangle's group");
+    every_length(turned, turned_positions, 6, 1, "the triangle's group turned");
+    every_length(flipped, flipped_positions, 3, 1, "the turns flipped");
+    expect(symmetry_set(slots, 1) == 7 && symmetry_set(slots, 3) == 1, "a slot", 0);
+}
+
+/* Both lists of conjugates in every pair of lengths; either one that is too short clears both. */
+static void conjugates(uint64_t set, const uint8_t *sets, const uint8_t *conjugators) {
+    uint8_t slots[ROOM];
+    size_t count = slots_of(sets, 3, slots);
+    for (size_t length = 0; length <= 40; length++)
+        for (size_t bytes = 0; bytes <= 5; bytes++) {
+            uint8_t list[ROOM], beside[ROOM], list_after[ROOM], beside_after[ROOM];
+            memset(list, MARK, ROOM);
+            memset(beside, MARK, ROOM);
+            memset(list_after, MARK, ROOM);
+            memset(beside_after, MARK, ROOM);
+            int fits = length / 8 >= count && bytes >= count;
+            if (fits) {
+                memcpy(list_after, slots, 8 * count);
+                memcpy(beside_after, conjugators, count);
+            } else {
+                memset(list_after, 0, length / 8 * 8);
+                memset(beside_after, 0, bytes);
+            }
+            uint64_t got = symmetry_table_conjugates(6, triangle, 36, set, length ? list : NULL, length, bytes ? beside : NULL, bytes);
+            expect(got == (fits ? count : refusal(26, 0)) && memcmp(list, list_after, ROOM) == 0 && memcmp(beside, beside_after, ROOM) == 0,
+                "conjugates", got);
+        }
+}
+
+/* A refusal that goes before 26 leaves lent lists as they are, however short. */
+static void untouched(void) {
+    static const uint8_t loop[9] = { 0, 1, 2, 1, 0, 1, 2, 2, 0 };
+    uint8_t list[ROOM], beside[ROOM], marks[ROOM];
+    memset(list, MARK, ROOM);
+    memset(beside, MARK, ROOM);
+    memset(marks, MARK, ROOM);
+    answers(symmetry_table_subgroups(3, loop, 9, list, 8), refusal(25, 0), "subgroups of no group");
+    answers(symmetry_table_classes(3, loop, 9, list, 8), refusal(25, 0), "classes of no group");
+    answers(symmetry_table_conjugates(3, loop, 9, 1, list, 8, beside, 1), refusal(25, 0), "conjugates in no group");
+    answers(symmetry_table_conjugates(6, triangle, 36, 3, list, 8, beside, 1), refusal(27, 0), "conjugates of no subgroup");
+    answers(symmetry_table_permutation(6, triangle, 36, 3, 6, list, 1), refusal(27, 0), "a permutation of no subgroup");
+    answers(symmetry_table_permutation(6, triangle, 36, 9, 6, list, 1), refusal(28, 0), "a permutation by no element");
+    answers(symmetry_table_permutation(6, triangle, 36, 9, 1, list, 1), refusal(29, 0), "a permutation from outside the normalizer");
+    expect(memcmp(list, marks, ROOM) == 0 && memcmp(beside, marks, ROOM) == 0, "untouched lists", 0);
+}
+
+static void tables(void) {
+    static const uint8_t left[4] = { 0, 1, 0, 1 }, monoid[4] = { 0, 1, 1, 1 }, high[4] = { 0, 1, 1, 2 }, one[1] = { 0 };
+    uint8_t swapped[4] = { 1, 0, 0, 1 };
+    answers(symmetry_table_order(1, one, 1), 1, "the group of order 1");
+    answers(symmetry_table_order(2, two, 4), 2, "the group of order 2");
+    answers(symmetry_table_identity(2, two, 4), 0, "its identity");
+    answers(symmetry_table_identity(2, swapped, 4), 1, "the other one as identity");
+    answers(symmetry_table_order(0, NULL, 0), refusal(21, 0), "order 0");
+    answers(symmetry_table_order(49, NULL, 0), refusal(21, 0), "order 49");
+    answers(symmetry_table_order(UINT64_MAX, two, 4), refusal(21, 0), "the largest order");
+    answers(symmetry_table_order(48, two, 4), refusal(22, 0), "order 48 without cells");
+    answers(symmetry_table_order(2, NULL, 0), refusal(22, 0), "an empty table");
+    answers(symmetry_table_order(2, two, 3), refusal(22, 0), "a cell too few");
+    answers(symmetry_table_order(2, high, 4), refusal(22, 0), "a cell that is no element");
+    answers(symmetry_table_order(2, left, 4), refusal(23, 0), "no identity");
+    answers(symmetry_table_order(2, monoid, 4), refusal(24, 0), "no inverse");
+    answers(symmetry_table_conjugate(6, triangle, 36, 9, 1), 33, "r^-1 s r");
+    answers(symmetry_table_conjugate(6, triangle, 36, 9, 2), 17, "r^-2 s r^2");
+    answers(symmetry_table_conjugate(6, triangle, 36, 9, 6), refusal(28, 0), "conjugate by no element");
+    answers(symmetry_table_conjugate(6, triangle, 36, 9, UINT64_MAX), refusal(28, 0), "conjugate by the largest number");
+    answers(symmetry_table_conjugate(6, triangle, 36, 8, 6), refusal(27, 0), "conjugate of no subgroup");
+    answers(symmetry_table_conjugate(6, triangle, 36, UINT64_MAX, 1), refusal(27, 0), "the largest number is no subgroup");
+    answers(symmetry_table_normalizer(6, triangle, 36, 9), 9, "a flip's normalizer");
+    answers(symmetry_table_normalizer(6, triangle, 36, 7), 63, "the turns' normalizer");
+    answers(symmetry_table_normalizer(6, triangle, 36, 64), refusal(27, 0), "normalizer of no subgroup");
+}
+
+static void symbols(void) {
+    uint8_t blanks[81];
+    memset(blanks, ' ', sizeof blanks);
+    answers(symmetry_symbol_order(TEXT("")), refusal(3, 0), "no text");
+    answers(symmetry_symbol_order(blanks, 80), refusal(3, 0), "80 blanks");
+    answers(symmetry_symbol_order(blanks, 81), refusal(1, 80), "81 blanks");
+    answers(symmetry_symbol_order(TEXT("P 1")), 1, "P 1");
+    answers(symmetry_symbol_order(TEXT("-P 1")), 2, "-P 1");
+    answers(symmetry_symbol_order(TEXT("-F 4 2 3")), 48, "-F 4 2 3");
+    answers(symmetry_symbol_order(TEXT("P")), refusal(10, 1), "P");
+    answers(symmetry_symbol_order(TEXT("P 2a1")), refusal(7, 2), "P 2a1");
+    answers(symmetry_symbol_order(TEXT("P 3* 2^")), refusal(6, 5), "P 3* 2^");
+    answers(symmetry_symbol_order(TEXT("P 1\0")), refusal(2, 3), "a byte 0");
+    answers(symmetry_symbol_order(TEXT("R 2")), refusal(12, 0), "R 2");
+    answers(symmetry_symbol_order(TEXT("P 4 6")), refusal(13, 0), "P 4 6");
+    answers(symmetry_symbol_order(TEXT("P 1a")), refusal(14, 0), "P 1a");
+    answers(symmetry_symbol_letter(TEXT("-F 4 2 3")), 'F', "the letter F");
+    answers(symmetry_symbol_letter(TEXT("H 3")), refusal(4, 0), "the letter H");
+    answers(symmetry_symbol_letter(NULL, 0), refusal(3, 0), "no letter");
+    /* the codes of the identity and of the inversion, 4064 and 0C7E in hex */
+    answers(symmetry_symbol_operation(TEXT("-P 1"), 0), 0x4064u * 1728u, "the identity");
+    answers(symmetry_symbol_operation(TEXT("-P 1 (0 0 1)"), 1), 0x0C7Eu * 1728u + 2u, "the inversion, moved");
+    answers(symmetry_symbol_operation(TEXT("-P 1"), 2), refusal(28, 0), "past the end");
+    answers(symmetry_symbol_operation(TEXT("-P 1"), UINT64_MAX), refusal(28, 0), "far past the end");
+    answers(symmetry_symbol_operation(TEXT("P 2'"), 0), refusal(8, 2), "P 2'");
+    for (unsigned i = 0; i < 3; i++) {
+        uint64_t operation = symmetry_symbol_operation(TEXT("P 31"), i);
+        expect(symmetry_twelfths(operation, 2) == 4 * i && symmetry_entry(operation, 2, 2) == 1, "a third of a turn", operation);
+    }
+    uint64_t flip = symmetry_value(symmetry_symbol_operation(TEXT("-P 1"), 1));
+    expect(symmetry_entry(flip, 0, 0) == -1 && symmetry_entry(flip, 0, 1) == 0 && symmetry_entry(flip, 2, 2) == -1, "entries", flip);
+    uint64_t wrong = symmetry_symbol_order(TEXT("P 3* 2^"));
+    expect(symmetry_refused(wrong) == 1 && symmetry_number(wrong) == 6 && symmetry_place(wrong) == 5, "a refusal, taken apart", wrong);
+    expect(symmetry_refused(flip) == 0 && symmetry_number(flip) == 0, "a value, taken apart", flip);
+}
+
+/* The record of -P 1, as the rules print it. */
+static const uint8_t inversion[15] = { 0x0C, 0x7E, 0, 0, 0, 0x40, 0x64, 0, 0, 0, 0x50, 1, 2, 0, 0x0F };
+
+/* Written from every place of buffers of every length, by both functions that write records. */
+static void written(void) {
+    for (size_t length = 0; length <= 20; length++)
+        for (uint64_t start = 0; start <= 21; start++)
+            for (int copied = 0; copied < 2; copied++) {
+                uint8_t out[ROOM], after[ROOM];
+                memset(out, MARK, ROOM);
+                memset(after, MARK, ROOM);
+                int fits = start + 15 <= length;
+                if (fits) memcpy(after + start, inversion, 15);
+                uint8_t *lent = length ? out : NULL;
+                uint64_t got = copied ? symmetry_record_copy(inversion, 15, lent, length, start) : symmetry_symbol_record(TEXT("-P 1"), lent, length, start);
+                expect(got == (fits ? 2 : refusal(20, 0)) && memcmp(out, after, ROOM) == 0, "a record written", got);
+            }
+}
+
+static void records(void) {
+    uint8_t padded[20] = { 1, 2, 3, 4, 5 }, spoilt[15], out[ROOM], marks[ROOM];
+    memcpy(padded + 5, inversion, 15);
+    memset(out, MARK, ROOM);
+    memset(marks, MARK, ROOM);
+    answers(symmetry_record_order(inversion, 15), 2, "the order of a record");
+    answers(symmetry_record_order(padded, 20), 2, "bytes before a record");
+    answers(symmetry_record_letter(inversion, 15), 'P', "the letter of a record");
+    answers(symmetry_record_order(NULL, 0), refusal(30, 0), "no record");
+    answers(symmetry_record_letter(inversion, 9), refusal(30, 0), "a short record");
+    answers(symmetry_record_order(inversion, 14), refusal(31, 0), "a byte of the record gone");
+    /* edition, letter, count, a coordinate over 11, and the identity gone */
+    static const struct { size_t at; uint8_t byte; unsigned number; } damage[] = { { 11, 2, 31 }, { 10, 'H', 32 }, { 12, 3, 33 }, { 2, 12, 34 }, { 6, 0x63, 35 } };
+    for (size_t i = 0; i < sizeof damage / sizeof *damage; i++) {
+        memcpy(spoilt, inversion, 15);
+        spoilt[damage[i].at] = damage[i].byte;
+        answers(symmetry_record_order(spoilt, 15), refusal(damage[i].number, 0), "a damaged record");
+        answers(symmetry_record_letter(spoilt, 15), refusal(damage[i].number, 0), "its letter");
+        answers(symmetry_record_copy(spoilt, 15, out, 3, 9), refusal(damage[i].number, 0), "its copy");
+    }
+    answers(symmetry_symbol_record(TEXT("P 1a"), out, 3, 9), refusal(14, 0), "no group, and no room");
+    answers(symmetry_symbol_record(NULL, 0, NULL, 0, 0), refusal(3, 0), "no text, and no room");
+    answers(symmetry_symbol_record(TEXT("-P 1"), out, ROOM, UINT64_MAX), refusal(20, 0), "a start that wraps");
+    answers(symmetry_record_copy(inversion, 15, out, ROOM, UINT64_MAX - 14), refusal(20, 0), "a start that wraps");
+    expect(memcmp(out, marks, ROOM) == 0, "untouched buffers", 0);
+}
+
+int main(void) {
+    static const uint8_t flip_conjugates[] = { 9, 17, 33 }, flip_conjugators[] = { 0, 2, 1 };
+    static const uint8_t other_conjugates[] = { 17, 9, 33 }, other_conjugators[] = { 0, 1, 2 };
+    make_triangle();
+    tables();
+    lists();
+    conjugates(9, flip_conjugates, flip_conjugators);
+    conjugates(17, other_conjugates, other_conjugators);
+    untouched();
+    symbols();
+    written();
+    records();
+    printf("%d passed, %d failed\n", passed, failed);
+    return failed != 0;
+}
