@@ -1,22 +1,24 @@
 -- The loops of the search: what each of them keeps, and what the search answers in the end.
 use mathlib.Core.Path.{_≡_, refl, sym, ap, ap₂, _∙_, subst}
-use mathlib.Core.Logic.{inl, inr}
-use mathlib.Core.Bool.{Bool, true, false}
+use mathlib.Core.Logic.{_⊎_, inl, inr}
+use mathlib.Core.Bool.{Bool, true, false, true≢false}
 use mathlib.Core.List.{List, [], _∷_, _++_, List·Memᴰ as Mem, List·Memᴰ·head as here, List·Memᴰ·cases-cons as cases, List·Memᴰ·not-nil as not-nil, List·Memᴰ·eq-of-singleton as mem-one, Memᴰ·append-right as mem-right}
 use Prim.Native.Nat.{ℕ, suc, _+_, _*_, _-_, _/_, _^_, _<_, _≤_}
-use native.Mathlib.Decide.{decLt}
+use native.Mathlib.Decide.{ℕ-discrete, decLt}
 use native.Mathlib.Omega.{arith}
 use lib.ListN.{length, getD, take, drop, length-append, length-drop}
 use lib.Pow.{pow-lt}
 use lib.Seq.{split-at, drop-at, drop-append-add, drop-drop}
 use Rattle.laws.specs.ListOrder.{Precedes, precedes-irreflexive}
-use Rattle.laws.specs.Sets.{member, subset-antisymmetric}
+use Rattle.laws.specs.Sets.{member, member-empty, subset-antisymmetric}
 use Rattle.laws.specs.Sorted.{sorted-one, at-member}
-use Rattle.subgroup_laws.specs.Adjoin.{Extension, singleton-self, singleton-only}
+use Rattle.subgroup_laws.specs.Adjoin.{Barred, Extension, higher-barred, singleton-self, singleton-only}
 use Rattle.subgroup_laws.specs.Conjugation.{conjugate-source, conjugate-holds, conjugate-of-identity}
+use Rattle.subgroup_laws.specs.Cosets.{cosetOf}
 use Rattle.subgroup_laws.specs.Groups.{Group}
 use Rattle.subgroup_laws.specs.Listing.{listed, listed-unique, listed-longest}
 use Rattle.subgroup_laws.specs.Lists.{Chosen, chosen, chosen-passes, passes-chosen}
+use Rattle.subgroup_laws.specs.Removal.{outsideOf, outside-cases, restOf, rest-cases}
 use Rattle.subgroup_laws.specs.Representatives.{Represented}
 use Rattle.subgroup_laws.specs.Search.{Holding, holding-slot, Complete, complete-listed, Settled, TooMany, settled-more, own-extension, listed-itself, extension-precedes}
 use Rattle.subgroup_laws.specs.Slots.{packed, packed-left-over, bytesOf, slotAt, written}
@@ -43,30 +45,29 @@ module _ (n : ℕ) (_·_ : ℕ → ℕ → ℕ) (e : ℕ) (classes : Bool) where
   SearchResult b exit (Count count) = (exit ≡ written (listed n (chosen n _·_ e classes)) b) × (count ≡ length (listed n (chosen n _·_ e classes))) × (8 * count ≤ length b)
   SearchResult b exit Overflow = (length b / 8 < length (listed n (chosen n _·_ e classes))) × (drop (8 * (length b / 8)) exit ≡ drop (8 * (length b / 8)) b)
 
-  -- each extension of h by the elements from `from` to `to` was put into the list
-  pub record Extended (h from to count : ℕ) (b exit : List ℕ) (r : Found) : Type 0 where
+  -- extensions of h were put into the list, so that Done holds of it
+  pub record Extended (h : ℕ) (Done : List ℕ → Type 0) (count : ℕ) (b exit : List ℕ) (r : Found) : Type 0 where
     pub room : Room r exit
     pub progress : (came front tail : List ℕ) → Holding n _·_ e classes came b (front ++ h ∷ tail) count → length came ≡ length b
-        → Progress n _·_ e classes came front tail exit h (λ l. (g : ℕ) → from ≤ g → g < to → Settled n _·_ e classes l h g) r
+        → Progress n _·_ e classes came front tail exit h Done r
 
-  -- what holds of one element holds from it to the next
-  one-element : (P : ℕ → Type 0) (g : ℕ) → P g → (j : ℕ) → g ≤ j → j < g + 1 → P j
-  one-element P g p j h k = let q : g ≡ j = omega arith in subst P q p
+  -- the extension by g
+  abbrev pub ExtendedBy : ℕ → ℕ → ℕ → List ℕ → List ℕ → Found → Type 0
+  ExtendedBy h g = Extended h (λ l. Settled n _·_ e classes l h g)
 
-  -- nothing was put in, as the extension is settled
-  pub extended-settled : (h g count : ℕ) (b : List ℕ) → 8 * count ≤ length b → ((l : List ℕ) → Mem h l → Settled n _·_ e classes l h g)
-      → Extended h g (g + 1) count b b (Count count)
-  extended-settled h g count b room settled = record {
-    room = room;
-    progress = λ came front tail H same. counted front H (λ s i. i)
-        (one-element (λ j. Settled n _·_ e classes (front ++ h ∷ tail) h j) g (settled (front ++ h ∷ tail) (mem-right front (here refl))));
-  }
+  -- the extensions by all elements that are not left
+  abbrev pub ExtendedBut : ℕ → ℕ → ℕ → List ℕ → List ℕ → Found → Type 0
+  ExtendedBut h left = Extended h (λ l. (j : ℕ) → j < n → (member left j ≡ true) ⊎ Settled n _·_ e classes l h j)
+
+  -- the extensions by all elements
+  abbrev pub ExtendedByAll : ℕ → ℕ → List ℕ → List ℕ → Found → Type 0
+  ExtendedByAll h = Extended h (λ l. (j : ℕ) → j < n → Settled n _·_ e classes l h j)
+
+  -- nothing was put in, as the extension is passed over
+  pub extended-barred : (h g count : ℕ) (b : List ℕ) → 8 * count ≤ length b → Barred n _·_ e h g g → ExtendedBy h g count b b (Count count)
+  extended-barred h g count b room B = record { room = room; progress = λ came front tail H same. counted front H (λ s i. i) (inr B) }
 
   module _ (G : Group n _·_ e) (h g : ℕ) (S : Subgroup n _·_ e h) where
-    -- h is its own extension by its members
-    pub member-settled : member h g ≡ true → (l : List ℕ) → Mem h l → Settled n _·_ e classes l h g
-    member-settled i l m = inl (h, own-extension n _·_ e classes G h g S i, listed-itself n _·_ e classes G l h (S .small) m)
-
     module _ (limit : n ≤ 48) (k m : ℕ) (E : Extension n _·_ e h g k) (new : member h g ≡ false) (R : Represented n _·_ e classes k m) where
       -- an extension whose representative is listed is settled
       represented-settled : (l : List ℕ) → Mem m l → Settled n _·_ e classes l h g
@@ -83,75 +84,107 @@ module _ (n : ℕ) (_·_ : ℕ → ℕ → ℕ) (e : ℕ) (classes : Bool) where
         },
       )
 
-      -- what Done asks
-      done : (before : List ℕ) (l : List ℕ) → Mem m l → ((s : ℕ) → Mem s before → Mem s l) → (j : ℕ) → g ≤ j → j < g + 1 → Settled n _·_ e classes l h j
-      done before l i f = one-element (λ j. Settled n _·_ e classes l h j) g (represented-settled l i)
-
       -- the representative stands before h
       precedes : Precedes m h
       precedes = extension-precedes n _·_ e classes G h g k m E new (R .count)
 
       -- the three outcomes of the insertion
-      pub extended-present : (count : ℕ) (b exit : List ℕ) → 8 * count ≤ length exit → Inserted b count m exit Present → Extended h g (g + 1) count b exit (Count count)
+      pub extended-present : (count : ℕ) (b exit : List ℕ) → 8 * count ≤ length exit → Inserted b count m exit Present → ExtendedBy h g count b exit (Count count)
       extended-present count b exit room I = record {
         room = room;
         progress = λ came front tail H same.
-            inserted-present n _·_ e classes limit came b front tail h count H same m (R .chosen) precedes _ (done (front ++ h ∷ tail)) I;
+            inserted-present n _·_ e classes limit came b front tail h count H same m (R .chosen) precedes _ (λ l i f. represented-settled l i) I;
       }
 
       -- no slot was free
-      pub extended-full : (count : ℕ) (b exit : List ℕ) → Inserted b count m exit Full → Extended h g (g + 1) count b exit Overflow
+      pub extended-full : (count : ℕ) (b exit : List ℕ) → Inserted b count m exit Full → ExtendedBy h g count b exit Overflow
       extended-full count b exit I = record {
         room = tt;
         progress = λ came front tail H same.
-            inserted-full n _·_ e classes limit came b front tail h count H same m (R .chosen) precedes _ (done (front ++ h ∷ tail)) I;
+            inserted-full n _·_ e classes limit came b front tail h count H same m (R .chosen) precedes _ (λ l i f. represented-settled l i) I;
       }
 
       -- the representative was put in
       pub extended-added : (count : ℕ) (b exit : List ℕ) → 8 * (count + 1) ≤ length exit → Inserted b count m exit Added
-          → Extended h g (g + 1) count b exit (Count (count + 1))
+          → ExtendedBy h g count b exit (Count (count + 1))
       extended-added count b exit room I = record {
         room = room;
         progress = λ came front tail H same.
-            inserted-added n _·_ e classes limit came b front tail h count H same m (R .chosen) precedes _ (done (front ++ h ∷ tail)) I;
+            inserted-added n _·_ e classes limit came b front tail h count H same m (R .chosen) precedes _ (λ l i f. represented-settled l i) I;
       }
 
-  -- no element yet
-  pub extended-none : (h count : ℕ) (b : List ℕ) → 8 * count ≤ length b → Extended h 0 0 count b b (Count count)
-  extended-none h count b room = record {
-    room = room;
-    progress = λ came front tail H same. counted front H (λ s i. i) (λ g j k. absurd (omega arith));
-  }
+  -- the loop over the elements that are not members of h: of each coset one is tried
+  module _ (G : Group n _·_ e) (h : ℕ) (S : Subgroup n _·_ e h) where
+    -- h is its own extension by its members
+    member-settled : (g : ℕ) → member h g ≡ true → (l : List ℕ) → Mem h l → Settled n _·_ e classes l h g
+    member-settled g i l m = inl (h, own-extension n _·_ e classes G h g S i, listed-itself n _·_ e classes G l h (S .small) m)
 
-  -- one stretch of elements after another
-  pub extended-next : (h mid to count middle : ℕ) (b between exit : List ℕ) (r : Found) → length between ≡ length b
-      → Extended h 0 mid count b between (Count middle) → Extended h mid to middle between exit r → Extended h 0 to count b exit r
-  extended-next h mid to count middle b between exit r same X Y = record {
-    room = Y .room;
-    progress = λ came front tail H long. join came front tail (X .progress came front tail H long) (long ∙ sym same);
-  }
-    where
-      join : (came front tail : List ℕ) → Progress n _·_ e classes came front tail between h (λ l. (g : ℕ) → 0 ≤ g → g < mid → Settled n _·_ e classes l h g) (Count middle)
-          → length came ≡ length between
-          → Progress n _·_ e classes came front tail exit h (λ l. (g : ℕ) → 0 ≤ g → g < to → Settled n _·_ e classes l h g) r
-      join came front tail (counted front' H more settled) long = more-join (Y .progress came front' tail H long)
-        where
-          more-join : {r : Found} → Progress n _·_ e classes came front' tail exit h (λ l. (g : ℕ) → mid ≤ g → g < to → Settled n _·_ e classes l h g) r
-              → Progress n _·_ e classes came front tail exit h (λ l. (g : ℕ) → 0 ≤ g → g < to → Settled n _·_ e classes l h g) r
-          more-join (counted front'' H' more' settled') = counted front'' H' (λ s i. more' s (more s i))
-              (λ g j k. elim (decLt g mid) [
-                | yes l ↦ settled-more n _·_ e classes (front' ++ h ∷ tail) (front'' ++ h ∷ tail) more' h g (settled g j l)
-                | no l ↦ settled' g (omega arith) k
-              ])
-          more-join (overflow l c H' many) = overflow l c H' many
+    -- no element was tried
+    pub extended-start : (count : ℕ) (b : List ℕ) → 8 * count ≤ length b → ExtendedBut h (restOf n h) count b b (Count count)
+    extended-start count b room = record {
+      room = room;
+      progress = λ came front tail H same. counted front H (λ s i. i) (λ j l. elim (rest-cases n h j l) [
+        | inl i ↦ inl i
+        | inr i ↦ inr (member-settled j i (front ++ h ∷ tail) (mem-right front (here refl)))
+      ]);
+    }
 
-  -- where there are too many sets it does not matter how far one came
-  pub extended-overflow : (h to more count : ℕ) (b exit : List ℕ) → Extended h 0 to count b exit Overflow → Extended h 0 more count b exit Overflow
-  extended-overflow h to more count b exit X = record { room = tt; progress = λ came front tail H same. widen came front tail (X .progress came front tail H same) }
-    where
-      widen : (came front tail : List ℕ) → Progress n _·_ e classes came front tail exit h (λ l. (g : ℕ) → 0 ≤ g → g < to → Settled n _·_ e classes l h g) Overflow
-          → Progress n _·_ e classes came front tail exit h (λ l. (g : ℕ) → 0 ≤ g → g < more → Settled n _·_ e classes l h g) Overflow
-      widen came front tail (overflow l c H many) = overflow l c H many
+    -- the lowest that is left was tried, and its coset is done with it
+    pub extended-next : (left g count middle : ℕ) (b between exit : List ℕ) (r : Found) → length between ≡ length b
+        → g < n → member h g ≡ false → ((j : ℕ) → j < g → member left j ≡ false)
+        → ExtendedBut h left count b between (Count middle) → ExtendedBy h g middle between exit r
+        → ExtendedBut h (outsideOf left (cosetOf n _·_ e h g)) count b exit r
+    extended-next left g count middle b between exit r same l new lowest X Y = record {
+      room = Y .room;
+      progress = λ came front tail H long. join came front tail (X .progress came front tail H long) (long ∙ sym same);
+    }
+      where
+        -- what the coset of g holds is settled with g
+        tried : (list : List ℕ) → Settled n _·_ e classes list h g → (j : ℕ) → member left j ≡ true
+            → (member (outsideOf left (cosetOf n _·_ e h g)) j ≡ true) ⊎ Settled n _·_ e classes list h j
+        tried list this j i = elim (outside-cases left (cosetOf n _·_ e h g) j i) [
+          | inl k ↦ inl k
+          | inr k ↦ inr (elim (ℕ-discrete j g) [
+            | yes q ↦ subst (λ (z : ℕ). Settled n _·_ e classes list h z) (sym q) this
+            | no q ↦ elim (decLt j g) [
+              | yes lower ↦ absurd (true≢false (sym i ∙ lowest j lower))
+              | no higher ↦ inr (higher-barred n _·_ e h j G S 0 g l new k (omega arith))
+            ]
+          ])
+        ]
+
+        join : (came front tail : List ℕ) → Progress n _·_ e classes came front tail between h (λ l. (j : ℕ) → j < n → (member left j ≡ true) ⊎ Settled n _·_ e classes l h j) (Count middle)
+            → length came ≡ length between
+            → Progress n _·_ e classes came front tail exit h (λ l. (j : ℕ) → j < n → (member (outsideOf left (cosetOf n _·_ e h g)) j ≡ true) ⊎ Settled n _·_ e classes l h j) r
+        join came front tail (counted front' H more settled) long = more-join (Y .progress came front' tail H long)
+          where
+            more-join : {r : Found} → Progress n _·_ e classes came front' tail exit h (λ l. Settled n _·_ e classes l h g) r
+                → Progress n _·_ e classes came front tail exit h (λ l. (j : ℕ) → j < n → (member (outsideOf left (cosetOf n _·_ e h g)) j ≡ true) ⊎ Settled n _·_ e classes l h j) r
+            more-join (counted front'' H' more' this) = counted front'' H' (λ s i. more' s (more s i))
+                (λ j k. elim (settled j k) [
+                  | inl i ↦ tried (front'' ++ h ∷ tail) this j i
+                  | inr done ↦ inr (settled-more n _·_ e classes (front' ++ h ∷ tail) (front'' ++ h ∷ tail) more' h j done)
+                ])
+            more-join (overflow l c H' many) = overflow l c H' many
+
+    -- where there are too many sets it does not matter how far one came
+    pub extended-overflow : (left count : ℕ) (b exit : List ℕ) → ExtendedBut h left count b exit Overflow → ExtendedByAll h count b exit Overflow
+    extended-overflow left count b exit X = record { room = tt; progress = λ came front tail H same. widen came front tail (X .progress came front tail H same) }
+      where
+        widen : (came front tail : List ℕ) → Progress n _·_ e classes came front tail exit h (λ l. (j : ℕ) → j < n → (member left j ≡ true) ⊎ Settled n _·_ e classes l h j) Overflow
+            → Progress n _·_ e classes came front tail exit h (λ l. (j : ℕ) → j < n → Settled n _·_ e classes l h j) Overflow
+        widen came front tail (overflow l c H many) = overflow l c H many
+
+    -- where none is left all were tried
+    pub extended-end : (left count middle : ℕ) (b exit : List ℕ) → left ≡ 0 → ExtendedBut h left count b exit (Count middle) → ExtendedByAll h count b exit (Count middle)
+    extended-end left count middle b exit none X = record { room = X .room; progress = λ came front tail H same. all came front tail (X .progress came front tail H same) }
+      where
+        all : (came front tail : List ℕ) → Progress n _·_ e classes came front tail exit h (λ l. (j : ℕ) → j < n → (member left j ≡ true) ⊎ Settled n _·_ e classes l h j) (Count middle)
+            → Progress n _·_ e classes came front tail exit h (λ l. (j : ℕ) → j < n → Settled n _·_ e classes l h j) (Count middle)
+        all came front tail (counted front' H more settled) = counted front' H more (λ j k. elim (settled j k) [
+          | inl i ↦ absurd (true≢false (sym i ∙ ap (λ (z : ℕ). member z j) none ∙ member-empty j))
+          | inr done ↦ done
+        ])
 
   -- ---- the outer loop
 
@@ -240,7 +273,7 @@ module _ (n : ℕ) (_·_ : ℕ → ℕ → ℕ) (e : ℕ) (classes : Bool) where
       around = split-at (S .list) at 0 at-below ∙ ap (λ (h : ℕ). take at (S .list) ++ h ∷ drop (suc at) (S .list)) (sym searching-slot)
 
       -- once it was extended it is settled too
-      pub searching-next : (exit : List ℕ) (middle : ℕ) → length came ≡ length b → Extended (slotAt b at) 0 n count b exit (Count middle) → Searching came exit middle (done + 1)
+      pub searching-next : (exit : List ℕ) (middle : ℕ) → length came ≡ length b → ExtendedByAll (slotAt b at) count b exit (Count middle) → Searching came exit middle (done + 1)
       searching-next exit middle same X =
           read (X .progress came (take at (S .list)) (drop (suc at) (S .list)) (subst (λ (l : List ℕ). Holding n _·_ e classes came b l count) around (S .holding)) same)
         where
@@ -253,7 +286,7 @@ module _ (n : ℕ) (_·_ : ℕ → ℕ → ℕ) (e : ℕ) (classes : Bool) where
           tail-length : length tail ≡ done
           tail-length = length-drop (suc at) (S .list) ∙ (let q = S .holding .size in omega arith)
 
-          read : Progress n _·_ e classes came (take at (S .list)) tail exit (slotAt b at) (λ l. (g : ℕ) → 0 ≤ g → g < n → Settled n _·_ e classes l (slotAt b at) g) (Count middle)
+          read : Progress n _·_ e classes came (take at (S .list)) tail exit (slotAt b at) (λ l. (g : ℕ) → g < n → Settled n _·_ e classes l (slotAt b at) g) (Count middle)
               → Searching came exit middle (done + 1)
           read (counted front H keeps settled) =
               let old : (s : ℕ) → Mem s (S .list) → Mem s (front ++ slotAt b at ∷ tail) = λ s m. keeps s (subst (λ (l : List ℕ). Mem s l) around m) in
@@ -264,17 +297,17 @@ module _ (n : ℕ) (_·_ : ℕ → ℕ → ℕ) (e : ℕ) (classes : Bool) where
                 holding = H;
                 trivial = old (2 ^ e) (S .trivial);
                 settled = λ h m g k. elim (cases (subst (λ (l : List ℕ). Mem h l) (drop-at front (slotAt b at ∷ tail) (middle - (done + 1)) place) m)) [
-                  | inl q ↦ subst (λ (z : ℕ). Settled n _·_ e classes (front ++ slotAt b at ∷ tail) z g) (sym q) (settled g (omega arith) k)
+                  | inl q ↦ subst (λ (z : ℕ). Settled n _·_ e classes (front ++ slotAt b at ∷ tail) z g) (sym q) (settled g k)
                   | inr i ↦ settled-more n _·_ e classes (S .list) (front ++ slotAt b at ∷ tail) old h g (S .settled h (subst (λ (l : List ℕ). Mem h l) behind i) g k)
                 ];
               }
 
       -- or there are too many
-      pub searching-overflow : (exit : List ℕ) → length came ≡ length b → Extended (slotAt b at) 0 n count b exit Overflow → SearchResult came exit Overflow
+      pub searching-overflow : (exit : List ℕ) → length came ≡ length b → ExtendedByAll (slotAt b at) count b exit Overflow → SearchResult came exit Overflow
       searching-overflow exit same X =
           read (X .progress came (take at (S .list)) (drop (suc at) (S .list)) (subst (λ (l : List ℕ). Holding n _·_ e classes came b l count) around (S .holding)) same)
         where
-          read : Progress n _·_ e classes came (take at (S .list)) (drop (suc at) (S .list)) exit (slotAt b at) (λ l. (g : ℕ) → 0 ≤ g → g < n → Settled n _·_ e classes l (slotAt b at) g) Overflow
+          read : Progress n _·_ e classes came (take at (S .list)) (drop (suc at) (S .list)) exit (slotAt b at) (λ l. (g : ℕ) → g < n → Settled n _·_ e classes l (slotAt b at) g) Overflow
               → SearchResult came exit Overflow
           read (overflow l c H many) = (too-many _ many, left-over came exit l c H)
 

@@ -1,5 +1,5 @@
 // Whether a table is associative, told by its generators.
-// Ported from nothing in moyo 0.21.0, whose `from_table` takes associativity on trust.
+// New in the port: `from_table` of moyo 0.21.0 does not look at associativity.
 ghost use mathlib.Core.Path.{_≡_};
 ghost use Prim.Native.Nat.{_<_, _^_};
 ghost use Rattle.subgroup_laws.specs.Generators.{Generators, widened};

@@ -1,19 +1,24 @@
 // The search for subgroups, or for one of each class, in the lent slots.
 // Ported from subgroup/finite_group.rs of moyo 0.21.0 (`enumerate_subgroups`), and changed: the list is kept in order, in lent slots.
 ghost use mathlib.Core.Path.{_≡_};
-ghost use Prim.Native.Nat.{_<_, _≤_, _+_, _*_};
+ghost use mathlib.Core.Bool.{false};
+ghost use Prim.Native.Nat.{_<_, _≤_, _*_};
 ghost use lib.ListN.{length};
+ghost use Rattle.laws.specs.Sets.{member};
 ghost use Rattle.subgroup_laws.specs.Listing.{listed};
 ghost use Rattle.subgroup_laws.specs.Lists.{chosen};
 ghost use Rattle.subgroup_laws.specs.Subsets.{Subgroup};
 ghost use Rattle.subgroup_laws.specs.Table.{product, GroupTable};
 ghost use Rattle.finite_group.specs.Answers.{listAnswer, listBytes};
-ghost use Rattle.finite_group.specs.SearchLoop.{Extended, SearchResult};
+ghost use Rattle.finite_group.specs.SearchLoop.{ExtendedBy, ExtendedByAll, SearchResult};
 use super::Answer;
 use super::Refusal;
 use super::adjoin::adjoin;
+use super::adjoin::image;
 use super::conjugation::representative;
-use super::sets::contains;
+use super::sets::lowest;
+use super::sets::outside;
+use super::sets::rest_of;
 use super::slots::Insertion;
 use super::slots::clear;
 use super::slots::insert;
@@ -26,7 +31,7 @@ pub(crate) enum Found {
     Full,
 }
 
-// The extension of h by g is put into the list, in front of h.
+// The extension of h by g, which is no member, is put into the list, in front of h.
 fn extend_by(
     sets: &mut [u8],
     t: &[u8],
@@ -37,12 +42,10 @@ fn extend_by(
     h: u64,
     g: usize,
 ) -> Found
-    requires { ⌜ (GroupTable n (now t) e) × (Subgroup n (product n (now t)) e h) × (g < n) × (8 * count ≤ length (now sets)) ⌝ }
-    ensures { λ r. ⌜ Extended n (product n (now (t .entry))) e classes h g (g + 1) count (now (sets .entry)) (now (sets .exit)) r ⌝ }
+    requires { ⌜ (GroupTable n (now t) e) × (Subgroup n (product n (now t)) e h) × (g < n) × (member h g ≡ false)
+        × (8 * count ≤ length (now sets)) ⌝ }
+    ensures { λ r. ⌜ ExtendedBy n (product n (now (t .entry))) e classes h g count (now (sets .entry)) (now (sets .exit)) r ⌝ }
 {
-    if contains(h, g) {
-        return Found::Count(count);
-    }
     let k = adjoin(t, n, e, h, g);
     if k == 0 {
         return Found::Count(count);
@@ -51,11 +54,14 @@ fn extend_by(
     match insert(sets, count, m) {
         Insertion::Present => Found::Count(count),
         Insertion::Full => Found::Full,
-        Insertion::Added => Found::Count(count + 1),
+        Insertion::Added => {
+            let more = count + 1;
+            Found::Count(more)
+        }
     }
 }
 
-// All extensions of h are put into the list, in front of h.
+// All extensions of h are put into the list, in front of h. The lowest element of each coset is tried: the others give the same.
 fn extend(
     sets: &mut [u8],
     t: &[u8],
@@ -66,16 +72,19 @@ fn extend(
     h: u64,
 ) -> Found
     requires { ⌜ (GroupTable n (now t) e) × (Subgroup n (product n (now t)) e h) × (8 * count ≤ length (now sets)) ⌝ }
-    ensures { λ r. ⌜ Extended n (product n (now (t .entry))) e classes h 0 n count (now (sets .entry)) (now (sets .exit)) r ⌝ }
+    ensures { λ r. ⌜ ExtendedByAll n (product n (now (t .entry))) e classes h count (now (sets .entry)) (now (sets .exit)) r ⌝ }
 {
     let mut c = count;
-    let mut g = 0usize;
-    while g < n {
+    let mut left = rest_of(n, h);
+    while 0 < left {
+        let g = lowest(left);
+        let coset = image(t, n, h, e, g);
+        let rest = outside(left, coset);
+        left = rest;
         let Found::Count(k) = extend_by(sets, t, n, e, classes, c, h, g) else {
             return Found::Full;
         };
         c = k;
-        g += 1;
     }
     Found::Count(c)
 }

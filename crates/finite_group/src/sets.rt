@@ -1,7 +1,7 @@
 // Sets of elements as 64-bit numbers, bit i set for member i.
 ghost use mathlib.Core.Path.{_≡_};
-ghost use mathlib.Core.Bool.{true, cond};
-ghost use Prim.Native.Nat.{_<_, _^_};
+ghost use mathlib.Core.Bool.{true, false, cond};
+ghost use Prim.Native.Nat.{ℕ, _<_, _^_};
 ghost use lib.Bits.{bitAnd, bitOr};
 ghost use lib.Dec.{eqb};
 ghost use Rattle.laws.specs.Sets.{member};
@@ -24,7 +24,7 @@ pub(crate) fn with_element(s: u64, i: usize) -> u64
 
 pub(crate) fn lowest(s: u64) -> usize
     requires { ⌜ 0 < s ⌝ }
-    ensures { λ r. ⌜ (member s r ≡ true) × (r < 64) ⌝ }
+    ensures { λ r. ⌜ (member s r ≡ true) × (r < 64) × ((j : ℕ) → j < r → member s j ≡ false) ⌝ }
 {
     u64::trailing_zeros(s) as usize
 }

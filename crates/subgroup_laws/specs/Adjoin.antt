@@ -12,8 +12,9 @@ use lib.Dec.{eqb}
 use borrow.Author.Tests.{eq-eqb, eqb-true}
 use Rattle.laws.specs.Sets.{member, member-below, member-empty, member-singleton, bounded, member-or, with-member, Subset, setOf, setOf-below, member-setOf, or-new, ones-add, ones-proper}
 use Rattle.subgroup_laws.specs.Bounded.{or-either, or-holds-left, or-holds-right, not-passing, every, passes-every, every-passes}
+use Rattle.subgroup_laws.specs.Conjugation.{inverse-below, inverse-left}
 use Rattle.subgroup_laws.specs.Cosets.{cosetOf, coset-below, coset-source, coset-holds, coset-new}
-use Rattle.subgroup_laws.specs.Groups.{Group}
+use Rattle.subgroup_laws.specs.Groups.{Group, inverseOf}
 use Rattle.subgroup_laws.specs.SubgroupLaws.{closed-set}
 use Rattle.subgroup_laws.specs.Subsets.{Subgroup}
 
@@ -77,6 +78,25 @@ module _ (n : ℕ) (_·_ : ℕ → ℕ → ℕ) (e : ℕ) (h g : ℕ) where
       below = G .product-below x y (F .below) (K .below);
       held = λ u U over new. U .holds-products x y (F .held u U over new) (K .held u U over new);
     }
+
+    -- the extensions by two elements of one coset are the same; so the one by the higher element holds the lower one
+    pub higher-barred : (low : ℕ) → low < n → member h low ≡ false → member (cosetOf n _·_ e h low) g ≡ true → low < g → Barred g
+    higher-barred low l new i less =
+        let (b, k, m, q) = coset-source n _·_ e G h H low l g i in
+        let inverse = inverseOf n _·_ e b in
+        let inside = inverse-below n _·_ e G b k in
+        let left = inverse-left n _·_ e G b k in
+        let back : inverse · g ≡ low =
+        ap (λ (z : ℕ). inverse · z) q ∙ sym (G .associative inverse b low inside k l) ∙ ap (λ (z : ℕ). z · low) left ∙ G .left-identity low l in
+        record {
+          element = low;
+          low = less;
+          new = new;
+          forced = record {
+            below = l;
+            held = λ u U over mine. rw (← back) (U .holds-products inverse g (U .holds-inverses b inverse inside left (over b m)) mine);
+          };
+        }
 
     -- the growth begins with h and the identity as the representative that waits
     pub growing-start : Growing bound h (2 ^ e) (λ r. ⊥)

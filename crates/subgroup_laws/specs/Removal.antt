@@ -9,7 +9,7 @@ use lib.Bits.{bitAnd, bitOr, bitXor}
 use lib.Count.{ones}
 use lib.Dec.{eqb}
 use lib.Pow.{pow-pos}
-use borrow.Author.Tests.{eq-eqb, ne-eqb, eqb-true}
+use borrow.Author.Tests.{eq-eqb, ne-eqb, eqb-true, not-true}
 use Rattle.laws.specs.Sets.{member, member-and, member-singleton, member-difference, subset-le, same-sets, or-new, member-add, ones-add, with-member, Subset}
 use Rattle.subgroup_laws.specs.Bounded.{and-both, both-and, and-fails, or-either, or-holds-left, passes-or-fails}
 use Rattle.subgroup_laws.specs.LowMembers.{member-all}
@@ -114,3 +114,8 @@ rest-below n s = omega (arith, pow-pos n, subset-le (outsideOf (2 ^ n - 1) s) (2
 pub rest-cases : (n s i : ℕ) → i < n → (member (restOf n s) i ≡ true) ⊎ (member s i ≡ true)
 unfolding restOf
 rest-cases n s i h = outside-cases (2 ^ n - 1) s i (member-all n i h)
+
+-- none is in both
+pub rest-apart : (n s i : ℕ) → member (restOf n s) i ≡ true → member s i ≡ false
+unfolding restOf
+rest-apart n s i h = not-true _ (and-both (member (2 ^ n - 1) i) (not (member s i)) (sym (outside-member (2 ^ n - 1) s i) ∙ h) .1)

@@ -42,7 +42,7 @@ lowest-requires : tie.Need-lowest-requires Inv-loop μ-loop
 lowest-requires c κs = c .loop-test .taken
 
 without-requires : tie.Need-without-requires Inv-loop μ-loop
-without-requires c κs = c .lowest .ensures
+without-requires c κs = (c .lowest .ensures .0, c .lowest .ensures .1)
 
 swept-requires : tie.Need-swept-requires Inv-loop μ-loop
 swept-requires c κs =

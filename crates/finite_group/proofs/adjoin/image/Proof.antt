@@ -40,7 +40,7 @@ with-element-requires : tie.Need-with-element-requires Inv-loop μ-loop
 with-element-requires c κs = let h = c .before .before .before .before .before .before .pre .0 .limit in let k = c .cell2 .ensures .1 in omega arith
 
 without-requires : tie.Need-without-requires Inv-loop μ-loop
-without-requires c κs = c .before .before .before .lowest .ensures
+without-requires c κs = (c .before .before .before .lowest .ensures .0, c .before .before .before .lowest .ensures .1)
 
 loop-less : tie.Need-loop-less Inv-loop μ-loop
 loop-less c = without-less _ _ _ (c .without .ensures)

@@ -67,7 +67,7 @@ returns-2 c =
     (taken-barred (a .n) times (a .e) (a .h) (a .g) (a .g) (p .0 .group) (p .1) (λ x. x ≡ a .r) (l .set) (l .rest) (times (a .r) x) (l .inv .state) F (rw (c .before .before .before .cell2 .ensures .0) at (c .before .before .taken2 .ensures)) q)
 
 without-requires : tie.Need-without-requires Inv-loop μ-loop
-without-requires c κs = c .before .before .before .before .lowest .ensures
+without-requires c κs = (c .before .before .before .before .lowest .ensures .0, c .before .before .before .before .lowest .ensures .1)
 
 loop-less : tie.Need-loop-less Inv-loop μ-loop
 loop-less c = without-less _ _ _ (c .without .ensures)

@@ -33,7 +33,7 @@ lowest-requires : tie.Need-lowest-requires Inv-loop μ-loop
 lowest-requires c κs = c .loop-test .taken
 
 without-requires : tie.Need-without-requires Inv-loop μ-loop
-without-requires c κs = c .lowest .ensures
+without-requires c κs = (c .lowest .ensures .0, c .lowest .ensures .1)
 
 with-element-requires : tie.Need-with-element-requires Inv-loop μ-loop
 with-element-requires c κs = c .before .lowest .ensures .1

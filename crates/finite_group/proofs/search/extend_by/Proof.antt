@@ -1,34 +1,22 @@
--- Each return is a case of the step: g is a member; the extension is passed over; its representative is there, finds no slot, or is put in.
-use mathlib.Core.Path.{_≡_, sym, _∙_}
-use mathlib.Core.Logic.{inr}
+-- Each return is a case of the step: the extension is passed over; its representative is there, finds no slot, or is put in.
+use mathlib.Core.Path.{_≡_}
 use native.Mathlib.Omega.{arith}
 use lib.ListN.{length}
 use borrow.Author.Needs.{needs}
-use Rattle.finite_group.specs.SearchLoop.{extended-settled, member-settled, extended-present, extended-full, extended-added, inserted-room}
+use Rattle.finite_group.specs.SearchLoop.{extended-barred, extended-present, extended-full, extended-added, inserted-room}
 use Rattle.finite_group.proofs.search.extend_by.Statement.{statement}
 use Rattle.finite_group.proofs.search.extend_by.Tie as tie
 
-contains-requires : tie.Need-contains-requires
-contains-requires c κs = search needs
+adjoin-requires : tie.Need-adjoin-requires
+adjoin-requires c κs = let p = c .before .before .pre in (p .0, p .1, p .2)
 
 returns : tie.Need-returns
-returns c =
-    let p = c .before .before .before .before .pre in
-    extended-settled _ _ _ _ _ _ _ _ (p .3) (member-settled _ _ _ _ (p .0 .group) _ _ (p .1) (sym (c .before .contains .ensures) ∙ c .if1 .taken))
-
-adjoin-requires : tie.Need-adjoin-requires
-adjoin-requires c κs =
-    let p = c .before .before .before .before .pre in
-    (p .0, p .1, p .2)
-
-returns-2 : tie.Need-returns-2
-returns-2 c =
-    extended-settled _ _ _ _ _ _ _ _ (c .before .before .before .before .before .before .pre .3) (λ l m. inr (c .before .adjoin .ensures .none (c .if2 .taken)))
+returns c = extended-barred _ _ _ _ _ _ _ _ (c .before .before .before .before .pre .4) (c .before .adjoin .ensures .none (c .if1 .taken))
 
 representative-requires : tie.Need-representative-requires
 representative-requires c κs =
-    let some = c .if2 .left in
-    (c .before .before .before .before .before .before .pre .0, c .before .adjoin .ensures .extension (omega arith) .0 .subgroup)
+    let some = c .if1 .left in
+    (c .before .before .before .before .pre .0, c .before .adjoin .ensures .extension (omega arith) .0 .subgroup)
 
 insert-requires : tie.Need-insert-requires
 insert-requires c κs = search needs
@@ -42,43 +30,43 @@ enum-told-2 c = search needs
 enum-told-3 : tie.Need-enum-told-3
 enum-told-3 c = search needs
 
-add-t17 : tie.Need-add-t17
-add-t17 c = search needs
+add-more : tie.Need-add-more
+add-more c = search needs
 
 same-length : tie.Need-same-length
 same-length c = search needs
 
-returns-3 : tie.Need-returns-3
-returns-3 c =
-    let p = c .before .before .before .before .before .before .before .before .before .before .before .before .before .pre in
-    let some = c .before .before .before .before .before .before .before .if2 .left in
+returns-2 : tie.Need-returns-2
+returns-2 c =
+    let p = c .before .before .before .before .before .before .before .before .before .before .before .pre in
+    let some = c .before .before .before .before .before .before .before .if1 .left in
     let E = c .before .before .before .before .before .before .before .before .adjoin .ensures .extension (omega arith) .0 in
-    let same : length (c .before .before .before .before .insert .last .0) ≡ length (c .before .before .before .before .before .before .before .before .before .before .before .before .before .args .sets .now) = omega arith in
-    extended-present _ _ _ _ (p .0 .group) _ _ (p .1) (p .0 .cells .limit) _ _ E (sym (c .before .before .before .before .before .before .before .before .before .before .contains .ensures) ∙ c .before .before .before .before .before .before .before .before .before .if1 .left) (c .before .before .before .before .before .before .representative .ensures) _ _ _ (omega arith)
+    let same : length (c .before .before .before .before .insert .last .0) ≡ length (c .before .before .before .before .before .before .before .before .before .before .before .args .sets .now) = omega arith in
+    extended-present _ _ _ _ (p .0 .group) _ _ (p .1) (p .0 .cells .limit) _ _ E (p .3) (c .before .before .before .before .before .before .representative .ensures) _ _ _ (omega arith)
     (rw (c .enum-told .given .1) at (c .before .before .before .before .insert .ensures))
 
 same-length-2 : tie.Need-same-length-2
 same-length-2 c = search needs
 
-returns-4 : tie.Need-returns-4
-returns-4 c =
-    let p = c .before .before .before .before .before .before .before .before .before .before .before .before .before .pre in
-    let some = c .before .before .before .before .before .before .before .if2 .left in
+returns-3 : tie.Need-returns-3
+returns-3 c =
+    let p = c .before .before .before .before .before .before .before .before .before .before .before .pre in
+    let some = c .before .before .before .before .before .before .before .if1 .left in
     let E = c .before .before .before .before .before .before .before .before .adjoin .ensures .extension (omega arith) .0 in
-    extended-full _ _ _ _ (p .0 .group) _ _ (p .1) (p .0 .cells .limit) _ _ E (sym (c .before .before .before .before .before .before .before .before .before .before .contains .ensures) ∙ c .before .before .before .before .before .before .before .before .before .if1 .left) (c .before .before .before .before .before .before .representative .ensures) _ _ _
+    extended-full _ _ _ _ (p .0 .group) _ _ (p .1) (p .0 .cells .limit) _ _ E (p .3) (c .before .before .before .before .before .before .representative .ensures) _ _ _
     (rw (c .enum-told2 .given .1) at (c .before .before .before .before .insert .ensures))
 
 same-length-3 : tie.Need-same-length-3
 same-length-3 c = search needs
 
-returns-5 : tie.Need-returns-5
-returns-5 c =
-    let p = c .before .before .before .before .before .before .before .before .before .before .before .before .before .pre in
-    let some = c .before .before .before .before .before .before .before .if2 .left in
+returns-4 : tie.Need-returns-4
+returns-4 c =
+    let p = c .before .before .before .before .before .before .before .before .before .before .before .pre in
+    let some = c .before .before .before .before .before .before .before .if1 .left in
     let E = c .before .before .before .before .before .before .before .before .adjoin .ensures .extension (omega arith) .0 in
     let I = rw (c .enum-told3 .given .1) at (c .before .before .before .before .insert .ensures) in
-    let same : length (c .before .before .before .before .insert .last .0) ≡ length (c .before .before .before .before .before .before .before .before .before .before .before .before .before .args .sets .now) = omega arith in
-    extended-added _ _ _ _ (p .0 .group) _ _ (p .1) (p .0 .cells .limit) _ _ E (sym (c .before .before .before .before .before .before .before .before .before .before .contains .ensures) ∙ c .before .before .before .before .before .before .before .before .before .if1 .left) (c .before .before .before .before .before .before .representative .ensures) _ _ _
+    let same : length (c .before .before .before .before .insert .last .0) ≡ length (c .before .before .before .before .before .before .before .before .before .before .before .args .sets .now) = omega arith in
+    extended-added _ _ _ _ (p .0 .group) _ _ (p .1) (p .0 .cells .limit) _ _ E (p .3) (c .before .before .before .before .before .before .representative .ensures) _ _ _
     (let r = inserted-room I in omega arith)
     I
 
@@ -86,19 +74,17 @@ pub extend-by-spec : {M : Type 1} → statement M
 extend-by-spec =
     tie.close
     (tie.spec
-    contains-requires
-    returns
     adjoin-requires
-    returns-2
+    returns
     representative-requires
     insert-requires
     enum-told
     enum-told-2
     enum-told-3
-    add-t17
+    add-more
     same-length
-    returns-3
+    returns-2
     same-length-2
-    returns-4
+    returns-3
     same-length-3
-    returns-5)
+    returns-4)

@@ -2,7 +2,7 @@
 use mathlib.Core.Path.{_≡_}
 use native.Mathlib.Omega.{arith}
 use lib.Count.{trailing-le}
-use Rattle.laws.specs.Sets.{trailing-member, trailing-some}
+use Rattle.laws.specs.Sets.{trailing-below, trailing-member, trailing-some}
 use Rattle.finite_group.proofs.sets.lowest.Statement.{statement}
 use Rattle.finite_group.proofs.sets.lowest.Tie as tie
 
@@ -13,7 +13,7 @@ returns : tie.Need-returns
 returns c =
     let some : c .args .s ≡ 0 → ⊥ = λ e. omega arith in
     let h = trailing-some 64 (c .args .s) (c .fits .s .fits) some in
-    (trailing-member 64 (c .args .s) h, h)
+    (trailing-member 64 (c .args .s) h, h, trailing-below 64 (c .args .s))
 
 pub lowest-spec : {M : Type 1} → statement M
 lowest-spec = tie.close (tie.spec cast-result returns)
