@@ -1,4 +1,4 @@
-// Finite groups given by the bytes of their tables: the check of a table, subgroups, conjugates, classes, normalizers and their permutations.
+// Finite groups given by the bytes of their tables, by a symbol or by a record: the check of a table, subgroups, conjugates, classes, normalizers and their permutations.
 // Ported from subgroup/finite_group.rs of moyo 0.21.0 (`FiniteGroup`), and changed: a flat table of bytes, sets as 64-bit numbers in lent slots, refusals.
 ghost use mathlib.Core.Path.{_≡_};
 ghost use Rattle.finite_group.specs.Answers.{orderAnswer, identityAnswer, subgroupsAnswer, subgroupsBytes, classesAnswer, classesBytes, conjugateEntry, normalizerEntry, permutationEntry, permutationList, conjugatesEntry, conjugatesList, conjugatorsList};
@@ -10,8 +10,8 @@ use subgroup::normalizer_in;
 use table::from_table;
 
 mod adjoin;
-mod built;
 mod associativity;
+mod built;
 mod conjugate_list;
 mod conjugation;
 mod permutation;
