@@ -37,6 +37,7 @@ module _ {A G : Type 0} (same : A → A → Bool) (_·_ : A → G → A) (unit :
   descends-kept : Kept same _·_ unit gens (λ taken waiting. Descends (taken ++ waiting))
   descends-kept taken waiting r x f h = rw (regroup taken waiting r x) both
     where
+      -- What was found before.
       found : List A
       found = taken ++ x ∷ waiting
 
@@ -48,6 +49,7 @@ module _ {A G : Type 0} (same : A → A → Bool) (_·_ : A → G → A) (unit :
           let at-x : getD (found ++ r) (length taken) unit ≡ x = List·getD-append found r unit (length taken) short ∙ getD-append-seam taken x waiting unit in
           (length taken, g, omega arith, m, rw (at-x, getD-append-add found r k unit) e)
 
+      -- What was found before has its parents already.
       both : Descends (found ++ r)
       both j a b = elim (decLt j (length found)) [
         | yes k ↦ let (p, g, lt, m, e) = h j a k in

@@ -146,6 +146,7 @@ pub table-fits : (n m : ℕ) (steps table : List ℕ) → Traversed n m steps �
 table-fits n m steps table S G = omega (arith, G .size, cells-fit n m steps S)
 
 module _ (n m : ℕ) (steps table cells : List ℕ) (S : Traversed n m steps) (G : GoesBy n m steps table) (i : ℕ) (row : i < n) where
+  -- In each row likewise.
   fits : length table ≤ 2304
   fits = table-fits n m steps table S G
 
