@@ -1,0 +1,8 @@
+-- The text that the program writes for one line.
+-- The definitions.
+pub mod Words
+pub mod Text
+-- Their laws.
+pub mod FirstBytes
+-- What the code does with bytes.
+pub mod Placing
