@@ -5,4 +5,5 @@ pub mod Text
 -- Their laws.
 pub mod FirstBytes
 -- What the code does with bytes.
+pub mod Lines
 pub mod Placing

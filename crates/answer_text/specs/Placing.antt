@@ -1,12 +1,12 @@
 -- Texts written into a buffer one behind the other: what the buffer holds, and where the next one goes.
 use mathlib.Core.Path.{_≡_, refl, sym, _∙_, ap}
 use mathlib.Core.List.{List, [], _∷_, _++_}
-use Prim.Native.Nat.{ℕ, _+_, _≤_}
+use Prim.Native.Nat.{ℕ, _+_, _<_, _≤_}
 use native.Mathlib.Omega.{arith}
 use native.Mathlib.Numerals.{add-one}
 use native.Mathlib.Nat.{add-zero}
-use lib.ListN.{length, take, drop, set, length-set, length-append}
-use lib.Seq.{sets, sets-eq}
+use lib.ListN.{length, getD, take, drop, set, length-set, length-append}
+use lib.Seq.{sets, sets-eq, take-suc, take-length}
 
 -- The buffer with a text written over it from a place on.
 unfoldable pub put : List ℕ → ℕ → List ℕ → List ℕ
@@ -55,3 +55,35 @@ put-then {a} {b} {c} {at} {mid} {end} {s} {t} p q =
       bytes = q .bytes ∙ ap (λ (l : List ℕ). put l mid t) (p .bytes) ∙ ap (λ (k : ℕ). put (put a at s) k t) (p .place) ∙ put-append a at s t;
       place = omega (arith, p .place, q .place, length-append s t);
     }
+
+-- The text by another name.
+pub put-named : {a b : List ℕ} {at end : ℕ} {s t : List ℕ} → s ≡ t → Put a at s b end → Put a at t b end
+put-named {a} {b} {at} {end} {s} {t} e p = rw (← e) p
+
+-- Two bytes, and three.
+pub put-two : (out : List ℕ) (at p q : ℕ) → Put out at (p ∷ q ∷ []) (set (set out at p) (at + 1) q) (at + 2)
+unfolding put
+put-two out at p q = record { bytes = refl; place = refl }
+
+pub put-three : (out : List ℕ) (at p q r : ℕ) → Put out at (p ∷ q ∷ r ∷ []) (set (set (set out at p) (at + 1) q) (at + 2) r) (at + 3)
+unfolding put
+put-three out at p q r =
+    let e : at + 2 ≡ at + 1 + 1 = omega arith in
+    record { bytes = ap (λ (k : ℕ). set (set (set out at p) (at + 1) q) k r) e; place = refl }
+
+-- A text written byte by byte: before the first,
+pub put-start : (out : List ℕ) (at : ℕ) (text : List ℕ) → Put out at (take 0 text) out (at + 0)
+unfolding put
+put-start out at text = record { bytes = refl; place = refl }
+
+-- at each,
+pub put-next : (out : List ℕ) (at : ℕ) (text now : List ℕ) (i : ℕ) → i < length text → Put out at (take i text) now (at + i) → Put out at (take (i + 1) text) (set now (at + i) (getD text i 0)) (at + (i + 1))
+unfolding put
+put-next out at text now i h p =
+    let more : take i text ++ (getD text i 0 ∷ []) ≡ take (i + 1) text = sym (ap (λ (k : ℕ). take k text) (add-one i) ∙ take-suc text i 0 h) in
+    let end : at + i + 1 ≡ at + (i + 1) = omega arith in
+    put-named more (put-then p (record { bytes = refl; place = sym end }))
+
+-- and behind the last.
+pub put-whole : (out : List ℕ) (at : ℕ) (text now : List ℕ) (i : ℕ) → i ≡ length text → Put out at (take i text) now (at + i) → Put out at text now (at + i)
+put-whole out at text now i e p = put-named (ap (λ (k : ℕ). take k text) e ∙ take-length text) p

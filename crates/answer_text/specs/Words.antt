@@ -1,13 +1,13 @@
 -- How numbers, words and lines are written, in the bytes of 01's example.
 use mathlib.Core.Path.{_≡_, refl}
-use mathlib.Core.Bool.{cond}
+use mathlib.Core.Bool.{Bool, true, false, cond}
 use mathlib.Core.List.{List, [], _∷_, _++_}
 use Prim.Native.Nat.{ℕ, zero, suc, _+_, _-_, _/_, _%_, _<_, _≤_}
 use native.Mathlib.Omega.{arith}
 use lib.Dec.{ltb}
 use lib.IntN.{ℤ, pos, negsuc, one}
 use lib.ListN.{length, length-append}
-use borrow.Author.Tests.{lt-ltb, le-ltb}
+use borrow.Author.Tests.{lt-ltb, le-ltb, ltb-true, ltb-false}
 use Rattle.operation.specs.Meaning.{entryOf}
 
 -- The bytes between words and behind a line.
@@ -59,3 +59,31 @@ pub two-digits : (n : ℕ) → 10 ≤ n → n < 100 → decimal n ≡ digitByte 
 unfolding decimal
 two-digits zero h k = absurd (omega arith)
 two-digits (suc n) h k = within-hundred n (suc n) h k
+
+-- They take that many bytes.
+pub number-short : (n : ℕ) → n < 100 → length (decimal n) ≤ 2
+number-short n h = by-size (ltb n 10) refl
+  where
+    by-size : (b : Bool) → ltb n 10 ≡ b → length (decimal n) ≤ 2
+    by-size true e = rw (one-digit n (ltb-true n 10 e)) (omega arith)
+    by-size false e = rw (two-digits n (ltb-false n 10 e) h) (omega arith)
+
+-- ---- entries, by their digits
+pub entry-negative : signed (entryOf 0) ≡ 45 ∷ 49 ∷ []
+unfolding signed entryOf one decimal decimalWithin
+entry-negative = refl
+
+pub entry-plain : (d : ℕ) → ¬ (d ≡ 0) → d ≤ 2 → signed (entryOf d) ≡ (47 + d) ∷ []
+unfolding signed entryOf one decimal decimalWithin
+entry-plain zero n h = absurd (n refl)
+entry-plain (suc zero) n h = refl
+entry-plain (suc (suc zero)) n h = refl
+entry-plain (suc (suc (suc d))) n h = absurd (omega arith)
+
+-- An entry takes two bytes at most.
+pub entry-short : (d : ℕ) → d ≤ 2 → length (signed (entryOf d)) ≤ 2
+unfolding signed entryOf one decimal decimalWithin
+entry-short zero h = omega arith
+entry-short (suc zero) h = omega arith
+entry-short (suc (suc zero)) h = omega arith
+entry-short (suc (suc (suc d))) h = absurd (omega arith)
