@@ -24,11 +24,54 @@ entryWord d = signed (entryOf d) ++ (space ∷ [])
 unfoldable pub rowWords : ℕ → ℕ → ℕ → List ℕ
 rowWords a b c = entryWord a ++ (entryWord b ++ entryWord c)
 
-pub row-short : (a b c : ℕ) → a ≤ 2 → b ≤ 2 → c ≤ 2 → length (rowWords a b c) ≤ 9
+-- A number with a byte behind it.
+abbrev pub numberWord : ℕ → ℕ → List ℕ
+numberWord n end = decimal n ++ (end ∷ [])
+
+-- ---- how long they are
+pub entry-word-short : (d : ℕ) → d ≤ 2 → length (entryWord d) ≤ 3
+entry-word-short d h = simp length-append (omega (arith, entry-short d h))
+
+pub number-word-short : (n end : ℕ) → n < 100 → length (numberWord n end) ≤ 3
+number-word-short n end h = simp length-append (omega (arith, number-short n h))
+
+row-short : (a b c : ℕ) → a ≤ 2 → b ≤ 2 → c ≤ 2 → length (rowWords a b c) ≤ 9
 unfolding rowWords
 row-short a b c p q r = simp length-append (omega (arith, entry-short a p, entry-short b q, entry-short c r))
 
--- An operation's line: three rows and three coordinates.
-pub line-words : (f : Operation) → rowWords (f .rotation .xx) (f .rotation .xy) (f .rotation .xz) ++ (rowWords (f .rotation .yx) (f .rotation .yy) (f .rotation .yz) ++ (rowWords (f .rotation .zx) (f .rotation .zy) (f .rotation .zz) ++ ((decimal (f .translation .x) ++ (space ∷ [])) ++ ((decimal (f .translation .y) ++ (space ∷ [])) ++ (decimal (f .translation .z) ++ (newline ∷ [])))))) ≡ operationLine f
-unfolding rowWords operationLine lineOf motionOf matrixOf vectorOf signed
-line-words f = simp append-assoc
+-- The parts of an operation's line.
+pub record Short (f : Operation) : Type 0 where
+  pub first : length (rowWords (f .rotation .xx) (f .rotation .xy) (f .rotation .xz)) ≤ 9
+  pub second : length (rowWords (f .rotation .yx) (f .rotation .yy) (f .rotation .yz)) ≤ 9
+  pub third : length (rowWords (f .rotation .zx) (f .rotation .zy) (f .rotation .zz)) ≤ 9
+  pub x : length (numberWord (f .translation .x) space) ≤ 3
+  pub y : length (numberWord (f .translation .y) space) ≤ 3
+  pub z : length (numberWord (f .translation .z) newline) ≤ 3
+
+pub plain-short : (f : Operation) → Plain f → Short f
+plain-short f p =
+    let d = p .digits in
+    record {
+      first = row-short _ _ _ (d .xx) (d .xy) (d .xz);
+      second = row-short _ _ _ (d .yx) (d .yy) (d .yz);
+      third = row-short _ _ _ (d .zx) (d .zy) (d .zz);
+      x = number-word-short _ _ (p .x);
+      y = number-word-short _ _ (p .y);
+      z = number-word-short _ _ (p .z);
+    }
+
+-- ---- an operation's line is its parts
+unfoldable pub lineParts : Operation → List ℕ
+lineParts f =
+    rowWords (f .rotation .xx) (f .rotation .xy) (f .rotation .xz)
+    ++ (rowWords (f .rotation .yx) (f .rotation .yy) (f .rotation .yz)
+    ++ (rowWords (f .rotation .zx) (f .rotation .zy) (f .rotation .zz)
+    ++ (numberWord (f .translation .x) space ++ (numberWord (f .translation .y) space ++ numberWord (f .translation .z) newline))))
+
+pub line-parts : (f : Operation) → lineParts f ≡ operationLine f
+unfolding lineParts rowWords operationLine lineOf motionOf matrixOf vectorOf signed
+line-parts f = simp append-assoc
+
+pub line-short : (f : Operation) → Plain f → length (operationLine f) ≤ 36
+unfolding lineParts
+line-short f p = let s = plain-short f p in rw (← line-parts f) (simp length-append (omega (arith, number-short _ (p .x), number-short _ (p .y), number-short _ (p .z))))

@@ -1,3 +1,7 @@
+-- Three rows and three numbers, one behind the other; none is longer than its part of the line.
+use native.Mathlib.Omega.{arith}
+use Rattle.answer_text.specs.Lines.{lineParts, line-parts, plain-short}
+use Rattle.answer_text.specs.Placing.{put-then, put-named}
 use borrow.Author.Needs.{needs}
 use Rattle.answer_text.proofs.operations.put_operation.Statement.{statement}
 use Rattle.answer_text.proofs.operations.put_operation.Tie as tie
@@ -6,49 +10,66 @@ use Rattle.answer_text.proofs.operations.put_operation.Lts as lts
 use Rattle.answer_text.proofs.operations.put_row.Reads as put-row-reads
 use Rattle.answer_text.proofs.placing.put_number.Reads as put-number-reads
 
--- src/operations.rt:40:9
 put-row-requires : tie.Need-put-row-requires
 put-row-requires c κs = search needs
 
--- src/operations.rt:41:9
 put-row-requires-2 : tie.Need-put-row-requires-2
-put-row-requires-2 c κs = ?
+put-row-requires-2 c κs =
+    let s = c .before .before .before .before .before .before .before .before in
+    let short = plain-short (s .args .f) (s .pre .0) in
+    let plain = s .pre .0 in
+    omega (arith, s .pre .1, plain .digits, c .before .before .before .put-row .ensures .place, c .before .before .before .put-row .kept .0)
 
--- src/operations.rt:42:9
 put-row-requires-3 : tie.Need-put-row-requires-3
-put-row-requires-3 c κs = ?
+put-row-requires-3 c κs =
+    let s = c .before .before .before .before .before .before .before .before .before .before .before .before in
+    let short = plain-short (s .args .f) (s .pre .0) in
+    let plain = s .pre .0 in
+    omega (arith, s .pre .1, plain .digits, c .before .before .before .before .before .before .before .put-row .ensures .place, c .before .before .before .before .before .before .before .put-row .kept .0, c .before .before .before .put-row2 .ensures .place, c .before .before .before .put-row2 .kept .0)
 
--- src/operations.rt:43:32
 cast-put-number : tie.Need-cast-put-number
 cast-put-number c = search needs
 
--- src/operations.rt:43:9
 put-number-requires : tie.Need-put-number-requires
-put-number-requires c κs = ?
+put-number-requires c κs =
+    let s = c .before .before .before .before .before .before .before .before .before .before .before .before .before .before .before .before .before in
+    let short = plain-short (s .args .f) (s .pre .0) in
+    let plain = s .pre .0 in
+    omega (arith, s .pre .1, plain .digits, c .before .before .before .before .before .before .before .before .before .before .before .before .put-row .ensures .place, c .before .before .before .before .before .before .before .before .before .before .before .before .put-row .kept .0, c .before .before .before .before .before .before .before .before .put-row2 .ensures .place, c .before .before .before .before .before .before .before .before .put-row2 .kept .0, c .before .before .before .before .put-row3 .ensures .place, c .before .before .before .before .put-row3 .kept .0)
 
--- src/operations.rt:44:32
 cast-put-number-2 : tie.Need-cast-put-number-2
 cast-put-number-2 c = search needs
 
--- src/operations.rt:44:9
 put-number-requires-2 : tie.Need-put-number-requires-2
-put-number-requires-2 c κs = ?
+put-number-requires-2 c κs =
+    let s = c .before .before .before .before .before .before .before .before .before .before .before .before .before .before .before .before .before .before .before .before .before .before in
+    let short = plain-short (s .args .f) (s .pre .0) in
+    let plain = s .pre .0 in
+    omega (arith, s .pre .1, plain .digits, c .before .before .before .before .before .before .before .before .before .before .before .before .before .before .before .before .before .put-row .ensures .place, c .before .before .before .before .before .before .before .before .before .before .before .before .before .before .before .before .before .put-row .kept .0, c .before .before .before .before .before .before .before .before .before .before .before .before .before .put-row2 .ensures .place, c .before .before .before .before .before .before .before .before .before .before .before .before .before .put-row2 .kept .0, c .before .before .before .before .before .before .before .before .before .put-row3 .ensures .place, c .before .before .before .before .before .before .before .before .before .put-row3 .kept .0, c .before .before .before .before .put-number .ensures .place, c .before .before .before .before .put-number .kept .0)
 
--- src/operations.rt:45:24
 cast-put-number-3 : tie.Need-cast-put-number-3
 cast-put-number-3 c = search needs
 
--- src/operations.rt:45:5
 put-number-requires-3 : tie.Need-put-number-requires-3
-put-number-requires-3 c κs = ?
+put-number-requires-3 c κs =
+    let s = c .before .before .before .before .before .before .before .before .before .before .before .before .before .before .before .before .before .before .before .before .before .before .before .before .before .before .before in
+    let short = plain-short (s .args .f) (s .pre .0) in
+    let plain = s .pre .0 in
+    omega (arith, s .pre .1, plain .digits, c .before .before .before .before .before .before .before .before .before .before .before .before .before .before .before .before .before .before .before .before .before .before .put-row .ensures .place, c .before .before .before .before .before .before .before .before .before .before .before .before .before .before .before .before .before .before .before .before .before .before .put-row .kept .0, c .before .before .before .before .before .before .before .before .before .before .before .before .before .before .before .before .before .before .put-row2 .ensures .place, c .before .before .before .before .before .before .before .before .before .before .before .before .before .before .before .before .before .before .put-row2 .kept .0, c .before .before .before .before .before .before .before .before .before .before .before .before .before .before .put-row3 .ensures .place, c .before .before .before .before .before .before .before .before .before .before .before .before .before .before .put-row3 .kept .0, c .before .before .before .before .before .before .before .before .before .put-number .ensures .place, c .before .before .before .before .before .before .before .before .before .put-number .kept .0, c .before .before .before .before .put-number2 .ensures .place, c .before .before .before .before .put-number2 .kept .0)
 
--- src/operations.rt:34:1
 same-length : tie.Need-same-length
 same-length c = search needs
 
--- src/operations.rt:34:1
 returns : tie.Need-returns
-returns c = ?
+unfolding lineParts
+returns c =
+    let parts =
+    put-then (c .before .before .before .before .before .before .before .before .before .before .before .before .before .before .before .before .before .before .before .before .before .before .before .before .before .put-row .ensures)
+    (put-then (c .before .before .before .before .before .before .before .before .before .before .before .before .before .before .before .before .before .before .before .before .before .put-row2 .ensures)
+    (put-then (c .before .before .before .before .before .before .before .before .before .before .before .before .before .before .before .before .before .put-row3 .ensures)
+    (put-then (c .before .before .before .before .before .before .before .before .before .before .before .before .put-number .ensures)
+    (put-then (c .before .before .before .before .before .before .before .put-number2 .ensures) (c .before .before .put-number3 .ensures))))) in
+    put-named (line-parts (c .before .before .before .before .before .before .before .before .before .before .before .before .before .before .before .before .before .before .before .before .before .before .before .before .before .before .before .before .before .before .args .f)) parts
 
 pub put-operation-spec : {M : Type 1} → statement M
 put-operation-spec =

@@ -1,3 +1,7 @@
+-- Three words, one behind the other.
+use native.Mathlib.Omega.{arith}
+use Rattle.answer_text.specs.Lines.{rowWords, entry-word-short}
+use Rattle.answer_text.specs.Placing.{put-then}
 use borrow.Author.Needs.{needs}
 use Rattle.answer_text.proofs.operations.put_row.Statement.{statement}
 use Rattle.answer_text.proofs.operations.put_row.Tie as tie
@@ -5,25 +9,25 @@ use Rattle.answer_text.proofs.operations.put_row.Reads as reads
 use Rattle.answer_text.proofs.operations.put_row.Lts as lts
 use Rattle.answer_text.proofs.placing.put_entry.Reads as put-entry-reads
 
--- src/operations.rt:28:9
 put-entry-requires : tie.Need-put-entry-requires
 put-entry-requires c κs = search needs
 
--- src/operations.rt:29:9
 put-entry-requires-2 : tie.Need-put-entry-requires-2
-put-entry-requires-2 c κs = ?
+put-entry-requires-2 c κs =
+    let s = c .before .before .before .before .before .before in
+    omega (arith, s .pre, entry-word-short (s .args .first) (s .pre .0))
 
--- src/operations.rt:30:5
 put-entry-requires-3 : tie.Need-put-entry-requires-3
-put-entry-requires-3 c κs = ?
+put-entry-requires-3 c κs =
+    let s = c .before .before .before .before .before .before .before .before .before .before in
+    omega (arith, s .pre, c .before .before .before .before .before .before .before .put-entry .ensures .place, entry-word-short (s .args .first) (s .pre .0), entry-word-short (s .args .second) (s .pre .1))
 
--- src/operations.rt:24:1
 same-length : tie.Need-same-length
 same-length c = search needs
 
--- src/operations.rt:24:1
 returns : tie.Need-returns
-returns c = ?
+unfolding rowWords
+returns c = put-then (c .before .before .before .before .before .before .before .before .before .before .put-entry .ensures) (put-then (c .before .before .before .before .before .before .put-entry2 .ensures) (c .before .before .put-entry3 .ensures))
 
 pub put-row-spec : {M : Type 1} → statement M
 put-row-spec =
