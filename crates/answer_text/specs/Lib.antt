@@ -6,4 +6,5 @@ pub mod Text
 pub mod FirstBytes
 -- What the code does with bytes.
 pub mod Lines
+pub mod RecordLines
 pub mod Placing
