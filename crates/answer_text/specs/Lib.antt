@@ -7,4 +7,6 @@ pub mod FirstBytes
 -- What the code does with bytes.
 pub mod Lines
 pub mod RecordLines
+pub mod Places
+pub mod Answering
 pub mod Placing

@@ -1,0 +1,169 @@
+-- From the answer and the bytes of the record's writer to the text: which group or refusal they say, and that its text fits.
+use mathlib.Core.Path.{_≡_, refl, sym, _∙_, ap, ap₂, subst}
+use mathlib.Core.Bool.{true, cond}
+use mathlib.Core.List.{List, [], _∷_, _++_, append-assoc, List·Memᴰ as Mem}
+use Prim.Native.Nat.{ℕ, _+_, _*_, _-_, _<_, _≤_}
+use native.Mathlib.Omega.{arith}
+use lib.ListN.{length, getD, take, drop, replicate, length-append, length-replicate}
+use lib.Seq.{getD-at, length-take-le}
+use Rattle.operation.specs.Entries.{digits-entries}
+use Rattle.operation.specs.Product.{identityOperation}
+use Rattle.operation.specs.declared.Operation.{Operation}
+use Rattle.centering.specs.Letters.{byteOf}
+use Rattle.centering.specs.declared.Centering.{Centering}
+use Rattle.space_group.specs.Acceptance.{member-at}
+use Rattle.symbol_group.specs.Answers.{symbolAnswer}
+use Rattle.symbol_group.specs.declared.refusal.Refusal.{Refusal}
+use Rattle.symbol_group.specs.declared.Answer.{Answer}
+use Rattle.symbol_group.specs.declared.Answer.the-variants.{Group, Refused}
+use Rattle.group_record.specs.Items.{bytesOf, bytes-length, read-written, item-at}
+use Rattle.group_record.specs.Record.{itemWidth, editionNumber, totalLength, trailer, listedForm, written, recordOf}
+use Rattle.group_record.specs.Groups.{Form, Listing}
+use Rattle.group_record.specs.ListedForm.{form-length, listed-form}
+use Rattle.group_record.specs.OneRecord.{operationBytes, operationIn, operation-wide, operation-again}
+use Rattle.group_record.specs.Copying.{roomFor, room-there, placedIn, all-placed}
+use Rattle.group_record.specs.AcceptedSymbols.{symbol-writable}
+use Rattle.group_record.specs.SymbolRecords.{writtenBy, placedBy, symbolRecordOf, symbolBufferOf}
+use Rattle.group_record.specs.declared.SymbolRecord.{SymbolRecord}
+use Rattle.group_record.specs.declared.SymbolRecord.the-variants.{Written, NoRoom, Refused as NotWritten}
+use Rattle.answer_text.specs.Words.{decimal, lineOf}
+use Rattle.answer_text.specs.Text.{operationLine, groupText, refusalText, answerBy, answerOf}
+use Rattle.answer_text.specs.Lines.{Plain}
+use Rattle.answer_text.specs.RecordLines.{operationsIn, AllPlain}
+
+-- ---- bytes that hold operations in the listed form, then the letter
+module _ (c : Centering) (form : List Operation) (F : Form c form) (n : ℕ) (count : length form ≡ n) (bytes rest : List ℕ) (split : bytes ≡ bytesOf operationBytes form ++ (byteOf c ∷ rest)) where
+  -- They say these operations,
+  pub held-operations : operationsIn n bytes ≡ form
+  held-operations =
+      ap₂ operationsIn (sym count) split
+      ∙ read-written itemWidth operationBytes operation-wide operationIn form (byteOf c ∷ rest) (λ f more m. operation-again f more (F .entries f m))
+
+  -- and the letter,
+  pub held-letter : getD bytes (itemWidth * n) 0 ≡ byteOf c
+  held-letter =
+      ap (λ (b : List ℕ). getD b (itemWidth * n) 0) split
+      ∙ getD-at (bytesOf operationBytes form) (byteOf c) rest 0 (itemWidth * n) (bytes-length itemWidth operationBytes operation-wide form ∙ ap (λ (k : ℕ). itemWidth * k) count)
+
+  plain-member : (f : Operation) → Mem f form → Plain f
+  plain-member f m =
+      let below = F .smallest f m .below in
+      record { digits = digits-entries (f .rotation) .1 (F .entries f m); x = omega arith; y = omega arith; z = omega arith }
+
+  -- and none has long words.
+  pub held-plain : AllPlain n bytes
+  held-plain i h =
+      let inside : i < length form = omega arith in
+      let found : getD form i identityOperation ≡ operationIn (drop (itemWidth * i) bytes) =
+      ap (λ (l : List Operation). getD l i identityOperation) (sym held-operations) ∙ item-at itemWidth operationIn n bytes i identityOperation h in
+      subst Plain found (plain-member (getD form i identityOperation) (member-at form i identityOperation inside))
+
+  -- So the text that the code writes is that of the group.
+  pub held-text : lineOf ((getD bytes (itemWidth * n) 0 ∷ []) ∷ decimal n ∷ []) ++ bytesOf operationLine (operationsIn n bytes) ≡ groupText c form
+  unfolding groupText
+  held-text = rw (held-letter, held-operations, count)
+
+-- ---- what the writer of the record answers
+-- The buffer that is lent to it.
+abbrev pub zeros : List ℕ
+zeros = replicate 245 0
+
+-- What it answers, where there is room.
+abbrev toldBy : Answer → ℕ → SymbolRecord
+toldBy Group n = Written n
+toldBy (Refused r) n = NotWritten r
+
+module _ (line : List ℕ) where
+  -- There is room for every symbol's record.
+  enough-room : symbolAnswer line .answer ≡ Group → roomFor 0 (symbolAnswer line .count) 245 ≡ true
+  enough-room a =
+      let (few, there, listing) = symbol-writable line (symbolAnswer line) refl a in
+      room-there 0 (symbolAnswer line .count) 245 (omega arith) (omega arith)
+
+  told-by : (a : Answer) → symbolAnswer line .answer ≡ a → symbolRecordOf line zeros 0 ≡ toldBy a (symbolAnswer line .count)
+  unfolding symbolRecordOf
+  told-by Group e = rw (e, enough-room e)
+  told-by (Refused r) e = rw e
+
+  module _ (w : SymbolRecord) (e : w ≡ symbolRecordOf line zeros 0) where
+    -- Operations were written: a group, of so many.
+    pub told-written : (n : ℕ) → w ≡ Written n → (symbolAnswer line .answer ≡ Group) × (symbolAnswer line .count ≡ n)
+    told-written n p = go (symbolAnswer line .answer) refl
+      where
+        go : (a : Answer) → symbolAnswer line .answer ≡ a → (symbolAnswer line .answer ≡ Group) × (symbolAnswer line .count ≡ n)
+        go Group h = let q : Written (symbolAnswer line .count) ≡ Written n = sym (told-by Group h) ∙ sym e ∙ p in (h, cc)
+        go (Refused r) h =
+            let q : NotWritten r ≡ Written n = sym (told-by (Refused r) h) ∙ sym e ∙ p in
+            let z : _≡_ {A = ℕ} 0 1 = cc in
+            absurd (omega arith)
+
+    -- A refusal: the symbol's.
+    pub told-refused : (r : Refusal) → w ≡ NotWritten r → symbolAnswer line .answer ≡ Refused r
+    told-refused r p = go (symbolAnswer line .answer) refl
+      where
+        go : (a : Answer) → symbolAnswer line .answer ≡ a → symbolAnswer line .answer ≡ Refused r
+        go Group h =
+            let q : Written (symbolAnswer line .count) ≡ NotWritten r = sym (told-by Group h) ∙ sym e ∙ p in
+            let z : _≡_ {A = ℕ} 0 1 = cc in
+            absurd (omega arith)
+        go (Refused q) h = let k : NotWritten q ≡ NotWritten r = sym (told-by (Refused q) h) ∙ sym e ∙ p in let same : q ≡ r = cc in h ∙ ap Refused same
+
+    -- Never that there is no room.
+    pub told-room : w ≡ NoRoom → ⊥
+    told-room p = go (symbolAnswer line .answer) refl
+      where
+        go : (a : Answer) → symbolAnswer line .answer ≡ a → ⊥
+        go Group h =
+            let q : Written (symbolAnswer line .count) ≡ NoRoom = sym (told-by Group h) ∙ sym e ∙ p in
+            let z : _≡_ {A = ℕ} 0 1 = cc in
+            omega arith
+        go (Refused r) h =
+            let q : NotWritten r ≡ NoRoom = sym (told-by (Refused r) h) ∙ sym e ∙ p in
+            let z : _≡_ {A = ℕ} 0 1 = cc in
+            omega arith
+
+  -- The text of a refusal.
+  pub refused-text : (r : Refusal) → symbolAnswer line .answer ≡ Refused r → refusalText r ≡ answerOf line
+  unfolding answerOf
+  refused-text r e = rw e
+
+  -- The text of a group, from the bytes of its record.
+  module _ (n : ℕ) (bytes : List ℕ) (a : symbolAnswer line .answer ≡ Group) (same : symbolAnswer line .count ≡ n) (p : bytes ≡ symbolBufferOf line zeros 0) where
+    letter : Centering
+    letter = symbolAnswer line .centering
+
+    listed : List Operation
+    listed = take (symbolAnswer line .count) (symbolAnswer line .operations)
+
+    writable : (symbolAnswer line .count ≤ 48) × (symbolAnswer line .count ≤ length (symbolAnswer line .operations)) × Listing listed
+    unfolding listed
+    writable = symbol-writable line (symbolAnswer line) refl a
+
+    form : Form letter (listedForm letter listed)
+    form = listed-form letter (writable .2)
+
+    form-count : length (listedForm letter listed) ≡ n
+    unfolding listed
+    form-count = form-length letter listed ∙ length-take-le (symbolAnswer line .count) (symbolAnswer line .operations) (writable .1) ∙ same
+
+    behind : List ℕ
+    behind =
+        drop 1 (trailer itemWidth editionNumber letter (length (listedForm letter listed))) ++ drop (0 + totalLength itemWidth (symbolAnswer line .count)) zeros
+
+    placed : symbolBufferOf line zeros 0 ≡ recordOf letter listed ++ drop (0 + totalLength itemWidth (symbolAnswer line .count)) zeros
+    unfolding symbolBufferOf letter listed
+    placed = rw a (all-placed zeros 0 (symbolAnswer line .count) (recordOf (symbolAnswer line .centering) (take (symbolAnswer line .count) (symbolAnswer line .operations))) (enough-room a))
+
+    split : bytes ≡ bytesOf operationBytes (listedForm letter listed) ++ (byteOf letter ∷ behind)
+    unfolding recordOf written trailer behind
+    split = p ∙ placed ∙ append-assoc (bytesOf operationBytes (listedForm letter listed)) (trailer itemWidth editionNumber letter (length (listedForm letter listed))) (drop (0 + totalLength itemWidth (symbolAnswer line .count)) zeros)
+
+    pub group-few : n ≤ 48
+    group-few = omega (arith, writable .0)
+
+    pub group-plain : AllPlain n bytes
+    group-plain = held-plain letter (listedForm letter listed) form n form-count bytes behind split
+
+    pub group-text : lineOf ((getD bytes (itemWidth * n) 0 ∷ []) ∷ decimal n ∷ []) ++ bytesOf operationLine (operationsIn n bytes) ≡ answerOf line
+    unfolding answerOf letter listed
+    group-text = held-text letter (listedForm letter listed) form n form-count bytes behind split ∙ rw a
