@@ -4,8 +4,8 @@ use mathlib.Core.Bool.{true, cond}
 use mathlib.Core.List.{List, [], _∷_, _++_, append-assoc, List·Memᴰ as Mem}
 use Prim.Native.Nat.{ℕ, _+_, _*_, _-_, _<_, _≤_}
 use native.Mathlib.Omega.{arith}
-use lib.ListN.{length, getD, take, drop, replicate, length-append, length-replicate}
-use lib.Seq.{getD-at, length-take-le}
+use lib.ListN.{length, getD, take, drop, replicate, length-append, length-take, length-replicate, replicate-append-replicate}
+use lib.Seq.{getD-at, drop-at, length-take-le}
 use Rattle.operation.specs.Entries.{digits-entries}
 use Rattle.operation.specs.Product.{identityOperation}
 use Rattle.operation.specs.declared.Operation.{Operation}
@@ -13,6 +13,7 @@ use Rattle.centering.specs.Letters.{byteOf}
 use Rattle.centering.specs.declared.Centering.{Centering}
 use Rattle.space_group.specs.Acceptance.{member-at}
 use Rattle.symbol_group.specs.Answers.{symbolAnswer}
+use Rattle.symbol_group.specs.Refusals.{numberOf, placeOf}
 use Rattle.symbol_group.specs.declared.refusal.Refusal.{Refusal}
 use Rattle.symbol_group.specs.declared.Answer.{Answer}
 use Rattle.symbol_group.specs.declared.Answer.the-variants.{Group, Refused}
@@ -26,10 +27,19 @@ use Rattle.group_record.specs.AcceptedSymbols.{symbol-writable}
 use Rattle.group_record.specs.SymbolRecords.{writtenBy, placedBy, symbolRecordOf, symbolBufferOf}
 use Rattle.group_record.specs.declared.SymbolRecord.{SymbolRecord}
 use Rattle.group_record.specs.declared.SymbolRecord.the-variants.{Written, NoRoom, Refused as NotWritten}
-use Rattle.answer_text.specs.Words.{decimal, lineOf}
-use Rattle.answer_text.specs.Text.{operationLine, groupText, refusalText, answerBy, answerOf}
-use Rattle.answer_text.specs.Lines.{Plain}
+use Rattle.answer_text.specs.Words.{newline, decimal, lineOf, number-short}
+use Rattle.answer_text.specs.Text.{operationLine, groupText, refusalText, answerOf, textOf, textAnswer}
+use Rattle.answer_text.specs.Lines.{Plain, refusal-parts, lines-short}
 use Rattle.answer_text.specs.RecordLines.{operationsIn, AllPlain}
+use Rattle.answer_text.specs.Places.{place-small, number-small}
+use Rattle.answer_text.specs.Placing.{Put, put-front, put-named}
+use Rattle.answer_text.specs.declared.AnswerText.{AnswerText}
+
+-- Operations in the listed form have short words.
+form-plain : (c : Centering) (form : List Operation) → Form c form → (f : Operation) → Mem f form → Plain f
+form-plain c form F f m =
+    let below = F .smallest f m .below in
+    record { digits = digits-entries (f .rotation) .1 (F .entries f m); x = omega arith; y = omega arith; z = omega arith }
 
 -- ---- bytes that hold operations in the listed form, then the letter
 module _ (c : Centering) (form : List Operation) (F : Form c form) (n : ℕ) (count : length form ≡ n) (bytes rest : List ℕ) (split : bytes ≡ bytesOf operationBytes form ++ (byteOf c ∷ rest)) where
@@ -45,18 +55,13 @@ module _ (c : Centering) (form : List Operation) (F : Form c form) (n : ℕ) (co
       ap (λ (b : List ℕ). getD b (itemWidth * n) 0) split
       ∙ getD-at (bytesOf operationBytes form) (byteOf c) rest 0 (itemWidth * n) (bytes-length itemWidth operationBytes operation-wide form ∙ ap (λ (k : ℕ). itemWidth * k) count)
 
-  plain-member : (f : Operation) → Mem f form → Plain f
-  plain-member f m =
-      let below = F .smallest f m .below in
-      record { digits = digits-entries (f .rotation) .1 (F .entries f m); x = omega arith; y = omega arith; z = omega arith }
-
   -- and none has long words.
   pub held-plain : AllPlain n bytes
   held-plain i h =
       let inside : i < length form = omega arith in
       let found : getD form i identityOperation ≡ operationIn (drop (itemWidth * i) bytes) =
       ap (λ (l : List Operation). getD l i identityOperation) (sym held-operations) ∙ item-at itemWidth operationIn n bytes i identityOperation h in
-      subst Plain found (plain-member (getD form i identityOperation) (member-at form i identityOperation inside))
+      subst Plain found (form-plain c form F (getD form i identityOperation) (member-at form i identityOperation inside))
 
   -- So the text that the code writes is that of the group.
   pub held-text : lineOf ((getD bytes (itemWidth * n) 0 ∷ []) ∷ decimal n ∷ []) ++ bytesOf operationLine (operationsIn n bytes) ≡ groupText c form
@@ -127,8 +132,8 @@ module _ (line : List ℕ) where
   unfolding answerOf
   refused-text r e = rw e
 
-  -- The text of a group, from the bytes of its record.
-  module _ (n : ℕ) (bytes : List ℕ) (a : symbolAnswer line .answer ≡ Group) (same : symbolAnswer line .count ≡ n) (p : bytes ≡ symbolBufferOf line zeros 0) where
+  -- The text of a group.
+  module _ (a : symbolAnswer line .answer ≡ Group) where
     letter : Centering
     letter = symbolAnswer line .centering
 
@@ -142,28 +147,83 @@ module _ (line : List ℕ) where
     form : Form letter (listedForm letter listed)
     form = listed-form letter (writable .2)
 
-    form-count : length (listedForm letter listed) ≡ n
+    form-count : length (listedForm letter listed) ≡ symbolAnswer line .count
     unfolding listed
-    form-count = form-length letter listed ∙ length-take-le (symbolAnswer line .count) (symbolAnswer line .operations) (writable .1) ∙ same
+    form-count = form-length letter listed ∙ length-take-le (symbolAnswer line .count) (symbolAnswer line .operations) (writable .1)
 
-    behind : List ℕ
-    behind =
-        drop 1 (trailer itemWidth editionNumber letter (length (listedForm letter listed))) ++ drop (0 + totalLength itemWidth (symbolAnswer line .count)) zeros
-
-    placed : symbolBufferOf line zeros 0 ≡ recordOf letter listed ++ drop (0 + totalLength itemWidth (symbolAnswer line .count)) zeros
-    unfolding symbolBufferOf letter listed
-    placed = rw a (all-placed zeros 0 (symbolAnswer line .count) (recordOf (symbolAnswer line .centering) (take (symbolAnswer line .count) (symbolAnswer line .operations))) (enough-room a))
-
-    split : bytes ≡ bytesOf operationBytes (listedForm letter listed) ++ (byteOf letter ∷ behind)
-    unfolding recordOf written trailer behind
-    split = p ∙ placed ∙ append-assoc (bytesOf operationBytes (listedForm letter listed)) (trailer itemWidth editionNumber letter (length (listedForm letter listed))) (drop (0 + totalLength itemWidth (symbolAnswer line .count)) zeros)
-
-    pub group-few : n ≤ 48
-    group-few = omega (arith, writable .0)
-
-    pub group-plain : AllPlain n bytes
-    group-plain = held-plain letter (listedForm letter listed) form n form-count bytes behind split
-
-    pub group-text : lineOf ((getD bytes (itemWidth * n) 0 ∷ []) ∷ decimal n ∷ []) ++ bytesOf operationLine (operationsIn n bytes) ≡ answerOf line
+    group-answer : groupText letter (listedForm letter listed) ≡ answerOf line
     unfolding answerOf letter listed
-    group-text = held-text letter (listedForm letter listed) form n form-count bytes behind split ∙ rw a
+    group-answer = rw a
+
+    -- A letter, a count and at most 48 lines.
+    group-fits : length (answerOf line) ≤ 1733
+    unfolding groupText lineOf
+    group-fits =
+        let count : length (listedForm letter listed) ≤ 48 = omega (arith, form-count, writable .0) in
+        let lines = lines-short (listedForm letter listed) (form-plain letter (listedForm letter listed) form) in
+        let number = number-short (length (listedForm letter listed)) (omega arith) in
+        rw (← group-answer) (simp length-append (omega arith))
+
+    -- From the bytes of its record.
+    module _ (n : ℕ) (bytes : List ℕ) (same : symbolAnswer line .count ≡ n) (p : bytes ≡ symbolBufferOf line zeros 0) where
+      behind : List ℕ
+      behind =
+          drop 1 (trailer itemWidth editionNumber letter (length (listedForm letter listed))) ++ drop (0 + totalLength itemWidth (symbolAnswer line .count)) zeros
+
+      placed : symbolBufferOf line zeros 0 ≡ recordOf letter listed ++ drop (0 + totalLength itemWidth (symbolAnswer line .count)) zeros
+      unfolding symbolBufferOf letter listed
+      placed = rw a (all-placed zeros 0 (symbolAnswer line .count) (recordOf (symbolAnswer line .centering) (take (symbolAnswer line .count) (symbolAnswer line .operations))) (enough-room a))
+
+      split : bytes ≡ bytesOf operationBytes (listedForm letter listed) ++ (byteOf letter ∷ behind)
+      unfolding recordOf written trailer behind
+      split = p ∙ placed ∙ append-assoc (bytesOf operationBytes (listedForm letter listed)) (trailer itemWidth editionNumber letter (length (listedForm letter listed))) (drop (0 + totalLength itemWidth (symbolAnswer line .count)) zeros)
+
+      pub group-few : n ≤ 48
+      group-few = omega (arith, writable .0)
+
+      pub group-plain : AllPlain n bytes
+      group-plain = held-plain letter (listedForm letter listed) form n (form-count ∙ same) bytes behind split
+
+      pub group-text : lineOf ((getD bytes (itemWidth * n) 0 ∷ []) ∷ decimal n ∷ []) ++ bytesOf operationLine (operationsIn n bytes) ≡ answerOf line
+      group-text = held-text letter (listedForm letter listed) form n (form-count ∙ same) bytes behind split ∙ group-answer
+
+-- ---- the whole text fits
+refusal-fits : (r : Refusal) → placeOf r ≤ 80 → length (refusalText r) ≤ 14
+refusal-fits r h =
+    let number = number-short (numberOf r) (omega (arith, number-small r)) in
+    let place = number-short (placeOf r) (omega arith) in
+    rw (← refusal-parts r) (simp length-append (omega arith))
+
+answer-fits : (line : List ℕ) → length (answerOf line) ≤ 1733
+answer-fits line = go (symbolAnswer line .answer) refl
+  where
+    go : (a : Answer) → symbolAnswer line .answer ≡ a → length (answerOf line) ≤ 1733
+    go Group e = group-fits line e
+    go (Refused r) e = let short = refusal-fits r (place-small line r e) in rw (← refused-text line r e) (omega arith)
+
+-- No text is longer than the buffer, so nothing is ever cut off.
+pub text-fits : (line : List ℕ) → length (textOf line) ≤ 1814
+unfolding textOf
+text-fits line = simp length-append (omega (arith, answer-fits line, length-take 80 line))
+
+-- The symbol's line, and the answer behind it.
+symbol-joined : (line : List ℕ) → (take 80 line ++ (newline ∷ [])) ++ answerOf line ≡ textOf line
+unfolding textOf
+symbol-joined line = append-assoc (take 80 line) (newline ∷ []) (answerOf line)
+
+-- ---- the buffer
+-- Zeros without the first k of them.
+drop-zeros : (n k zero : ℕ) → k ≤ n → drop k (replicate n zero) ≡ replicate (n - k) zero
+drop-zeros n k zero h =
+    let e : k + (n - k) ≡ n = omega arith in
+    ap (λ (m : ℕ). drop k (replicate m zero)) (sym e) ∙ ap (drop k) (sym (replicate-append-replicate k (n - k) zero))
+    ∙ drop-at (replicate k zero) (replicate (n - k) zero) k (length-replicate k zero)
+
+-- The symbol's line and the answer behind it, written into zeros, are the text with zeros behind it.
+pub answer-put : (line after : List ℕ) (end : ℕ) → Put (replicate 1814 0) 0 ((take 80 line ++ (newline ∷ [])) ++ answerOf line) after end → _≡_ {A = AnswerText} (record { length = end; bytes = after }) (textAnswer line)
+unfolding textAnswer
+answer-put line after end p =
+    let q = put-named (symbol-joined line) p in
+    let room = length-replicate {A = ℕ} 1814 0 in
+    let filled = q .bytes ∙ put-front (replicate 1814 0) (textOf line) (omega (arith, text-fits line)) ∙ ap (λ (l : List ℕ). textOf line ++ l) (drop-zeros 1814 (length (textOf line)) 0 (text-fits line)) in
+    ap₂ (λ (n : ℕ) (l : List ℕ). record { length = n; bytes = l }) (q .place ∙ omega arith) filled

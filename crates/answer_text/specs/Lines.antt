@@ -1,14 +1,16 @@
 -- The lines as the code writes them, word by word, and how long they are.
 use mathlib.Core.Path.{_≡_, refl, sym, _∙_, ap}
-use mathlib.Core.List.{List, [], _∷_, _++_, append-assoc}
-use Prim.Native.Nat.{ℕ, zero, suc, _+_, _<_, _≤_}
+use mathlib.Core.List.{List, [], _∷_, _++_, append-assoc, List·Memᴰ as Mem, List·Memᴰ·head as here, List·Memᴰ·tail as there}
+use Prim.Native.Nat.{ℕ, _*_, _<_, _≤_}
 use native.Mathlib.Omega.{arith}
-use lib.IntN.{ℤ}
 use lib.ListN.{length, length-append}
 use Rattle.operation.specs.Meaning.{entryOf, matrixOf, vectorOf, motionOf, Digits}
 use Rattle.operation.specs.declared.Operation.{Operation}
+use Rattle.symbol_group.specs.Refusals.{numberOf, placeOf}
+use Rattle.symbol_group.specs.declared.refusal.Refusal.{Refusal}
+use Rattle.group_record.specs.Items.{bytesOf}
 use Rattle.answer_text.specs.Words.{space, newline, decimal, signed, lineOf, entry-short, number-short}
-use Rattle.answer_text.specs.Text.{operationLine}
+use Rattle.answer_text.specs.Text.{bytes, operationLine, refusalText}
 
 -- What is asked of an operation so that its words are short: entries in −1..1, and coordinates of two digits at most.
 pub record Plain (f : Operation) : Type 0 where
@@ -75,3 +77,17 @@ line-parts f = simp append-assoc
 pub line-short : (f : Operation) → Plain f → length (operationLine f) ≤ 36
 unfolding lineParts
 line-short f p = let s = plain-short f p in rw (← line-parts f) (simp length-append (omega (arith, number-short _ (p .x), number-short _ (p .y), number-short _ (p .z))))
+
+-- ---- a refusal's line is its parts
+pub refusal-parts : (r : Refusal) → bytes "refused " ++ (numberWord (numberOf r) space ++ numberWord (placeOf r) newline) ≡ refusalText r
+unfolding refusalText lineOf
+refusal-parts r = ap (λ (l : List ℕ). bytes "refused " ++ l) (append-assoc (decimal (numberOf r)) (space ∷ []) (numberWord (placeOf r) newline))
+
+-- ---- how long the lines of a list are
+pub lines-short : (l : List Operation) → ((f : Operation) → Mem f l → Plain f) → length (bytesOf operationLine l) ≤ 36 * length l
+unfolding bytesOf
+lines-short [] plain = omega arith
+lines-short (f ∷ l) plain =
+    let first = line-short f (plain f (here refl)) in
+    let rest = lines-short l (λ g m. plain g (there m)) in
+    rw (length-append (operationLine f) (bytesOf operationLine l)) (omega arith)

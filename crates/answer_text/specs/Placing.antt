@@ -60,7 +60,11 @@ put-then {a} {b} {c} {at} {mid} {end} {s} {t} p q =
 pub put-named : {a b : List ℕ} {at end : ℕ} {s t : List ℕ} → s ≡ t → Put a at s b end → Put a at t b end
 put-named {a} {b} {at} {end} {s} {t} e p = rw (← e) p
 
--- Two bytes, and three.
+-- One byte, two, and three.
+pub put-byte : (out : List ℕ) (at b : ℕ) → Put out at (b ∷ []) (set out at b) (at + 1)
+unfolding put
+put-byte out at b = record { bytes = refl; place = refl }
+
 pub put-two : (out : List ℕ) (at p q : ℕ) → Put out at (p ∷ q ∷ []) (set (set out at p) (at + 1) q) (at + 2)
 unfolding put
 put-two out at p q = record { bytes = refl; place = refl }
@@ -78,11 +82,10 @@ put-start out at text = record { bytes = refl; place = refl }
 
 -- at each,
 pub put-next : (out : List ℕ) (at : ℕ) (text now : List ℕ) (i : ℕ) → i < length text → Put out at (take i text) now (at + i) → Put out at (take (i + 1) text) (set now (at + i) (getD text i 0)) (at + (i + 1))
-unfolding put
 put-next out at text now i h p =
     let more : take i text ++ (getD text i 0 ∷ []) ≡ take (i + 1) text = sym (ap (λ (k : ℕ). take k text) (add-one i) ∙ take-suc text i 0 h) in
     let end : at + i + 1 ≡ at + (i + 1) = omega arith in
-    put-named more (put-then p (record { bytes = refl; place = sym end }))
+    rw (← end) (put-named more (put-then p (put-byte now (at + i) (getD text i 0))))
 
 -- and behind the last.
 pub put-whole : (out : List ℕ) (at : ℕ) (text now : List ℕ) (i : ℕ) → i ≡ length text → Put out at (take i text) now (at + i) → Put out at text now (at + i)

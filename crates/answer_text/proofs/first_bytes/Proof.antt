@@ -1,18 +1,19 @@
+-- A short line is all of its first 80 bytes.
+use mathlib.Core.Path.{sym}
+use native.Mathlib.Omega.{arith}
+use lib.Seq.{take-all, length-take-le}
 use borrow.Author.Needs.{needs}
 use Rattle.answer_text.proofs.first_bytes.Statement.{statement}
 use Rattle.answer_text.proofs.first_bytes.Tie as tie
 use Rattle.answer_text.proofs.first_bytes.Reads as reads
 use Rattle.answer_text.proofs.first_bytes.Lts as lts
 
--- src/lib.rt:43:9
 returns : tie.Need-returns
-returns c = ?
+returns c = sym (take-all 80 (c .before .args .line .now) (c .if1 .taken))
 
--- src/lib.rt:45:5
 slice-aggregate-result : tie.Need-slice-aggregate-result
-slice-aggregate-result c = ?
+slice-aggregate-result c = sym (length-take-le 80 (c .before .before .args .line .now) (omega arith))
 
--- src/lib.rt:39:1
 returns-2 : tie.Need-returns-2
 returns-2 c = search needs
 

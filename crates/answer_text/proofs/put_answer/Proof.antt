@@ -1,3 +1,8 @@
+-- The record's writer says which group or refusal it is; there is always room.
+use native.Mathlib.Omega.{arith}
+use Rattle.answer_text.specs.Places.{number-small, place-small}
+use Rattle.answer_text.specs.Answering.{told-written, told-refused, told-room, group-few, group-plain, group-text, refused-text}
+use Rattle.answer_text.specs.Placing.{put-named}
 use borrow.Author.Needs.{needs}
 use Rattle.answer_text.proofs.put_answer.Statement.{statement}
 use Rattle.answer_text.proofs.put_answer.Tie as tie
@@ -7,57 +12,68 @@ use Rattle.answer_text.proofs.put_group.Reads as put-group-reads
 use Rattle.answer_text.proofs.put_refusal.Reads as put-refusal-reads
 use Rattle.group_record.proofs.symbol.write_record.Reads as write-record-reads
 
--- src/lib.rt:64:38
 slice-aggregate-write-record : tie.Need-slice-aggregate-write-record
 slice-aggregate-write-record c = search needs
 
--- src/lib.rt:64:9
 write-record-requires : tie.Need-write-record-requires
 write-record-requires c κs = search needs
 
--- src/lib.rt:66:31
 enum-known-written : tie.Need-enum-known-written
 enum-known-written c = search needs
 
--- src/lib.rt:66:56
 slice-aggregate-put-group : tie.Need-slice-aggregate-put-group
 slice-aggregate-put-group c = search needs
 
--- src/lib.rt:66:37
 put-group-requires : tie.Need-put-group-requires
-put-group-requires c κs = ?
+put-group-requires c κs =
+    let s = c .before .before .before .before .before .before .before .before .before .before in
+    let w = c .before .before .before .before .before .before .write-record in
+    let n = c .before .before .before .written .given .0 .0 in
+    let (group, count) = told-written (s .args .line .now) (w .result) (w .ensures .0) n (c .before .before .before .written .given .1) in
+    let few = group-few (s .args .line .now) group n (w .last .1 .0) count (w .ensures .1) in
+    (few, omega (arith, w .kept .1 .0), group-plain (s .args .line .now) group n (w .last .1 .0) count (w .ensures .1), omega (arith, s .pre))
 
--- src/lib.rt:67:31
 enum-known-written-2 : tie.Need-enum-known-written-2
 enum-known-written-2 c = search needs
 
--- src/lib.rt:67:43
 put-refusal-requires : tie.Need-put-refusal-requires
-put-refusal-requires c κs = ?
+put-refusal-requires c κs =
+    let s = c .before .before .before .before .before .before .before .before .before in
+    let w = c .before .before .before .before .before .write-record in
+    let r = c .before .before .written2 .given .0 .0 in
+    let told = told-refused (s .args .line .now) (w .result) (w .ensures .0) r (c .before .before .written2 .given .1) in
+    (omega (arith, number-small r), omega (arith, place-small (s .args .line .now) r told), omega (arith, s .pre))
 
--- src/lib.rt:68:33
 enum-told : tie.Need-enum-told
 enum-told c = search needs
 
--- src/lib.rt:59:1
 same-length : tie.Need-same-length
 same-length c = search needs
 
--- src/lib.rt:59:1
 returns : tie.Need-returns
-returns c = ?
+returns c =
+    let s = c .before .before .before .before .before .before .before .before .before .before .before .before .before in
+    let w = c .before .before .before .before .before .before .before .before .before .write-record in
+    let n = c .before .before .before .before .before .before .written .given .0 .0 in
+    let (group, count) = told-written (s .args .line .now) (w .result) (w .ensures .0) n (c .before .before .before .before .before .before .written .given .1) in
+    put-named (group-text (s .args .line .now) group n (w .last .1 .0) count (w .ensures .1)) (c .before .before .put-group .ensures)
 
--- src/lib.rt:59:1
 same-length-2 : tie.Need-same-length-2
 same-length-2 c = search needs
 
--- src/lib.rt:59:1
 returns-2 : tie.Need-returns-2
-returns-2 c = ?
+returns-2 c =
+    let s = c .before .before .before .before .before .before .before .before .before .before .before .before in
+    let w = c .before .before .before .before .before .before .before .before .write-record in
+    let r = c .before .before .before .before .before .written2 .given .0 .0 in
+    let told = told-refused (s .args .line .now) (w .result) (w .ensures .0) r (c .before .before .before .before .before .written2 .given .1) in
+    put-named (refused-text (s .args .line .now) r told) (c .before .before .put-refusal .ensures)
 
--- src/lib.rt:59:1
 returns-3 : tie.Need-returns-3
-returns-3 c = ?
+returns-3 c =
+    let s = c .before .before .before .before .before .before .before in
+    let w = c .before .before .before .write-record in
+    absurd (told-room (s .args .line .now) (w .result) (w .ensures .0) (c .enum-told .given .1))
 
 pub put-answer-spec : {M : Type 1} → statement M
 put-answer-spec =

@@ -1,3 +1,12 @@
+-- Three words, one behind the other.
+use mathlib.Core.Path.{ap, _∙_}
+use mathlib.Core.List.{List, _++_}
+use Prim.Native.Nat.{ℕ}
+use native.Mathlib.Omega.{arith}
+use Rattle.answer_text.specs.Words.{space, newline}
+use Rattle.answer_text.specs.Text.{bytes}
+use Rattle.answer_text.specs.Lines.{numberWord, number-word-short, refusal-parts}
+use Rattle.answer_text.specs.Placing.{put-then, put-named}
 use borrow.Author.Needs.{needs}
 use Rattle.answer_text.proofs.put_refusal.Statement.{statement}
 use Rattle.answer_text.proofs.put_refusal.Tie as tie
@@ -8,41 +17,40 @@ use Rattle.answer_text.proofs.placing.put_number.Reads as put-number-re
 use Rattle.symbol_group.proofs.refusal.Refusal.number.Reads as number-reads
 use Rattle.symbol_group.proofs.refusal.Refusal.place.Reads as place-reads
 
--- src/lib.rt:87:37
 slice-aggregate-put-bytes : tie.Need-slice-aggregate-put-bytes
 slice-aggregate-put-bytes c = search needs
 
--- src/lib.rt:87:9
 put-bytes-requires : tie.Need-put-bytes-requires
 put-bytes-requires c κs = search needs
 
--- src/lib.rt:88:41
 number-requires : tie.Need-number-requires
 number-requires c κs = search needs
 
--- src/lib.rt:88:41
 cast-put-number : tie.Need-cast-put-number
 cast-put-number c = search needs
 
--- src/lib.rt:88:9
 put-number-requires : tie.Need-put-number-requires
 put-number-requires c κs = search needs
 
--- src/lib.rt:89:28
 place-requires : tie.Need-place-requires
 place-requires c κs = search needs
 
--- src/lib.rt:89:5
 put-number-requires-2 : tie.Need-put-number-requires-2
-put-number-requires-2 c κs = ?
+put-number-requires-2 c κs =
+    let s = c .before .before .before .before .before .before .before .before .before .before .before .before .before in
+    let number = c .before .before .before .before .before .number in
+    let short = number-word-short (number .result) space (omega (arith, number .ensures, s .pre .0)) in
+    omega (arith, s .pre, c .place .ensures, c .before .before .before .before .put-number .ensures .place, c .before .before .before .before .put-number .kept .0, c .before .before .before .before .before .before .before .before .before .put-bytes .ensures .place, c .before .before .before .before .before .before .before .before .before .put-bytes .kept .0)
 
--- src/lib.rt:83:1
 same-length : tie.Need-same-length
 same-length c = search needs
 
--- src/lib.rt:83:1
 returns : tie.Need-returns
-returns c = ?
+returns c =
+    let r = c .before .before .before .before .before .before .before .before .before .before .before .before .before .before .before .before .args .refusal in
+    let number = ap (λ (n : ℕ). numberWord n space) (c .before .before .before .before .before .before .before .before .number .ensures) in
+    let place = ap (λ (n : ℕ). numberWord n newline) (c .before .before .before .place .ensures) in
+    put-named (refusal-parts r) (put-then (c .before .before .before .before .before .before .before .before .before .before .before .before .put-bytes .ensures) (put-then (put-named number (c .before .before .before .before .before .before .before .put-number .ensures)) (put-named place (c .before .before .put-number2 .ensures))))
 
 pub put-refusal-spec : {M : Type 1} → statement M
 put-refusal-spec =

@@ -1,3 +1,8 @@
+-- At most 80 bytes, and the newline behind them.
+use mathlib.Core.Path.{ap}
+use native.Mathlib.Omega.{arith}
+use lib.ListN.{length, length-take}
+use Rattle.answer_text.specs.Placing.{put-byte, put-then, put-named}
 use borrow.Author.Needs.{needs}
 use Rattle.answer_text.proofs.put_symbol.Statement.{statement}
 use Rattle.answer_text.proofs.put_symbol.Tie as tie
@@ -6,29 +11,28 @@ use Rattle.answer_text.proofs.put_symbol.Lts as lts
 use Rattle.answer_text.proofs.first_bytes.Reads as first-bytes-reads
 use Rattle.answer_text.proofs.placing.put_bytes.Reads as put-bytes-reads
 
--- src/lib.rt:53:33
 first-bytes-requires : tie.Need-first-bytes-requires
 first-bytes-requires c κs = search needs
 
--- src/lib.rt:53:9
 put-bytes-requires : tie.Need-put-bytes-requires
-put-bytes-requires c κs = ?
+put-bytes-requires c κs =
+    let s = c .before .before .before .before in
+    omega (arith, s .pre, ap length (c .first-bytes .ensures), length-take 80 (s .args .line .now))
 
--- src/lib.rt:54:5
 slice-write-out : tie.Need-slice-write-out
-slice-write-out c = ?
+slice-write-out c =
+    let s = c .before .before .before .before .before .before .before in
+    let written = c .before .before .put-bytes in
+    omega (arith, s .pre, written .ensures .place, written .kept .0, ap length (c .before .before .before .first-bytes .ensures), length-take 80 (s .args .line .now))
 
--- src/lib.rt:55:5
 add-result : tie.Need-add-result
 add-result c = search needs
 
--- src/lib.rt:49:1
 same-length : tie.Need-same-length
 same-length c = search needs
 
--- src/lib.rt:49:1
 returns : tie.Need-returns
-returns c = ?
+returns c = put-then (put-named (c .before .before .before .first-bytes .ensures) (c .before .before .put-bytes .ensures)) (put-byte _ _ _)
 
 pub put-symbol-spec : {M : Type 1} → statement M
 put-symbol-spec =
