@@ -227,3 +227,11 @@ answer-put line after end p =
     let room = length-replicate {A = ℕ} 1814 0 in
     let filled = q .bytes ∙ put-front (replicate 1814 0) (textOf line) (omega (arith, text-fits line)) ∙ ap (λ (l : List ℕ). textOf line ++ l) (drop-zeros 1814 (length (textOf line)) 0 (text-fits line)) in
     ap₂ (λ (n : ℕ) (l : List ℕ). record { length = n; bytes = l }) (q .place ∙ omega arith) filled
+
+-- The length lies within the buffer.
+pub answer-size : (line : List ℕ) (r : AnswerText) → r ≡ textAnswer line → (r .length ≤ 1814) × (length (r .bytes) ≡ 1814)
+unfolding textAnswer
+answer-size line r e =
+    let fits = text-fits line in
+    let zeros-behind = length-replicate {A = ℕ} (1814 - length (textOf line)) 0 in
+    rw e (fits, length-append (textOf line) (replicate (1814 - length (textOf line)) 0) ∙ omega arith)

@@ -1,0 +1,144 @@
+-- Bytes fed one by one, of which the first 81 of a line are kept: the lines that are handed over are those of the text, and their texts the output.
+use mathlib.Core.Path.{_≡_, refl, sym, _∙_, ap, ap₂}
+use mathlib.Core.Bool.{Bool, true, false, cond}
+use mathlib.Core.List.{List, [], _∷_, _++_, map}
+use Prim.Native.Nat.{ℕ, _+_, _<_, _≤_}
+use native.Mathlib.Omega.{arith}
+use native.Mathlib.Numerals.{add-one}
+use lib.Dec.{eqb, ltb}
+use lib.ListN.{length, getD, take, drop, set, length-append}
+use lib.Seq.{take-all, take-append-le, take-take, take-suc-set, drop-cons, drop-length, length-take-le}
+use borrow.Author.Tests.{ltb-true, ltb-false, eq-eqb, ne-eqb}
+use Rattle.answer_text.specs.FirstBytes.{first-bytes}
+use Rattle.hall.specs.Lines.{lastLine, linesFrom, linesOf, textsOf, outputOf}
+use Rattle.hall.specs.declared.lines.Line.{Line}
+
+-- How many bytes of a line are kept: one more than a symbol may have.
+abbrev pub most : ℕ
+most = 81
+
+-- A byte joins the line.
+unfoldable pub joined : List ℕ → ℕ → List ℕ
+joined kept b = take most (kept ++ (b ∷ []))
+
+-- What is kept after a byte: byte 10 ends the line, and nothing of it is kept.
+unfoldable pub keptAfter : List ℕ → ℕ → List ℕ
+keptAfter kept b = cond (eqb b 10) [] (joined kept b)
+
+-- What is kept after bytes.
+unfoldable pub keptBehind : List ℕ → List ℕ → List ℕ
+keptBehind kept [] = kept
+keptBehind kept (b ∷ bytes) = keptBehind (keptAfter kept b) bytes
+
+-- The lines that are handed over on the way: at each byte 10, what is kept.
+unfoldable pub handedOver : List ℕ → List ℕ → List (List ℕ)
+handedOver kept [] = []
+handedOver kept (b ∷ bytes) = let more = handedOver (keptAfter kept b) bytes in cond (eqb b 10) (kept ∷ more) more
+
+-- All that the program hands over for a text: at the end of the text, a last line that holds a byte.
+unfoldable pub allHandedOver : List ℕ → List (List ℕ)
+allHandedOver text = handedOver [] text ++ lastLine (keptBehind [] text)
+
+-- ---- parts of a text, fed one behind the other
+pub kept-parts : (kept part rest : List ℕ) → keptBehind (keptBehind kept part) rest ≡ keptBehind kept (part ++ rest)
+unfolding keptBehind
+kept-parts kept [] rest = refl
+kept-parts kept (b ∷ part) rest = kept-parts (keptAfter kept b) part rest
+
+pub handed-parts : (kept part rest : List ℕ) → handedOver kept part ++ handedOver (keptBehind kept part) rest ≡ handedOver kept (part ++ rest)
+unfolding keptBehind handedOver
+handed-parts kept [] rest = refl
+handed-parts kept (b ∷ part) rest = by-byte (eqb b 10) refl (handed-parts (keptAfter kept b) part rest)
+  where
+    by-byte : (t : Bool) → eqb b 10 ≡ t → handedOver (keptAfter kept b) part ++ handedOver (keptBehind (keptAfter kept b) part) rest ≡ handedOver (keptAfter kept b) (part ++ rest) → handedOver kept (b ∷ part) ++ handedOver (keptBehind kept (b ∷ part)) rest ≡ handedOver kept ((b ∷ part) ++ rest)
+    by-byte true e more = rw e (ap (λ (l : List (List ℕ)). kept ∷ l) more)
+    by-byte false e more = rw e more
+
+-- ---- the lines handed over are those of the text
+-- Keeping the first bytes and then joining one is joining it and keeping the first bytes.
+joined-first : (line : List ℕ) (b : ℕ) → joined (take most line) b ≡ take most (line ++ (b ∷ []))
+unfolding joined
+joined-first line b = by-length (ltb (length line) most) refl
+  where
+    by-length : (t : Bool) → ltb (length line) most ≡ t → take most (take most line ++ (b ∷ [])) ≡ take most (line ++ (b ∷ []))
+    by-length true e = let short = ltb-true (length line) most e in rw (take-all most line (omega arith))
+    by-length false e =
+        let long = ltb-false (length line) most e in
+        let whole = length-take-le most line long in
+        take-append-le most (take most line) (b ∷ []) (omega arith) ∙ take-take most most line (omega arith) ∙ sym (take-append-le most line (b ∷ []) long)
+
+last-first : (line : List ℕ) → lastLine (take most line) ≡ map (take most) (lastLine line)
+unfolding lastLine
+last-first [] = refl
+last-first (b ∷ line) = refl
+
+from-lines : (line text : List ℕ) → handedOver (take most line) text ++ lastLine (keptBehind (take most line) text) ≡ map (take most) (linesFrom line text)
+unfolding handedOver keptBehind keptAfter linesFrom
+from-lines line [] = last-first line
+from-lines line (b ∷ text) = by-byte (eqb b 10) refl (from-lines [] text) (from-lines (line ++ (b ∷ [])) text)
+  where
+    by-byte : (t : Bool) → eqb b 10 ≡ t → handedOver [] text ++ lastLine (keptBehind [] text) ≡ map (take most) (linesFrom [] text) → handedOver (take most (line ++ (b ∷ []))) text ++ lastLine (keptBehind (take most (line ++ (b ∷ []))) text) ≡ map (take most) (linesFrom (line ++ (b ∷ [])) text) → handedOver (take most line) (b ∷ text) ++ lastLine (keptBehind (take most line) (b ∷ text)) ≡ map (take most) (linesFrom line (b ∷ text))
+    by-byte true e ended longer = rw e (ap (λ (l : List (List ℕ)). take most line ∷ l) ended)
+    by-byte false e ended longer = rw (e, joined-first line b) longer
+
+-- What is handed over are the first 81 bytes of each line of the text.
+pub handed-lines : (text : List ℕ) → allHandedOver text ≡ map (take most) (linesOf text)
+unfolding allHandedOver
+handed-lines text = from-lines [] text
+
+-- Their texts are the texts of the lines.
+texts-first : (lines : List (List ℕ)) → textsOf (map (take most) lines) ≡ textsOf lines
+unfolding textsOf
+texts-first [] = refl
+texts-first (line ∷ lines) = ap₂ _++_ (first-bytes line) (texts-first lines)
+
+pub handed-output : (text : List ℕ) → textsOf (allHandedOver text) ≡ outputOf text
+unfolding outputOf
+handed-output text = ap textsOf (handed-lines text) ∙ texts-first (linesOf text)
+
+-- ---- the kept bytes as the code holds them
+-- The bytes in use.
+abbrev pub held : Line → List ℕ
+held line = take (line .length) (line .bytes)
+
+-- There are 81 places, and no more are in use.
+pub record Sound (line : Line) : Type 0 where
+  pub few : line .length ≤ most
+  pub places : length (line .bytes) ≡ most
+
+module _ (line : Line) (s : Sound line) (b : ℕ) where
+  -- A byte that joins a full line changes nothing.
+  pub joined-full : most ≤ line .length → held line ≡ joined (held line) b
+  unfolding joined
+  joined-full h =
+      let full = length-take-le (line .length) (line .bytes) (omega (arith, s .few, s .places)) in
+      sym (take-append-le most (held line) (b ∷ []) (omega arith) ∙ take-all most (held line) (omega (arith, s .few)))
+
+  -- A byte that joins another is stored behind it.
+  pub joined-more : line .length < most → take (line .length + 1) (set (line .bytes) (line .length) b) ≡ joined (held line) b
+  unfolding joined
+  joined-more h =
+      let inside : line .length < length (line .bytes) = omega (arith, s .places) in
+      let long = length-append (held line) (b ∷ []) in
+      let used = length-take-le (line .length) (line .bytes) (omega arith) in
+      ap (λ (n : ℕ). take n (set (line .bytes) (line .length) b)) (add-one (line .length))
+      ∙ take-suc-set (line .bytes) (line .length) b inside ∙ sym (take-all most (held line ++ (b ∷ [])) (omega arith))
+
+-- By the byte.
+pub kept-ended : (kept : List ℕ) (b : ℕ) → b ≡ 10 → [] ≡ keptAfter kept b
+unfolding keptAfter
+kept-ended kept b e = rw (eq-eqb b 10 e)
+
+pub kept-joined : (kept : List ℕ) (b : ℕ) → ¬ (b ≡ 10) → joined kept b ≡ keptAfter kept b
+unfolding keptAfter
+kept-joined kept b n = rw (ne-eqb b 10 n)
+
+-- What is kept behind the bytes, byte by byte.
+module _ (bytes : List ℕ) (i : ℕ) where
+  pub kept-next : (kept more : List ℕ) → i < length bytes → more ≡ keptAfter kept (getD bytes i 0) → keptBehind more (drop (i + 1) bytes) ≡ keptBehind kept (drop i bytes)
+  unfolding keptBehind
+  kept-next kept more h e = rw (add-one i, drop-cons bytes i 0, e)
+
+  pub kept-end : (kept : List ℕ) → i ≡ length bytes → kept ≡ keptBehind kept (drop i bytes)
+  unfolding keptBehind
+  kept-end kept e = rw (e, drop-length bytes)

@@ -1,0 +1,3 @@
+-- How the program cuts what it reads into lines.
+pub mod Lines
+pub mod Feeding
