@@ -1,3 +1,7 @@
+-- The line that is kept stays sound. The measure is the number of turns that are left.
+use native.Mathlib.Omega.{arith}
+use borrow.Author.Needs.{needs}
+use Rattle.hall.specs.Feeding.{Sound}
 use Rattle.hall.proofs.read_all.Statement.{statement}
 use Rattle.hall.proofs.read_all.Tie as tie
 use Rattle.hall.proofs.read_all.Reads as reads
@@ -6,42 +10,34 @@ use Rattle.hall.proofs.lines.empty.Reads as empty-reads
 use Rattle.hall.proofs.read_some.Reads as read-some-reads
 
 abbrev Inv-loop : tie.InvT-loop
-Inv-loop line₀ turns₀ line turns = ?
+Inv-loop line₀ turns₀ line turns = Sound line
 
 abbrev μ-loop : tie.MeasureT-loop
-μ-loop line₀ turns₀ line turns = ?
+μ-loop line₀ turns₀ line turns = turns
 
--- src/main.rt:41:9
 empty-requires : tie.Need-empty-requires Inv-loop μ-loop
-empty-requires c κs = ?
+empty-requires c κs = search needs
 
--- src/main.rt:43:5
 loop-holds : tie.Need-loop-holds Inv-loop μ-loop
-loop-holds c = ?
+loop-holds c = search needs
 
--- src/main.rt:44:13
 read-some-requires : tie.Need-read-some-requires Inv-loop μ-loop
-read-some-requires c κs = ?
+read-some-requires c κs = search needs
 
--- src/main.rt:48:13
 returns : tie.Need-returns Inv-loop μ-loop
-returns c = ?
+returns c = search needs
 
--- src/main.rt:51:9
 sub-turns : tie.Need-sub-turns Inv-loop μ-loop
-sub-turns c = ?
+sub-turns c = omega arith
 
--- src/main.rt:43:5
 loop-less : tie.Need-loop-less Inv-loop μ-loop
-loop-less c = ?
+loop-less c = omega arith
 
--- src/main.rt:43:5
 loop-again : tie.Need-loop-again Inv-loop μ-loop
-loop-again c = ?
+loop-again c = search needs
 
--- src/main.rt:38:1
 returns-2 : tie.Need-returns-2 Inv-loop μ-loop
-returns-2 c = ?
+returns-2 c = search needs
 
 pub read-all-spec : {M : Type 1} → statement M
 read-all-spec =
