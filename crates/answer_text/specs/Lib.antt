@@ -4,6 +4,7 @@ pub mod Words
 pub mod Text
 -- Their laws.
 pub mod FirstBytes
+pub mod Example
 -- What the code does with bytes.
 pub mod Lines
 pub mod RecordLines

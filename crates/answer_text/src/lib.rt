@@ -83,7 +83,9 @@ fn put_refusal(out: &mut [u8], at: usize, refusal: Refusal) -> usize
     requires { ⌜ (numberOf refusal < 100) × (placeOf refusal < 100) × (at + 14 ≤ length (now out)) ⌝ }
     ensures { λ r. ⌜ Put (now (out .entry)) at (refusalText refusal) (now (out .exit)) r ⌝ }
 {
-    let number = put_bytes(out, at, b"refused ");
-    let place = put_number(out, number, refusal.number() as usize, b' ');
-    put_number(out, place, refusal.place(), b'\n')
+    let number = refusal.number() as usize;
+    let place = refusal.place();
+    let second = put_bytes(out, at, b"refused ");
+    let third = put_number(out, second, number, b' ');
+    put_number(out, third, place, b'\n')
 }

@@ -3,7 +3,6 @@ mod lines;
 
 ghost use mathlib.Core.Path.{_≡_};
 ghost use Rattle.hall.specs.Feeding.{Sound};
-
 use libc::STDIN_FILENO;
 use lines::Line;
 use lines::empty;
