@@ -1,5 +1,5 @@
 -- An answer as one 64-bit number, for C: the top byte is 0 and the value stands below it, or it is the refusal's number and the place stands below it.
-use mathlib.Core.Path.{_≡_, refl, ap, ap₂}
+use mathlib.Core.Path.{_≡_, ap, ap₂}
 use Prim.Native.Nat.{ℕ, _+_, _*_, _<_, _≤_}
 use native.Mathlib.Omega.{arith}
 use Rattle.operation.specs.Answer.{Answer, given, refused, Nothing}
@@ -75,6 +75,7 @@ module _ {A : Type 0} {Good : A → Type 0} {number : A → ℕ} (N : Numbers Go
   mapped-low (given v) h = N .low v h
   mapped-low (refused n p _) h = h
 
+  -- what was mapped can be told from the outcome,
   mapped-once : (a b : Answer A Nothing) → Within Good a → Within Good b → mapped number a ≡ mapped number b → a ≡ b
   mapped-once (given v) (given w) h k e =
       let same : number v ≡ number w = cc in
@@ -96,6 +97,7 @@ module _ {A : Type 0} {Good : A → Type 0} {number : A → ℕ} (N : Numbers Go
 abbrev pub AnyLetter : Centering → Type 0
 AnyLetter c = Unit {0}
 
+-- A letter is one byte.
 letter-low : (c : Centering) → Low (byteOf c)
 letter-low P = omega arith
 letter-low A = omega arith
@@ -105,6 +107,7 @@ letter-low I = omega arith
 letter-low R = omega arith
 letter-low F = omega arith
 
+-- A letter is told by its byte.
 pub letters : Numbers AnyLetter byteOf
 letters = record { low = λ c _. letter-low c; once = λ c d _ _ e. byte-injective c d e }
 
@@ -112,15 +115,17 @@ letters = record { low = λ c _. letter-low c; once = λ c d _ _ e. byte-injecti
 number-parts : (a b c d e f g h : ℕ) → b < 12 → c < 12 → d < 12 → f < 12 → g < 12 → h < 12 → a * 1728 + b * 144 + c * 12 + d ≡ e * 1728 + f * 144 + g * 12 + h → (a ≡ e) × (b ≡ f) × (c ≡ g) × (d ≡ h)
 number-parts a b c d e f g h hb hc hd hf hg hh same = (omega arith, omega arith, omega arith, omega arith)
 
+-- which stay below 19683 · 1728,
 operation-low : (o : Operation) → Reduced o → Low (operationNumber o)
 operation-low o r = omega (arith, code-lt (o .rotation) (r .digits))
 
+-- and an operation is told by them,
 operation-once : (o p : Operation) → Reduced o → Reduced p → operationNumber o ≡ operationNumber p → o ≡ p
 operation-once o p r s e =
     let (codes, x, y, z) = number-parts (codeOf (o .rotation)) (o .translation .x) (o .translation .y) (o .translation .z) (codeOf (p .rotation)) (p .translation .x) (p .translation .y) (p .translation .z) (r .x) (r .y) (r .z) (s .x) (s .y) (s .z) e in
     let turns : o .rotation ≡ p .rotation = code-injective (o .rotation) (p .rotation) (r .digits) (s .digits) codes in
     λ i. record { rotation = turns i; translation = record { x = x i; y = y i; z = z i } }
 
--- and the code the rotation.
+-- so operations of symbols are told by their numbers.
 pub operations : Numbers Reduced operationNumber
 operations = record { low = operation-low; once = operation-once }

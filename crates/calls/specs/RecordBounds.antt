@@ -2,7 +2,7 @@
 use mathlib.Core.Path.{_≡_, refl, sym, _∙_, ap}
 use mathlib.Core.Bool.{Bool, true, false, cond}
 use mathlib.Core.List.{List}
-use Prim.Native.Nat.{ℕ, _<_, _≤_}
+use Prim.Native.Nat.{ℕ, _≤_}
 use native.Mathlib.Omega.{arith}
 use lib.ListN.{length, take}
 use lib.Seq.{length-take-le}
@@ -44,13 +44,16 @@ module _ (bytes : List ℕ) (b : Bytes bytes) where
       let accepted : readOf bytes .answer ≡ Accepted = sym (ap (λ (h : RecordGroup). h .answer) e) ∙ a in
       ap (λ (h : RecordGroup). h .count) e ∙ rw accepted (sym (record-count bytes b accepted .0))
 
+  -- By what was read.
   order-by : (a : Reading) → readOf bytes .answer ≡ a → Within Low (mapped listLength (readingAnswer a (readOf bytes .centering) (take (readOf bytes .count) (readOf bytes .operations))))
   order-by Accepted e = let (long, few) = record-count bytes b e in omega arith
   order-by (Refused r) e = record-told r
 
+  -- A record's order can be packed.
   pub order-within : Within Low (recordOrder (readOf bytes))
   order-within = order-by (readOf bytes .answer) refl
 
+  -- By what was read, and by the room for it.
   copy-by : (a : Reading) (start size : ℕ) → readOf bytes .answer ≡ a → Within Low (copyAnswer (copiedBy a (readOf bytes .count) start size))
   copy-by Accepted start size e = by-room (roomFor start (readOf bytes .count) size)
     where
@@ -59,13 +62,16 @@ module _ (bytes : List ℕ) (b : Bytes bytes) where
       by-room false = record-told NoRoom
   copy-by (Refused r) start size e = record-told r
 
+  -- So can the answer of a copy.
   pub copy-within : (out : List ℕ) (start : ℕ) → Within Low (copyAnswer (copiedOf bytes out start))
   unfolding copiedOf
   copy-within out start = copy-by (readOf bytes .answer) start (length out) refl
 
+-- By what was read.
 letter-by : (a : Reading) (c : Centering) (l : List Operation) → Within AnyLetter (mapped letterIn (readingAnswer a c l))
 letter-by Accepted c l = tt
 letter-by (Refused r) c l = record-told r
 
+-- So can a record's letter.
 pub letter-within : (g : RecordGroup) → Within AnyLetter (recordLetter g)
 letter-within g = letter-by (g .answer) (g .centering) (take (g .count) (g .operations))

@@ -1,5 +1,5 @@
 -- What is answered for a symbol's text can be packed: orders are at most 48, operations have entries in −1..1 and coordinates below 12, and places are at most 80.
-use mathlib.Core.Path.{_≡_, refl, sym, _∙_, ap, subst}
+use mathlib.Core.Path.{_≡_, refl, _∙_, ap}
 use mathlib.Core.Bool.{Bool, true, false, cond}
 use mathlib.Core.List.{List, _++_, List·Memᴰ as Mem}
 use Prim.Native.Nat.{ℕ, _+_, _-_, _<_, _≤_}
@@ -14,8 +14,7 @@ use Rattle.operation.specs.declared.Operation.{Operation}
 use Rattle.centering.specs.declared.Centering.{Centering}
 use Rattle.hall_token.specs.Answers.{Reduced}
 use Rattle.hall_token.specs.declared.Previous.{Previous}
-use Rattle.hall_token.specs.declared.ParsedOperation.{ParsedOperation}
-use Rattle.hall_symbol.specs.Spelling.{Fit, Begins, lattice, rotation, Next, Spells, Refuses, ends, opens}
+use Rattle.hall_symbol.specs.Spelling.{Begins, lattice, rotation, Next, Refuses, ends, opens}
 use Rattle.hall_symbol.specs.Answers.{begins-place, symbol-count}
 use Rattle.hall_symbol.specs.Agreement.{symbol-exactly}
 use Rattle.hall_symbol.specs.Reader.{Reading, symbol, refusal, readSymbol}
@@ -91,16 +90,19 @@ symbol-told bytes (NoGroup Rotations) e = near (omega arith) (omega arith) (omeg
 symbol-told bytes (NoGroup Translations) e = near (omega arith) (omega arith) (omega arith)
 
 -- ---- the order
+-- By the answer of the symbol's group: at most 48, or its refusal.
 order-by : (bytes : List ℕ) (a : Answer) → symbolAnswer bytes .answer ≡ a → Within Low (orderAnswer (orderBy a (symbolAnswer bytes .count)))
 order-by bytes Group e = omega (arith, symbol-slots bytes .0)
 order-by bytes (Refused r) e = symbol-told bytes r e
 
+-- A symbol's order can be packed.
 pub order-within : (bytes : List ℕ) → Within Low (orderAnswer (orderOf bytes))
 unfolding orderOf
 order-within bytes = order-by bytes (symbolAnswer bytes .answer) refl
 
 -- ---- an operation
 module _ (c : Centering) (gens : List Operation) (small : SmallGenerators gens) where
+  -- The list of an accepted symbol holds generated rotations, with translations below 12.
   listed-reduced : (operations : List Operation) (steps : List ℕ) → outcomeOf c gens ≡ group operations steps → (o : Operation) → Mem o operations → Reduced o
   listed-reduced operations steps e o m =
       let A = accepted-list c gens small operations steps e in
@@ -108,11 +110,13 @@ module _ (c : Centering) (gens : List Operation) (small : SmallGenerators gens) 
       let turn = rotation-generated c gens operations steps A o m in
       record { digits = digits-entries (o .rotation) .1 (A .small (matrixOf (o .rotation)) turn); x = below .0; y = below .1; z = below .2 }
 
+  -- So do the slots in use,
   outcome-reduced : (n : ℕ) (o : Outcome) → outcomeOf c gens ≡ o → (i : ℕ) → i < outcomeAnswer c n o .count → Reduced (getD (outcomeAnswer c n o .operations) i identityOperation)
   outcome-reduced n (group operations steps) e i h =
       rw (List·getD-append operations (replicate (48 - length operations) identityOperation) identityOperation i h) (listed-reduced operations steps e (getD operations i identityOperation) (member-at operations i identityOperation h))
   outcome-reduced n (refused r) e i h = absurd (omega arith)
 
+-- whatever the text was read as.
 reading-reduced : (bytes : List ℕ) (s : Reading) → readSymbol bytes ≡ s → (i : ℕ) → i < readingAnswer s .count → Reduced (getD (readingAnswer s .operations) i identityOperation)
 reading-reduced bytes (symbol c gens) e i h =
     outcome-reduced c gens (symbol-small bytes c gens (symbol-exactly bytes c gens .0 e)) (length gens) (outcomeOf c gens) refl i h
@@ -123,9 +127,11 @@ symbol-reduced : (bytes : List ℕ) (i : ℕ) → i < symbolAnswer bytes .count 
 unfolding symbolAnswer
 symbol-reduced bytes i h = reading-reduced bytes (readSymbol bytes) refl i h
 
+-- An index past the end is refused at 0.
 past-end : Told 28 0
 past-end = near (omega arith) (omega arith) (omega arith)
 
+-- By the answer of the symbol's group, and by the index.
 operation-by : (bytes : List ℕ) (i : ℕ) (a : Answer) → symbolAnswer bytes .answer ≡ a → Within Reduced (operationAnswer (operationBy a (symbolAnswer bytes .count) (symbolAnswer bytes .operations) i))
 operation-by bytes i Group e = by-test (ltb i (symbolAnswer bytes .count)) refl
   where
@@ -134,19 +140,23 @@ operation-by bytes i Group e = by-test (ltb i (symbolAnswer bytes .count)) refl
     by-test false t = past-end
 operation-by bytes i (Refused r) e = symbol-told bytes r e
 
+-- So can each of its operations,
 pub operation-within : (bytes : List ℕ) (i : ℕ) → Within Reduced (operationAnswer (operationAt bytes i))
 unfolding operationAt
 operation-within bytes i = operation-by bytes i (symbolAnswer bytes .answer) refl
 
 -- ---- the letter
+-- By the answer of the symbol's group.
 letter-by : (bytes : List ℕ) (a : Answer) → symbolAnswer bytes .answer ≡ a → Within AnyLetter (letterBy a (symbolAnswer bytes .centering))
 letter-by bytes Group e = tt
 letter-by bytes (Refused r) e = symbol-told bytes r e
 
+-- its letter,
 pub letter-within : (bytes : List ℕ) → Within AnyLetter (letterAnswer (symbolAnswer bytes))
 letter-within bytes = letter-by bytes (symbolAnswer bytes .answer) refl
 
 -- ---- the record
+-- By the answer of the symbol's group, and by the room for the record.
 record-by : (bytes : List ℕ) (start size : ℕ) (a : Answer) → symbolAnswer bytes .answer ≡ a → Within Low (symbolRecordAnswer (writtenBy a (symbolAnswer bytes .count) start size))
 record-by bytes start size Group e = by-room (roomFor start (symbolAnswer bytes .count) size)
   where
@@ -155,6 +165,7 @@ record-by bytes start size Group e = by-room (roomFor start (symbolAnswer bytes 
     by-room false = near (omega arith) (omega arith) (omega arith)
 record-by bytes start size (Refused r) e = symbol-told bytes r e
 
+-- and the answer of its record.
 pub record-within : (bytes out : List ℕ) (start : ℕ) → Within Low (symbolRecordAnswer (symbolRecordOf bytes out start))
 unfolding symbolRecordOf
 record-within bytes out start = record-by bytes start (length out) (symbolAnswer bytes .answer) refl

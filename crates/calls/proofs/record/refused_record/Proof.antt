@@ -3,10 +3,6 @@ use Rattle.calls.specs.RecordBounds.{record-told}
 use borrow.Author.Needs.{needs}
 use Rattle.calls.proofs.record.refused_record.Statement.{statement}
 use Rattle.calls.proofs.record.refused_record.Tie as tie
-use Rattle.calls.proofs.record.refused_record.Reads as reads
-use Rattle.calls.proofs.record.refused_record.Lts as lts
-use Rattle.calls.proofs.packing.refused.Reads as refused-reads
-use Rattle.calls.proofs.record.number.Reads as number-reads
 
 number-requires : tie.Need-number-requires
 number-requires c κs = search needs

@@ -6,10 +6,6 @@ use Rattle.calls.specs.Packing.{packed}
 use borrow.Author.Needs.{needs}
 use Rattle.calls.proofs.record.symmetry_record_copy.Statement.{statement}
 use Rattle.calls.proofs.record.symmetry_record_copy.Tie as tie
-use Rattle.calls.proofs.record.symmetry_record_copy.Reads as reads
-use Rattle.calls.proofs.record.symmetry_record_copy.Lts as lts
-use Rattle.calls.proofs.record.refused_record.Reads as refused-record-reads
-use Rattle.group_record.proofs.copier.copy_record.Reads as copy-record-reads
 
 copy-record-requires : tie.Need-copy-record-requires
 copy-record-requires c κs = search needs

@@ -3,11 +3,6 @@ use mathlib.Core.Path.{_∙_}
 use borrow.Author.Needs.{needs}
 use Rattle.calls.proofs.record.symmetry_record_letter.Statement.{statement}
 use Rattle.calls.proofs.record.symmetry_record_letter.Tie as tie
-use Rattle.calls.proofs.record.symmetry_record_letter.Reads as reads
-use Rattle.calls.proofs.record.symmetry_record_letter.Lts as lts
-use Rattle.calls.proofs.record.refused_record.Reads as refused-record-reads
-use Rattle.centering.proofs.Centering.byte.Reads as byte-reads
-use Rattle.group_record.proofs.reader.read_record.Reads as read-record-reads
 
 read-record-requires : tie.Need-read-record-requires
 read-record-requires c κs = search needs

@@ -5,10 +5,6 @@ use Rattle.calls.specs.RecordBounds.{order-read}
 use borrow.Author.Needs.{needs}
 use Rattle.calls.proofs.record.symmetry_record_order.Statement.{statement}
 use Rattle.calls.proofs.record.symmetry_record_order.Tie as tie
-use Rattle.calls.proofs.record.symmetry_record_order.Reads as reads
-use Rattle.calls.proofs.record.symmetry_record_order.Lts as lts
-use Rattle.calls.proofs.record.refused_record.Reads as refused-record-reads
-use Rattle.group_record.proofs.reader.read_record.Reads as read-record-reads
 
 read-record-requires : tie.Need-read-record-requires
 read-record-requires c κs = search needs

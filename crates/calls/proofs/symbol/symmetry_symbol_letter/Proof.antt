@@ -5,11 +5,6 @@ use Rattle.calls.specs.SymbolBounds.{symbol-told}
 use borrow.Author.Needs.{needs}
 use Rattle.calls.proofs.symbol.symmetry_symbol_letter.Statement.{statement}
 use Rattle.calls.proofs.symbol.symmetry_symbol_letter.Tie as tie
-use Rattle.calls.proofs.symbol.symmetry_symbol_letter.Reads as reads
-use Rattle.calls.proofs.symbol.symmetry_symbol_letter.Lts as lts
-use Rattle.calls.proofs.symbol.refused_symbol.Reads as refused-symbol-reads
-use Rattle.centering.proofs.Centering.byte.Reads as byte-reads
-use Rattle.symbol_group.proofs.SymbolGroup.new.Reads as new-reads
 
 new-requires : tie.Need-new-requires
 new-requires c κs = search needs

@@ -8,12 +8,6 @@ use Rattle.calls.specs.SymbolBounds.{operation-within}
 use borrow.Author.Needs.{needs}
 use Rattle.calls.proofs.symbol.symmetry_symbol_operation.Statement.{statement}
 use Rattle.calls.proofs.symbol.symmetry_symbol_operation.Tie as tie
-use Rattle.calls.proofs.symbol.symmetry_symbol_operation.Reads as reads
-use Rattle.calls.proofs.symbol.symmetry_symbol_operation.Lts as lts
-use Rattle.calls.proofs.packing.refused.Reads as refused-reads
-use Rattle.calls.proofs.symbol.operation_number.Reads as operation-number-reads
-use Rattle.calls.proofs.symbol.refused_symbol.Reads as refused-symbol-reads
-use Rattle.symbol_group.proofs.operation_at.Reads as operation-at-reads
 
 operation-at-requires : tie.Need-operation-at-requires
 operation-at-requires c κs = search needs

@@ -7,10 +7,6 @@ use Rattle.calls.specs.SymbolBounds.{order-within}
 use borrow.Author.Needs.{needs}
 use Rattle.calls.proofs.symbol.symmetry_symbol_order.Statement.{statement}
 use Rattle.calls.proofs.symbol.symmetry_symbol_order.Tie as tie
-use Rattle.calls.proofs.symbol.symmetry_symbol_order.Reads as reads
-use Rattle.calls.proofs.symbol.symmetry_symbol_order.Lts as lts
-use Rattle.calls.proofs.symbol.refused_symbol.Reads as refused-symbol-reads
-use Rattle.symbol_group.proofs.order.Reads as order-reads
 
 order-requires : tie.Need-order-requires
 order-requires c κs = search needs

@@ -7,11 +7,6 @@ use Rattle.calls.specs.SymbolBounds.{record-within}
 use borrow.Author.Needs.{needs}
 use Rattle.calls.proofs.symbol.symmetry_symbol_record.Statement.{statement}
 use Rattle.calls.proofs.symbol.symmetry_symbol_record.Tie as tie
-use Rattle.calls.proofs.symbol.symmetry_symbol_record.Reads as reads
-use Rattle.calls.proofs.symbol.symmetry_symbol_record.Lts as lts
-use Rattle.calls.proofs.packing.refused.Reads as refused-reads
-use Rattle.calls.proofs.symbol.refused_symbol.Reads as refused-symbol-reads
-use Rattle.group_record.proofs.symbol.write_record.Reads as write-record-reads
 
 write-record-requires : tie.Need-write-record-requires
 write-record-requires c κs = search needs
