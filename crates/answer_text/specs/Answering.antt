@@ -1,6 +1,6 @@
 -- From the answer and the bytes of the record's writer to the text: which group or refusal they say, and that its text fits.
 use mathlib.Core.Path.{_≡_, refl, sym, _∙_, ap, ap₂, subst}
-use mathlib.Core.Bool.{true, cond}
+use mathlib.Core.Bool.{true}
 use mathlib.Core.List.{List, [], _∷_, _++_, append-assoc, List·Memᴰ as Mem}
 use Prim.Native.Nat.{ℕ, _+_, _*_, _-_, _<_, _≤_}
 use native.Mathlib.Omega.{arith}
@@ -22,9 +22,9 @@ use Rattle.group_record.specs.Record.{itemWidth, editionNumber, totalLength, tr
 use Rattle.group_record.specs.Groups.{Form, Listing}
 use Rattle.group_record.specs.ListedForm.{form-length, listed-form}
 use Rattle.group_record.specs.OneRecord.{operationBytes, operationIn, operation-wide, operation-again}
-use Rattle.group_record.specs.Copying.{roomFor, room-there, placedIn, all-placed}
+use Rattle.group_record.specs.Copying.{roomFor, room-there, all-placed}
 use Rattle.group_record.specs.AcceptedSymbols.{symbol-writable}
-use Rattle.group_record.specs.SymbolRecords.{writtenBy, placedBy, symbolRecordOf, symbolBufferOf}
+use Rattle.group_record.specs.SymbolRecords.{symbolRecordOf, symbolBufferOf}
 use Rattle.group_record.specs.declared.SymbolRecord.{SymbolRecord}
 use Rattle.group_record.specs.declared.SymbolRecord.the-variants.{Written, NoRoom, Refused as NotWritten}
 use Rattle.answer_text.specs.Words.{newline, decimal, lineOf, number-short}
@@ -85,6 +85,7 @@ module _ (line : List ℕ) where
       let (few, there, listing) = symbol-writable line (symbolAnswer line) refl a in
       room-there 0 (symbolAnswer line .count) 245 (omega arith) (omega arith)
 
+  -- What is answered, by the symbol's answer.
   told-by : (a : Answer) → symbolAnswer line .answer ≡ a → symbolRecordOf line zeros 0 ≡ toldBy a (symbolAnswer line .count)
   unfolding symbolRecordOf
   told-by Group e = rw (e, enough-room e)
@@ -134,23 +135,29 @@ module _ (line : List ℕ) where
 
   -- The text of a group.
   module _ (a : symbolAnswer line .answer ≡ Group) where
+    -- Its letter,
     letter : Centering
     letter = symbolAnswer line .centering
 
+    -- its operations as they are listed,
     listed : List Operation
     listed = take (symbolAnswer line .count) (symbolAnswer line .operations)
 
+    -- what is known of them,
     writable : (symbolAnswer line .count ≤ 48) × (symbolAnswer line .count ≤ length (symbolAnswer line .operations)) × Listing listed
     unfolding listed
     writable = symbol-writable line (symbolAnswer line) refl a
 
+    -- and of their listed form.
     form : Form letter (listedForm letter listed)
     form = listed-form letter (writable .2)
 
+    -- The form has as many.
     form-count : length (listedForm letter listed) ≡ symbolAnswer line .count
     unfolding listed
     form-count = form-length letter listed ∙ length-take-le (symbolAnswer line .count) (symbolAnswer line .operations) (writable .1)
 
+    -- The text is that of the letter and the form.
     group-answer : groupText letter (listedForm letter listed) ≡ answerOf line
     unfolding answerOf letter listed
     group-answer = rw a
@@ -188,12 +195,14 @@ module _ (line : List ℕ) where
       group-text = held-text letter (listedForm letter listed) form n (form-count ∙ same) bytes behind split ∙ group-answer
 
 -- ---- the whole text fits
+-- A refusal takes three short words.
 refusal-fits : (r : Refusal) → placeOf r ≤ 80 → length (refusalText r) ≤ 14
 refusal-fits r h =
     let number = number-short (numberOf r) (omega (arith, number-small r)) in
     let place = number-short (placeOf r) (omega arith) in
     rw (← refusal-parts r) (simp length-append (omega arith))
 
+-- Every answer fits behind the symbol's line.
 answer-fits : (line : List ℕ) → length (answerOf line) ≤ 1733
 answer-fits line = go (symbolAnswer line .answer) refl
   where
@@ -213,11 +222,11 @@ symbol-joined line = append-assoc (take 80 line) (newline ∷ []) (answerOf line
 
 -- ---- the buffer
 -- Zeros without the first k of them.
-drop-zeros : (n k zero : ℕ) → k ≤ n → drop k (replicate n zero) ≡ replicate (n - k) zero
-drop-zeros n k zero h =
+drop-zeros : (n k b : ℕ) → k ≤ n → drop k (replicate n b) ≡ replicate (n - k) b
+drop-zeros n k b h =
     let e : k + (n - k) ≡ n = omega arith in
-    ap (λ (m : ℕ). drop k (replicate m zero)) (sym e) ∙ ap (drop k) (sym (replicate-append-replicate k (n - k) zero))
-    ∙ drop-at (replicate k zero) (replicate (n - k) zero) k (length-replicate k zero)
+    ap (λ (m : ℕ). drop k (replicate m b)) (sym e) ∙ ap (drop k) (sym (replicate-append-replicate k (n - k) b))
+    ∙ drop-at (replicate k b) (replicate (n - k) b) k (length-replicate k b)
 
 -- The symbol's line and the answer behind it, written into zeros, are the text with zeros behind it.
 pub answer-put : (line after : List ℕ) (end : ℕ) → Put (replicate 1814 0) 0 ((take 80 line ++ (newline ∷ [])) ++ answerOf line) after end → _≡_ {A = AnswerText} (record { length = end; bytes = after }) (textAnswer line)

@@ -2,7 +2,7 @@
 use mathlib.Core.Path.{_≡_, refl, sym, _∙_, ap, ap₂}
 use mathlib.Core.Bool.{Bool, true, false}
 use mathlib.Core.List.{List, _∷_, _++_}
-use Prim.Native.Nat.{ℕ, _<_, _≤_}
+use Prim.Native.Nat.{ℕ, _<_}
 use native.Mathlib.Omega.{arith}
 use lib.Dec.{ltb}
 use lib.ListN.{length, take, length-take}
@@ -21,14 +21,15 @@ long-refused : (line : List ℕ) → 80 < length line → symbolAnswer line ≡ 
 unfolding symbolAnswer readSymbol
 long-refused line h = rw (lt-ltb 80 (length line) h)
 
+-- Lines that are answered alike have one text for the answer.
 answers-alike : (line other : List ℕ) → symbolAnswer line ≡ symbolAnswer other → answerOf line ≡ answerOf other
 unfolding answerOf
 answers-alike line other e = ap (λ (g : SymbolGroup). answerBy (g .answer) (g .centering) (take (g .count) (g .operations))) e
 
 -- The text of the first 81 bytes is the text of the line.
-pub first-bytes : (line : List ℕ) → textOf (take 81 line) ≡ textOf line
+pub first-bytes-decide : (line : List ℕ) → textOf (take 81 line) ≡ textOf line
 unfolding textOf
-first-bytes line = by-length (ltb 80 (length line)) refl
+first-bytes-decide line = by-length (ltb 80 (length line)) refl
   where
     by-length : (b : Bool) → ltb 80 (length line) ≡ b → textOf (take 81 line) ≡ textOf line
     by-length true e =

@@ -23,6 +23,7 @@ use Rattle.symbol_group.specs.declared.Answer.the-variants.{Refused}
 
 -- ---- places in a text
 module _ (bytes : List ℕ) where
+  -- A text that begins well is at most 80 bytes long.
   begins-fit : {c : Centering} {found : List Operation} {previous : Previous} {p : ℕ} {s : List ℕ} → Begins bytes c found previous p s → Fit bytes
   begins-fit (lattice inverted c fit cut) = fit
   begins-fit (rotation o f a begins cut start few says) = begins-fit begins
@@ -36,9 +37,11 @@ module _ (bytes : List ℕ) where
       let rest = ap length (n .cut .text) ∙ length-append (n .w) (t ++ after) in
       omega (arith, n .stands)
 
+  -- A token that is refused lies in the text.
   token-place : {place : ℕ} {answer : ParsedOperation} → TokenRefused bytes place answer → place ≤ 80
   token-place t = next-place (t .next)
 
+  -- Refusals 1 to 11.
   text-place : (r : text-refusal.Refusal) → Refuses bytes r → text.placeOf r ≤ 80
   text-place TooLong h = omega arith
   text-place (ForbiddenByte p) h = omega (arith, h .short, h .within)
@@ -57,6 +60,7 @@ module _ (bytes : List ℕ) where
   text-place (TooMany p) h = next-place (h .next)
 
   -- ---- of a symbol
+  -- Refusals 1 to 14.
   pub place-small : (r : Refusal) → symbolAnswer bytes .answer ≡ Refused r → placeOf r ≤ 80
   place-small (Text r) e = text-place r (text-exactly bytes r .0 e)
   place-small (NoGroup (OffLattice i)) e =

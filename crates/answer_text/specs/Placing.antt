@@ -5,19 +5,13 @@ use Prim.Native.Nat.{ℕ, _+_, _<_, _≤_}
 use native.Mathlib.Omega.{arith}
 use native.Mathlib.Numerals.{add-one}
 use native.Mathlib.Nat.{add-zero}
-use lib.ListN.{length, getD, take, drop, set, length-set, length-append}
+use lib.ListN.{length, getD, take, drop, set, length-append}
 use lib.Seq.{sets, sets-eq, take-suc, take-length}
 
 -- The buffer with a text written over it from a place on.
 unfoldable pub put : List ℕ → ℕ → List ℕ → List ℕ
 put out at [] = out
 put out at (b ∷ text) = put (set out at b) (at + 1) text
-
--- Its length stays.
-pub put-length : (out : List ℕ) (at : ℕ) (text : List ℕ) → length (put out at text) ≡ length out
-unfolding put
-put-length out at [] = refl
-put-length out at (b ∷ text) = put-length (set out at b) (at + 1) text ∙ length-set out at b
 
 -- Two texts in a row.
 pub put-append : (out : List ℕ) (at : ℕ) (a b : List ℕ) → put (put out at a) (at + length a) b ≡ put out at (a ++ b)
@@ -27,12 +21,13 @@ put-append out at (c ∷ a) b =
     let e : at + length (c ∷ a) ≡ at + 1 + length a = omega arith in
     ap (λ (k : ℕ). put (put (set out at c) (at + 1) a) k b) e ∙ put-append (set out at c) (at + 1) a b
 
--- A text written from the start stands before what was there behind it.
+-- A run of stores.
 put-sets : (out : List ℕ) (at : ℕ) (text : List ℕ) → put out at text ≡ sets out at text
 unfolding put
 put-sets out at [] = refl
 put-sets out at (b ∷ text) = put-sets (set out at b) (at + 1) text ∙ ap (λ (k : ℕ). sets (set out at b) k text) (add-one at)
 
+-- A text written from the start stands before what was there behind it.
 pub put-front : (out text : List ℕ) → length text ≤ length out → put out 0 text ≡ text ++ drop (length text) out
 put-front out text h =
     let e : 0 + length text ≡ length text = omega arith in
@@ -60,15 +55,17 @@ put-then {a} {b} {c} {at} {mid} {end} {s} {t} p q =
 pub put-named : {a b : List ℕ} {at end : ℕ} {s t : List ℕ} → s ≡ t → Put a at s b end → Put a at t b end
 put-named {a} {b} {at} {end} {s} {t} e p = rw (← e) p
 
--- One byte, two, and three.
+-- One byte.
 pub put-byte : (out : List ℕ) (at b : ℕ) → Put out at (b ∷ []) (set out at b) (at + 1)
 unfolding put
 put-byte out at b = record { bytes = refl; place = refl }
 
+-- Two bytes.
 pub put-two : (out : List ℕ) (at p q : ℕ) → Put out at (p ∷ q ∷ []) (set (set out at p) (at + 1) q) (at + 2)
 unfolding put
 put-two out at p q = record { bytes = refl; place = refl }
 
+-- Three.
 pub put-three : (out : List ℕ) (at p q r : ℕ) → Put out at (p ∷ q ∷ r ∷ []) (set (set (set out at p) (at + 1) q) (at + 2) r) (at + 3)
 unfolding put
 put-three out at p q r =

@@ -1,10 +1,10 @@
 -- The lines of the operations in a record's bytes: what is written after each step of the code, and which operations these are.
-use mathlib.Core.Path.{_≡_, refl, sym, _∙_, ap, subst}
+use mathlib.Core.Path.{_≡_, sym, _∙_, ap}
 use mathlib.Core.List.{List, [], _∷_, _++_, append-nil}
-use Prim.Native.Nat.{ℕ, _+_, _*_, _-_, _<_, _≤_}
+use Prim.Native.Nat.{ℕ, _+_, _*_, _-_, _<_}
 use native.Mathlib.Omega.{arith}
 use native.Mathlib.Numerals.{add-one}
-use lib.ListN.{length, getD, take, drop}
+use lib.ListN.{length, take, drop}
 use lib.Seq.{take-suc, take-length}
 use Rattle.operation.specs.Product.{identityOperation}
 use Rattle.operation.specs.declared.Operation.{Operation}
@@ -14,7 +14,7 @@ use Rattle.group_record.specs.OneRecord.{operationIn}
 use Rattle.group_record.specs.Parts.{tail-part}
 use Rattle.answer_text.specs.Text.{operationLine}
 use Rattle.answer_text.specs.Lines.{Plain}
-use Rattle.answer_text.specs.Placing.{put, Put, put-nothing, put-then, put-named}
+use Rattle.answer_text.specs.Placing.{Put, put-nothing, put-then, put-named}
 
 -- The first n operations of a record.
 abbrev pub operationsIn : ℕ → List ℕ → List Operation
@@ -33,6 +33,7 @@ module _ (n : ℕ) (bytes : List ℕ) where
   unfoldable pub linesTo : ℕ → List ℕ
   linesTo i = bytesOf operationLine (take i (operationsIn n bytes))
 
+  -- Nothing is written before the first.
   pub lines-start : (out : List ℕ) (at : ℕ) → Put out at (linesTo 0) out at
   unfolding linesTo bytesOf
   lines-start out at = put-nothing out at
@@ -48,6 +49,7 @@ module _ (n : ℕ) (bytes : List ℕ) where
       sym (ap (bytesOf operationLine) more ∙ bytes-append operationLine (take i (operationsIn n bytes)) (operationIn (drop (itemWidth * i) bytes) ∷ [])
       ∙ ap (λ (r : List ℕ). bytesOf operationLine (take i (operationsIn n bytes)) ++ r) (append-nil (operationLine (operationIn (drop (itemWidth * i) bytes)))))
 
+  -- One operation more is written.
   pub lines-next : (i : ℕ) → i < n → {out now after : List ℕ} {at mid end : ℕ} (f : Operation) → f ≡ operationIn (drop (itemWidth * i) bytes) → Put out at (linesTo i) now mid → Put now mid (operationLine f) after end → Put out at (linesTo (i + 1)) after end
   lines-next i h f e p q = put-named (lines-more i h) (put-then p (put-named (ap operationLine e) q))
 

@@ -50,6 +50,7 @@ abbrev pub answerBy : Answer → Centering → List Operation → List ℕ
 answerBy Group c l = groupText c (listedForm c l)
 answerBy (Refused r) c l = refusalText r
 
+-- What is answered for a line.
 unfoldable pub answerOf : List ℕ → List ℕ
 answerOf line =
     let g = symbolAnswer line in answerBy (g .answer) (g .centering) (take (g .count) (g .operations))

@@ -1,19 +1,20 @@
 -- How numbers, words and lines are written, in the bytes of 01's example.
-use mathlib.Core.Path.{_≡_, refl}
+use mathlib.Core.Path.{_≡_, refl, sym, _∙_, ap}
 use mathlib.Core.Bool.{Bool, true, false, cond}
 use mathlib.Core.List.{List, [], _∷_, _++_}
-use Prim.Native.Nat.{ℕ, zero, suc, _+_, _-_, _/_, _%_, _<_, _≤_}
+use Prim.Native.Nat.{ℕ, zero, suc, _+_, _/_, _%_, _<_, _≤_}
 use native.Mathlib.Omega.{arith}
 use lib.Dec.{ltb}
 use lib.IntN.{ℤ, pos, negsuc, one}
-use lib.ListN.{length, length-append}
+use lib.ListN.{length}
 use borrow.Author.Tests.{lt-ltb, le-ltb, ltb-true, ltb-false}
 use Rattle.operation.specs.Meaning.{entryOf}
 
--- The bytes between words and behind a line.
+-- The byte between words.
 abbrev pub space : ℕ
 space = 32
 
+-- The byte behind a line.
 abbrev pub newline : ℕ
 newline = 10
 
@@ -27,6 +28,7 @@ decimalWithin zero n = digitByte n ∷ []
 decimalWithin (suc more) n =
     cond (ltb n 10) (digitByte n ∷ []) (decimalWithin more (n / 10) ++ (digitByte (n % 10) ∷ []))
 
+-- The digits of a number.
 unfoldable pub decimal : ℕ → List ℕ
 decimal n = decimalWithin n n
 
@@ -41,24 +43,44 @@ lineOf [] = newline ∷ []
 lineOf (w ∷ []) = w ++ (newline ∷ [])
 lineOf (w ∷ v ∷ words) = w ++ (space ∷ lineOf (v ∷ words))
 
--- ---- numbers of one and of two digits
+-- ---- the rule of decimal numbers, and numbers of one and of two digits
+-- A number below ten is its digit,
 within-ten : (more n : ℕ) → n < 10 → decimalWithin more n ≡ digitByte n ∷ []
 unfolding decimalWithin
 within-ten zero n h = refl
 within-ten (suc more) n h = rw (lt-ltb n 10 h)
 
-within-hundred : (more n : ℕ) → 10 ≤ n → n < 100 → decimalWithin (suc more) n ≡ digitByte (n / 10) ∷ digitByte (n % 10) ∷ []
+-- and a larger one its tens and its last digit.
+within-tens : (more n : ℕ) → 10 ≤ n → decimalWithin (suc more) n ≡ decimalWithin more (n / 10) ++ (digitByte (n % 10) ∷ [])
 unfolding decimalWithin
-within-hundred more n h k = rw (le-ltb n 10 h, within-ten more (n / 10) (omega arith))
+within-tens more n h = rw (le-ltb n 10 h)
 
+-- With enough room for its digits it does not matter how much.
+within-enough : (more most n : ℕ) → n ≤ more → n ≤ most → decimalWithin more n ≡ decimalWithin most n
+unfolding decimalWithin
+within-enough zero most n h k = sym (within-ten most n (omega arith))
+within-enough (suc more) zero n h k = within-ten (suc more) n (omega arith)
+within-enough (suc more) (suc most) n h k = by-size (ltb n 10) refl (λ large. within-enough more most (n / 10) (omega arith) (omega arith))
+  where
+    by-size : (b : Bool) → ltb n 10 ≡ b → (10 ≤ n → decimalWithin more (n / 10) ≡ decimalWithin most (n / 10)) → decimalWithin (suc more) n ≡ decimalWithin (suc most) n
+    by-size true e tens = within-ten (suc more) n (ltb-true n 10 e) ∙ sym (within-ten (suc most) n (ltb-true n 10 e))
+    by-size false e tens = within-tens more n (ltb-false n 10 e) ∙ ap (λ (w : List ℕ). w ++ (digitByte (n % 10) ∷ [])) (tens (ltb-false n 10 e)) ∙ sym (within-tens most n (ltb-false n 10 e))
+
+-- From ten on: the number of tens, and the last digit behind it.
+pub tens-and-digit : (n : ℕ) → 10 ≤ n → decimal n ≡ decimal (n / 10) ++ (digitByte (n % 10) ∷ [])
+unfolding decimal
+tens-and-digit zero h = absurd (omega arith)
+tens-and-digit (suc n) h =
+    within-tens n (suc n) h ∙ ap (λ (w : List ℕ). w ++ (digitByte (suc n % 10) ∷ [])) (within-enough n (suc n / 10) (suc n / 10) (omega arith) (omega arith))
+
+-- Below ten: the digit.
 pub one-digit : (n : ℕ) → n < 10 → decimal n ≡ digitByte n ∷ []
 unfolding decimal
 one-digit n h = within-ten n n h
 
+-- Below a hundred: two digits.
 pub two-digits : (n : ℕ) → 10 ≤ n → n < 100 → decimal n ≡ digitByte (n / 10) ∷ digitByte (n % 10) ∷ []
-unfolding decimal
-two-digits zero h k = absurd (omega arith)
-two-digits (suc n) h k = within-hundred n (suc n) h k
+two-digits n h k = tens-and-digit n h ∙ ap (λ (w : List ℕ). w ++ (digitByte (n % 10) ∷ [])) (one-digit (n / 10) (omega arith))
 
 -- They take that many bytes.
 pub number-short : (n : ℕ) → n < 100 → length (decimal n) ≤ 2
@@ -69,10 +91,12 @@ number-short n h = by-size (ltb n 10) refl
     by-size false e = rw (two-digits n (ltb-false n 10 e) h) (omega arith)
 
 -- ---- entries, by their digits
+-- −1 is written with its sign,
 pub entry-negative : signed (entryOf 0) ≡ 45 ∷ 49 ∷ []
 unfolding signed entryOf one decimal decimalWithin
 entry-negative = refl
 
+-- 0 and 1 as they are.
 pub entry-plain : (d : ℕ) → ¬ (d ≡ 0) → d ≤ 2 → signed (entryOf d) ≡ (47 + d) ∷ []
 unfolding signed entryOf one decimal decimalWithin
 entry-plain zero n h = absurd (n refl)

@@ -35,7 +35,7 @@ pub fn answer_text(line: &[u8]) -> AnswerText
     AnswerText { length, bytes }
 }
 
-fn first_bytes(line: &[u8]) -> &[u8]
+fn symbol_bytes(line: &[u8]) -> &[u8]
     ensures { λ r. ⌜ now r ≡ take 80 (now (line .entry)) ⌝ }
 {
     if line.len() <= 80 {
@@ -49,7 +49,7 @@ fn put_symbol(out: &mut [u8], line: &[u8]) -> usize
     requires { ⌜ 81 ≤ length (now out) ⌝ }
     ensures { λ r. ⌜ Put (now (out .entry)) 0 (take 80 (now (line .entry)) ++ (newline ∷ [])) (now (out .exit)) r ⌝ }
 {
-    let end = put_bytes(out, 0, first_bytes(line));
+    let end = put_bytes(out, 0, symbol_bytes(line));
     out[end] = b'\n';
     end + 1
 }

@@ -2,16 +2,14 @@
 use mathlib.Core.Path.{_≡_, refl, sym, _∙_, ap, ap₂}
 use mathlib.Core.Bool.{Bool, true, false, cond}
 use mathlib.Core.List.{List, [], _∷_, _++_, map}
-use Prim.Native.Nat.{ℕ, _+_, _<_, _≤_}
+use Prim.Native.Nat.{ℕ}
 use native.Mathlib.Omega.{arith}
-use native.Mathlib.Numerals.{add-one}
 use lib.Dec.{eqb, ltb}
-use lib.ListN.{length, getD, take, drop, set, length-append}
-use lib.Seq.{take-all, take-append-le, take-take, take-suc-set, drop-cons, drop-length, length-take-le}
-use borrow.Author.Tests.{ltb-true, ltb-false, eq-eqb, ne-eqb}
-use Rattle.answer_text.specs.FirstBytes.{first-bytes}
-use Rattle.hall.specs.Lines.{lastLine, linesFrom, linesOf, textsOf, outputOf}
-use Rattle.hall.specs.declared.lines.Line.{Line}
+use lib.ListN.{length, take}
+use lib.Seq.{take-all, take-append-le, take-take, length-take-le}
+use borrow.Author.Tests.{ltb-true, ltb-false}
+use Rattle.answer_text.specs.FirstBytes.{first-bytes-decide}
+use Rattle.hall.specs.Lines.{lastLine, linesFrom, linesOf, inARow, textsOf, outputOf}
 
 -- How many bytes of a line are kept: one more than a symbol may have.
 abbrev pub most : ℕ
@@ -40,11 +38,13 @@ unfoldable pub allHandedOver : List ℕ → List (List ℕ)
 allHandedOver text = handedOver [] text ++ lastLine (keptBehind [] text)
 
 -- ---- parts of a text, fed one behind the other
+-- What is kept behind two parts.
 pub kept-parts : (kept part rest : List ℕ) → keptBehind (keptBehind kept part) rest ≡ keptBehind kept (part ++ rest)
 unfolding keptBehind
 kept-parts kept [] rest = refl
 kept-parts kept (b ∷ part) rest = kept-parts (keptAfter kept b) part rest
 
+-- What is handed over on two parts.
 pub handed-parts : (kept part rest : List ℕ) → handedOver kept part ++ handedOver (keptBehind kept part) rest ≡ handedOver kept (part ++ rest)
 unfolding keptBehind handedOver
 handed-parts kept [] rest = refl
@@ -67,11 +67,13 @@ joined-first line b = by-length (ltb (length line) most) refl
         let whole = length-take-le most line long in
         take-append-le most (take most line) (b ∷ []) (omega arith) ∙ take-take most most line (omega arith) ∙ sym (take-append-le most line (b ∷ []) long)
 
+-- A last line counts or not, whether it is cut or not.
 last-first : (line : List ℕ) → lastLine (take most line) ≡ map (take most) (lastLine line)
 unfolding lastLine
 last-first [] = refl
 last-first (b ∷ line) = refl
 
+-- From any point of a line on.
 from-lines : (line text : List ℕ) → handedOver (take most line) text ++ lastLine (keptBehind (take most line) text) ≡ map (take most) (linesFrom line text)
 unfolding handedOver keptBehind keptAfter linesFrom
 from-lines line [] = last-first line
@@ -88,57 +90,11 @@ handed-lines text = from-lines [] text
 
 -- Their texts are the texts of the lines.
 texts-first : (lines : List (List ℕ)) → textsOf (map (take most) lines) ≡ textsOf lines
-unfolding textsOf
+unfolding inARow
 texts-first [] = refl
-texts-first (line ∷ lines) = ap₂ _++_ (first-bytes line) (texts-first lines)
+texts-first (line ∷ lines) = ap₂ _++_ (first-bytes-decide line) (texts-first lines)
 
+-- So what the program writes is the output.
 pub handed-output : (text : List ℕ) → textsOf (allHandedOver text) ≡ outputOf text
 unfolding outputOf
 handed-output text = ap textsOf (handed-lines text) ∙ texts-first (linesOf text)
-
--- ---- the kept bytes as the code holds them
--- The bytes in use.
-abbrev pub held : Line → List ℕ
-held line = take (line .length) (line .bytes)
-
--- There are 81 places, and no more are in use.
-pub record Sound (line : Line) : Type 0 where
-  pub few : line .length ≤ most
-  pub places : length (line .bytes) ≡ most
-
-module _ (line : Line) (s : Sound line) (b : ℕ) where
-  -- A byte that joins a full line changes nothing.
-  pub joined-full : most ≤ line .length → held line ≡ joined (held line) b
-  unfolding joined
-  joined-full h =
-      let full = length-take-le (line .length) (line .bytes) (omega (arith, s .few, s .places)) in
-      sym (take-append-le most (held line) (b ∷ []) (omega arith) ∙ take-all most (held line) (omega (arith, s .few)))
-
-  -- A byte that joins another is stored behind it.
-  pub joined-more : line .length < most → take (line .length + 1) (set (line .bytes) (line .length) b) ≡ joined (held line) b
-  unfolding joined
-  joined-more h =
-      let inside : line .length < length (line .bytes) = omega (arith, s .places) in
-      let long = length-append (held line) (b ∷ []) in
-      let used = length-take-le (line .length) (line .bytes) (omega arith) in
-      ap (λ (n : ℕ). take n (set (line .bytes) (line .length) b)) (add-one (line .length))
-      ∙ take-suc-set (line .bytes) (line .length) b inside ∙ sym (take-all most (held line ++ (b ∷ [])) (omega arith))
-
--- By the byte.
-pub kept-ended : (kept : List ℕ) (b : ℕ) → b ≡ 10 → [] ≡ keptAfter kept b
-unfolding keptAfter
-kept-ended kept b e = rw (eq-eqb b 10 e)
-
-pub kept-joined : (kept : List ℕ) (b : ℕ) → ¬ (b ≡ 10) → joined kept b ≡ keptAfter kept b
-unfolding keptAfter
-kept-joined kept b n = rw (ne-eqb b 10 n)
-
--- What is kept behind the bytes, byte by byte.
-module _ (bytes : List ℕ) (i : ℕ) where
-  pub kept-next : (kept more : List ℕ) → i < length bytes → more ≡ keptAfter kept (getD bytes i 0) → keptBehind more (drop (i + 1) bytes) ≡ keptBehind kept (drop i bytes)
-  unfolding keptBehind
-  kept-next kept more h e = rw (add-one i, drop-cons bytes i 0, e)
-
-  pub kept-end : (kept : List ℕ) → i ≡ length bytes → kept ≡ keptBehind kept (drop i bytes)
-  unfolding keptBehind
-  kept-end kept e = rw (e, drop-length bytes)

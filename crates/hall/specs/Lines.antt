@@ -1,11 +1,10 @@
 -- The lines of a text, by 01, "Symbols to try", and what is written for all of them.
-use mathlib.Core.Path.{_≡_, refl, sym, _∙_, ap}
+use mathlib.Core.Path.{_≡_, refl, _∙_, ap}
 use mathlib.Core.Bool.{Bool, true, false, cond}
-use mathlib.Core.List.{List, [], _∷_, _++_, append-nil, append-assoc}
+use mathlib.Core.List.{List, [], _∷_, _++_, map, append-nil, append-assoc}
 use Prim.Native.Nat.{ℕ}
-use native.Mathlib.Omega.{arith}
 use lib.Dec.{eqb}
-use borrow.Author.Tests.{eqb-true, eqb-false}
+use borrow.Author.Tests.{eqb-true}
 use Rattle.answer_text.specs.Text.{textOf}
 
 -- A last line that byte 10 does not end counts unless it holds no byte.
@@ -18,13 +17,18 @@ unfoldable pub linesFrom : List ℕ → List ℕ → List (List ℕ)
 linesFrom line [] = lastLine line
 linesFrom line (b ∷ text) = cond (eqb b 10) (line ∷ linesFrom [] text) (linesFrom (line ++ (b ∷ [])) text)
 
+-- The lines of a whole text.
 abbrev pub linesOf : List ℕ → List (List ℕ)
 linesOf text = linesFrom [] text
 
--- The text of each line, one behind the other.
-unfoldable pub textsOf : List (List ℕ) → List ℕ
-textsOf [] = []
-textsOf (line ∷ lines) = textOf line ++ textsOf lines
+-- Texts, one behind the other.
+unfoldable pub inARow : List (List ℕ) → List ℕ
+inARow [] = []
+inARow (text ∷ texts) = text ++ inARow texts
+
+-- The texts of lines.
+abbrev pub textsOf : List (List ℕ) → List ℕ
+textsOf lines = inARow (map textOf lines)
 
 -- What the program writes for all that it reads.
 unfoldable pub outputOf : List ℕ → List ℕ
@@ -42,15 +46,18 @@ pub data Spelled : List ℕ → List (List ℕ) → Type 0 where
   last : (b : ℕ) (line : List ℕ) → Unended (b ∷ line) → Spelled (b ∷ line) ((b ∷ line) ∷ [])
   next : {text : List ℕ} {lines : List (List ℕ)} (line : List ℕ) → Unended line → Spelled text lines → Spelled (line ++ (10 ∷ text)) (line ∷ lines)
 
+-- A byte that is not 10 ends no line.
 unended-next : (line : List ℕ) (b : ℕ) → Unended line → eqb b 10 ≡ false → Unended (line ++ (b ∷ []))
 unended-next [] b u e = (e, tt)
 unended-next (a ∷ line) b u e = (u .0, unended-next line b (u .1) e)
 
+-- The last line.
 last-spelled : (line : List ℕ) → Unended line → Spelled line (lastLine line)
 unfolding lastLine
 last-spelled [] u = none
 last-spelled (b ∷ line) u = last b line u
 
+-- From any point of a line on.
 from-spelled : (line text : List ℕ) → Unended line → Spelled (line ++ text) (linesFrom line text)
 unfolding linesFrom
 from-spelled line [] u = rw (append-nil line) (last-spelled line u)
@@ -60,6 +67,26 @@ from-spelled line (b ∷ text) u = by-byte (eqb b 10) refl (from-spelled [] text
     by-byte true e ended joined = let ten = eqb-true b 10 e in rw (e, ten) (next line u ended)
     by-byte false e ended joined = rw (e, ← append-assoc line (b ∷ []) text) (joined e)
 
--- So it is for every text.
+-- Every text is spelled by its lines,
 pub lines-spelled : (text : List ℕ) → Spelled text (linesOf text)
 lines-spelled text = from-spelled [] text tt
+
+-- A line with no end behind it.
+unended-from : (before line : List ℕ) → Unended line → linesFrom before line ≡ lastLine (before ++ line)
+unfolding linesFrom
+unended-from before [] u = rw (append-nil before)
+unended-from before (b ∷ line) u = rw (u .0) (unended-from (before ++ (b ∷ [])) line (u .1) ∙ ap lastLine (append-assoc before (b ∷ []) line))
+
+-- A line with byte 10 behind it.
+ended-from : (before line text : List ℕ) → Unended line → linesFrom before (line ++ (10 ∷ text)) ≡ (before ++ line) ∷ linesFrom [] text
+unfolding linesFrom
+ended-from before [] text u = rw (append-nil before)
+ended-from before (b ∷ line) text u =
+    rw (u .0) (ended-from (before ++ (b ∷ [])) line text (u .1) ∙ ap (λ (l : List ℕ). l ∷ linesFrom [] text) (append-assoc before (b ∷ []) line))
+
+-- and by no others.
+pub spelled-lines : {text : List ℕ} {lines : List (List ℕ)} → Spelled text lines → linesOf text ≡ lines
+unfolding linesFrom lastLine
+spelled-lines none = refl
+spelled-lines (last b line u) = unended-from [] (b ∷ line) u
+spelled-lines (next {text} {lines} line u rest) = ended-from [] line text u ∙ ap (λ (l : List (List ℕ)). line ∷ l) (spelled-lines rest)

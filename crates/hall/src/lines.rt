@@ -1,7 +1,8 @@
 // Cutting what is read into lines: the bytes of the line that is being read, of which at most 81 are kept.
 ghost use mathlib.Core.Path.{_≡_};
 ghost use mathlib.Core.List.{[]};
-ghost use Rattle.hall.specs.Feeding.{held, Sound, joined, keptAfter, keptBehind};
+ghost use Rattle.hall.specs.Feeding.{joined, keptAfter, keptBehind};
+ghost use Rattle.hall.specs.Keeping.{held, Sound};
 use answer_text::answer_text;
 use libc::STDOUT_FILENO;
 

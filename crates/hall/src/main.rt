@@ -1,8 +1,7 @@
 // The program: reads Hall symbols from standard input, one a line, and writes for each its operations or its refusal.
 mod lines;
 
-ghost use mathlib.Core.Path.{_≡_};
-ghost use Rattle.hall.specs.Feeding.{Sound};
+ghost use Rattle.hall.specs.Keeping.{Sound};
 use libc::STDIN_FILENO;
 use lines::Line;
 use lines::empty;

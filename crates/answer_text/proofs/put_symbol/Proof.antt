@@ -8,22 +8,22 @@ use Rattle.answer_text.proofs.put_symbol.Statement.{statement}
 use Rattle.answer_text.proofs.put_symbol.Tie as tie
 use Rattle.answer_text.proofs.put_symbol.Reads as reads
 use Rattle.answer_text.proofs.put_symbol.Lts as lts
-use Rattle.answer_text.proofs.first_bytes.Reads as first-bytes-reads
+use Rattle.answer_text.proofs.symbol_bytes.Reads as symbol-bytes-reads
 use Rattle.answer_text.proofs.placing.put_bytes.Reads as put-bytes-reads
 
-first-bytes-requires : tie.Need-first-bytes-requires
-first-bytes-requires c κs = search needs
+symbol-bytes-requires : tie.Need-symbol-bytes-requires
+symbol-bytes-requires c κs = search needs
 
 put-bytes-requires : tie.Need-put-bytes-requires
 put-bytes-requires c κs =
     let s = c .before .before .before .before in
-    omega (arith, s .pre, ap length (c .first-bytes .ensures), length-take 80 (s .args .line .now))
+    omega (arith, s .pre, ap length (c .symbol-bytes .ensures), length-take 80 (s .args .line .now))
 
 slice-write-out : tie.Need-slice-write-out
 slice-write-out c =
     let s = c .before .before .before .before .before .before .before in
     let written = c .before .before .put-bytes in
-    omega (arith, s .pre, written .ensures .place, written .kept .0, ap length (c .before .before .before .first-bytes .ensures), length-take 80 (s .args .line .now))
+    omega (arith, s .pre, written .ensures .place, written .kept .0, ap length (c .before .before .before .symbol-bytes .ensures), length-take 80 (s .args .line .now))
 
 add-result : tie.Need-add-result
 add-result c = search needs
@@ -32,13 +32,13 @@ same-length : tie.Need-same-length
 same-length c = search needs
 
 returns : tie.Need-returns
-returns c = put-then (put-named (c .before .before .before .first-bytes .ensures) (c .before .before .put-bytes .ensures)) (put-byte _ _ _)
+returns c = put-then (put-named (c .before .before .before .symbol-bytes .ensures) (c .before .before .put-bytes .ensures)) (put-byte _ _ _)
 
 pub put-symbol-spec : {M : Type 1} → statement M
 put-symbol-spec =
     tie.close
     (tie.spec
-    first-bytes-requires
+    symbol-bytes-requires
     put-bytes-requires
     slice-write-out
     add-result

@@ -1,7 +1,7 @@
 -- The line that is kept stays sound. The measure is the number of turns that are left.
 use native.Mathlib.Omega.{arith}
 use borrow.Author.Needs.{needs}
-use Rattle.hall.specs.Feeding.{Sound}
+use Rattle.hall.specs.Keeping.{Sound}
 use Rattle.hall.proofs.read_all.Statement.{statement}
 use Rattle.hall.proofs.read_all.Tie as tie
 use Rattle.hall.proofs.read_all.Reads as reads

@@ -38,7 +38,7 @@ returns : tie.Need-returns
 returns c =
     let a = c .before .args in
     let text = sym (ap (λ (d : ℕ). signed (entryOf d)) (c .if1 .taken) ∙ entry-negative) in
-    put-named (ap (λ (w : List ℕ). w ++ (space ∷ [])) text) (put-three (a .out .now) (a .at) 45 49 space)
+    put-named (ap (λ (w : List ℕ). w ++ (space ∷ [])) text) (put-three (a .out .now) (a .at) _ _ space)
 
 add-out-3 : tie.Need-add-out-3
 add-out-3 c = search needs

@@ -1,7 +1,7 @@
 -- A full line stays; else the byte is stored behind the others.
 use native.Mathlib.Omega.{arith}
 use lib.ListN.{length-set}
-use Rattle.hall.specs.Feeding.{joined-full, joined-more}
+use Rattle.hall.specs.Keeping.{joined-full, joined-more}
 use borrow.Author.Needs.{needs}
 use Rattle.hall.proofs.lines.join.Statement.{statement}
 use Rattle.hall.proofs.lines.join.Tie as tie

@@ -1,6 +1,6 @@
 -- The byte decides.
 use mathlib.Core.Path.{_∙_}
-use Rattle.hall.specs.Feeding.{held, kept-ended, kept-joined}
+use Rattle.hall.specs.Keeping.{held, kept-ended, kept-joined}
 use borrow.Author.Needs.{needs}
 use Rattle.hall.proofs.lines.take_byte.Statement.{statement}
 use Rattle.hall.proofs.lines.take_byte.Tie as tie

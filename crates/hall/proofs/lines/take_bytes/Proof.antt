@@ -3,7 +3,8 @@ use mathlib.Core.Path.{_≡_, refl, _∙_}
 use Prim.Native.Nat.{_-_, _≤_}
 use native.Mathlib.Omega.{arith}
 use lib.ListN.{length, drop}
-use Rattle.hall.specs.Feeding.{held, Sound, keptBehind, kept-next, kept-end}
+use Rattle.hall.specs.Feeding.{keptBehind}
+use Rattle.hall.specs.Keeping.{held, Sound, kept-next, kept-end}
 use Rattle.hall.proofs.lines.take_bytes.Statement.{statement}
 use Rattle.hall.proofs.lines.take_bytes.Tie as tie
 use Rattle.hall.proofs.lines.take_bytes.Reads as reads

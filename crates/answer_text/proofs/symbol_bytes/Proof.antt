@@ -3,10 +3,10 @@ use mathlib.Core.Path.{sym}
 use native.Mathlib.Omega.{arith}
 use lib.Seq.{take-all, length-take-le}
 use borrow.Author.Needs.{needs}
-use Rattle.answer_text.proofs.first_bytes.Statement.{statement}
-use Rattle.answer_text.proofs.first_bytes.Tie as tie
-use Rattle.answer_text.proofs.first_bytes.Reads as reads
-use Rattle.answer_text.proofs.first_bytes.Lts as lts
+use Rattle.answer_text.proofs.symbol_bytes.Statement.{statement}
+use Rattle.answer_text.proofs.symbol_bytes.Tie as tie
+use Rattle.answer_text.proofs.symbol_bytes.Reads as reads
+use Rattle.answer_text.proofs.symbol_bytes.Lts as lts
 
 returns : tie.Need-returns
 returns c = sym (take-all 80 (c .before .args .line .now) (c .if1 .taken))
@@ -17,5 +17,5 @@ slice-aggregate-result c = sym (length-take-le 80 (c .before .before .args .line
 returns-2 : tie.Need-returns-2
 returns-2 c = search needs
 
-pub first-bytes-spec : {M : Type 1} → statement M
-first-bytes-spec = tie.close (tie.spec returns slice-aggregate-result returns-2)
+pub symbol-bytes-spec : {M : Type 1} → statement M
+symbol-bytes-spec = tie.close (tie.spec returns slice-aggregate-result returns-2)
