@@ -7,10 +7,9 @@ PROGRAM is made from tests/entries.c. The records of the recorded symbols stand 
 verdicts on damaged ones are the model's. What is random has a fixed seed. Prints 'N passed, M failed'.
 """
 
-import random
 import sys
 
-from entries import BEYOND, WHOLE_NUMBER, answer_of, comparison, packed, recorded
+from entries import BEYOND, Noise, WHOLE_NUMBER, answer_of, comparison, packed, recorded
 
 import cases
 import model
@@ -24,19 +23,6 @@ DAMAGED = [
     b"F 2 -2d", b"-P 6c", b"P 4nw 2abw", b"-I 4bd 2c", b"-F 2uv 2vw 3", b"-P 4 2 3", b"-F 4ud 2vw 3",
 ]
 WHOLLY = 60     # bytes up to which a record is damaged in every byte; of longer ones a sample of this many
-
-
-class Noise:
-    """Bytes to lend, none of them what stood there by chance before."""
-
-    def __init__(self, seed):
-        self.chance = random.Random(seed)
-
-    def bytes(self, count):
-        return self.chance.randbytes(count)
-
-    def below(self, most):
-        return self.chance.randrange(most)
 
 
 def written(lent, start, record):

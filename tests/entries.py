@@ -5,6 +5,7 @@ A test says for each call what the answer and the lent lists must be afterwards;
 
 import argparse
 import os
+import random
 import subprocess
 import sys
 
@@ -59,62 +60,90 @@ def shown(line):
     return line if len(line) < 2000 else line[:2000] + " .."
 
 
+def line_of(entry, arguments, before=None):
+    """A call as tests/entries.c reads it; `before` is the text, record or table of the line before."""
+    words, source = [entry], source_of(arguments)
+    for value in arguments:
+        words.append("=" if value is source and source is not None and source == before else word_of(value))
+    return " ".join(words)
+
+
+def source_of(arguments):
+    """The text, record or table of a call: the first slice among its arguments."""
+    return next(value for value in arguments if not isinstance(value, int))
+
+
+def ask(command, calls):
+    """The program's answer lines for calls, each an entry and its arguments."""
+    lines, before = [], None
+    for entry, arguments in calls:
+        lines.append(line_of(entry, arguments, before))
+        before = source_of(arguments)
+    done = subprocess.run(command, input="".join(line + "\n" for line in lines), text=True, stdout=subprocess.PIPE)
+    answers = done.stdout.splitlines()
+    if done.returncode or len(answers) != len(lines):
+        sys.exit("the program ended with %d, after %d of %d answers" % (done.returncode, len(answers), len(lines)))
+    return answers
+
+
 class Comparison:
     """Calls with what must come of them; `end` tells how many came out so."""
 
     def __init__(self, command):
         self.command = command
-        self.lines, self.expected = [], []
-        self.input = None
+        self.calls, self.expected = [], []
         self.passed, self.differences = 0, []
 
     def call(self, entry, *arguments, gives, leaves=None):
         """One call. The first slice among the arguments is the text, record or table, the others are lent; `gives` is the whole
         returned number, `leaves` what each lent slice holds afterwards: as before, unless said."""
-        slices = [value for value in arguments if not isinstance(value, int)]
-        after = slices[1:] if leaves is None else leaves
-        words = [entry]
-        for value in arguments:
-            same = value is slices[0] and value == self.input and self.lines
-            words.append("=" if same and value is not None else word_of(value))
-        self.input = slices[0]
-        self.lines.append((" ".join(words), (entry, arguments)))
+        after = [value for value in arguments if not isinstance(value, int)][1:] if leaves is None else leaves
+        self.calls.append((entry, arguments))
         self.expected.append(" ".join(["%x" % gives] + [word_of(each or b"") for each in after]))
-        if len(self.lines) >= MOST_WAITING:
+        if len(self.calls) >= MOST_WAITING:
             self.flush()
 
     def flush(self):
-        asked = "".join(line + "\n" for line, _ in self.lines)
-        done = subprocess.run(self.command, input=asked, text=True, stdout=subprocess.PIPE)
-        answers = done.stdout.splitlines()
-        if done.returncode or len(answers) != len(self.lines):
-            at = min(len(answers), len(self.lines) - 1)
-            sys.exit("the program ended with %d; about line %d: %s" % (done.returncode, at + 1, shown(self.lines[at][0])))
-        for (_, call), expected, answer in zip(self.lines, self.expected, answers):
-            if answer == expected:
-                self.passed += 1
-            else:
-                self.differences.append((call, expected, answer))
-        self.lines, self.expected = [], []
+        for call, expected, answer in zip(self.calls, self.expected, ask(self.command, self.calls)):
+            self.judge(answer == expected, lambda: (line_of(*call), answer, expected))
+        self.calls, self.expected = [], []
+
+    def judge(self, right, told):
+        """Counts a comparison; where it failed, `told` gives the call, what came of it and what should have."""
+        if right:
+            self.passed += 1
+        else:
+            self.differences.append(told())
 
     def end(self, verdict="%d passed, %d failed"):
         """Shows the differences, the shortest calls first, and the verdict; answers the exit status."""
         self.flush()
-        found = [(" ".join([entry] + list(map(word_of, arguments))), expected, answer)
-                 for (entry, arguments), expected, answer in self.differences]
-        for line, expected, answer in sorted(found, key=lambda each: len(each[0]))[:MOST_SHOWN]:
-            print("%s\n  gives   %s\n  must be %s" % (shown(line), shown(answer), shown(expected)))
+        for call, answer, expected in sorted(self.differences, key=lambda each: len(each[0]))[:MOST_SHOWN]:
+            print("%s\n  gives   %s\n  must be %s" % (shown(call), shown(answer), shown(expected)))
         print(verdict % (self.passed, len(self.differences)))
         return 1 if self.differences else 0
 
 
-def comparison(about, **more):
-    """The comparison with the program that the command line names; `more` are further parameters with their help."""
+class Noise:
+    """Bytes to lend and numbers to choose by, fixed by a seed."""
+
+    def __init__(self, seed):
+        self.chance = random.Random(seed)
+
+    def bytes(self, count):
+        return self.chance.randbytes(count)
+
+    def below(self, most):
+        return self.chance.randrange(most)
+
+
+def comparison(about, flags=()):
+    """The comparison with the program that the command line names, and the command line's options."""
     parser = argparse.ArgumentParser(description=about, formatter_class=argparse.RawDescriptionHelpFormatter)
     parser.add_argument("program", help="made from tests/entries.c")
     parser.add_argument("--emulator", default="", help="the command that runs the program on another machine")
-    for name, text in more.items():
-        parser.add_argument(name, help=text)
+    for flag in flags:
+        parser.add_argument(flag, action="store_true")
     options = parser.parse_args()
     return Comparison(options.emulator.split() + [options.program]), options
 
