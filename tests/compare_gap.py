@@ -10,29 +10,13 @@ a list is 01's. Conjugates and normalizers are asked for a sample of the subgrou
 import sys
 
 import groups
-from entries import Noise, comparison, filled, recorded, sets
+from entries import Noise, comparison, filled, sets
 
 import model
 
 SEED = 23
 SAMPLED_CLASSES = 8
 SAMPLED_CONJUGATES = 3
-
-
-def recorded_groups():
-    """(rows, counts of subgroups and classes, classes); a class gives each of its subgroups its normalizer."""
-    for kind, *words in recorded("gap_groups.txt"):
-        if kind == "T":
-            order, entries = int(words[0]), bytes.fromhex(words[1])
-            rows = [list(entries[order * g:order * g + order]) for g in range(order)]
-            counts, classes = [], []
-        elif kind in "SC":
-            counts.append(int(words[0]))
-        elif kind == "K":
-            numbers = [int(word, 16) for word in words]
-            classes.append(dict(zip(numbers[::2], numbers[1::2])))
-        elif kind == "E":
-            yield rows, counts, classes
 
 
 def conjugates(table, subgroup, others):
@@ -57,7 +41,7 @@ def ask_class(calls, source, table, found, noise):
 def main():
     calls, options = comparison(__doc__, flags=("--all",))
     noise = Noise(SEED)
-    for rows, counts, classes in recorded_groups():
+    for rows, counts, classes in groups.gap_groups():
         table, source = groups.known_table(rows), groups.table_source(rows)
         subgroups = sorted((each for found in classes for each in found), key=model.list_key)
         representatives = sorted((min(found, key=model.list_key) for found in classes), key=model.list_key)

@@ -10,6 +10,7 @@ to the model of the rules. What is random has a fixed seed. Prints 'N passed, M 
 
 import itertools
 import sys
+from typing import NamedTuple, Optional
 
 import groups
 from entries import BEYOND, Noise, comparison, packed, recorded
@@ -19,18 +20,26 @@ import cases
 import model
 
 SEED = 19
-SAMPLED_SUBGROUPS = 2
-SAMPLED_ELEMENTS = 1
-SAMPLED_CONJUGATES = 4
 DAMAGED_CELLS = 40
 CUBIC = b"-P 4 2 3"
 NOT_ASSOCIATIVE = bytes([0, 1, 2, 1, 0, 1, 2, 2, 0])
 
 
-def recorded_tables():
-    """Each recorded table: its lines by their first word, those of its classes in a list."""
+class Sample(NamedTuple):
+    """How many subgroups of a group, permutations and conjugates of a subgroup are asked for; None for all."""
+    subgroups: Optional[int]
+    permutations: Optional[int]
+    conjugates: Optional[int]
+
+
+FEW = Sample(2, 1, 4)
+ALL = Sample(None, None, None)
+
+
+def tables_of(lines):
+    """Each table of such lines as are recorded: its lines by their first word, those of its classes in a list."""
     found = []
-    for kind, *words in recorded("tables.txt"):
+    for kind, *words in lines:
         if kind == "#":
             found.append({"name": " ".join(words), "classes": []})
         elif kind == "H":
@@ -48,26 +57,25 @@ def numbers(words):
     return [int(word, 16) for word in words]
 
 
-def sample(options, noise, some, count):
-    """All of some with --all; otherwise that many of them."""
-    some = list(some)
-    return some if options.all or len(some) <= count else noise.chance.sample(some, count)
+def some_of(items, count, noise):
+    items = list(items)
+    return items if count is None or len(items) <= count else noise.chance.sample(items, count)
 
 
-def replay_class(calls, options, source, table, found, noise):
+def replay_class(calls, sample, source, table, found, noise):
     """What is recorded of a class's representative."""
     subgroup = found["H"]
     pairs = list(zip(numbers(found["K"][1::2]), map(int, found["K"][2::2])))
     normalizer = int(found["N"][0], 16)
     groups.one_subgroup(source, calls, table, subgroup, pairs, normalizer, noise)
-    for element, *positions in sample(options, noise, found["P"], SAMPLED_ELEMENTS):
+    for element, *positions in some_of(found["P"], sample.permutations, noise):
         groups.one_permutation(source, calls, subgroup, element, positions, noise)
     images = numbers(found.get("X", ())) or [subgroup] * table.order
-    for element in sample(options, noise, range(table.order), SAMPLED_CONJUGATES):
+    for element in some_of(range(table.order), sample.conjugates, noise):
         source.call(calls, "conjugate", subgroup, element, gives=images[element])
 
 
-def replay_group(calls, options, source, found, noise):
+def replay_group(calls, sample, source, found, noise):
     order = int(found["T"][0])
     entries = list(map(int, found["T"][2:]))
     table = groups.known_table([entries[order * g:order * g + order] for g in range(order)])
@@ -76,8 +84,8 @@ def replay_group(calls, options, source, found, noise):
     representatives = [each["H"] for each in found["classes"]]
     groups.whole_group(source, calls, table, subgroups, representatives, noise)
     groups.refused_sets(source, calls, table, subgroups, noise)
-    for each in sample(options, noise, found["classes"], SAMPLED_SUBGROUPS):
-        replay_class(calls, options, source, table, each, noise)
+    for each in some_of(found["classes"], sample.subgroups, noise):
+        replay_class(calls, sample, source, table, each, noise)
     return table, subgroups
 
 
@@ -88,49 +96,54 @@ def record_source(text):
     return Source("record", model.record(letter, operations)), [codes.index(model.code(r)) for r, _ in operations]
 
 
+def moved_rows(rows, places):
+    """The table of a group whose element g is called places[g]."""
+    found = [[0] * len(rows) for _ in rows]
+    for g, h in itertools.product(range(len(rows)), repeat=2):
+        found[places[g]][places[h]] = places[rows[g][h]]
+    return found
+
+
 def moved(number, places):
     return model.set_of(places[i] for i in model.members(number))
 
 
-def replay_record(calls, options, text, table, subgroups, noise):
+def replay_record(calls, sample, text, table, subgroups, noise):
     """The group of a symbol once more, under the labels of its record: the same subgroups, in the order of their new numbers."""
     source, places = record_source(text)
-    rows = [[0] * table.order for _ in range(table.order)]
-    for g, h in itertools.product(range(table.order), repeat=2):
-        rows[places[g]][places[h]] = places[table.rows[g][h]]
-    again = groups.known_table(rows)
+    again = groups.known_table(moved_rows(table.rows, places))
     listed = sorted((moved(each, places) for each in subgroups), key=model.list_key)
     representatives = [each for each in listed
                        if each == min((other for other, _ in model.conjugates(again, each)), key=model.list_key)]
     groups.whole_group(source, calls, again, listed, representatives, noise)
     groups.refused_sets(source, calls, again, listed, noise)
-    by_model(calls, options, source, again, listed, noise)
+    by_model(calls, sample, source, again, listed, noise)
 
 
-def by_model(calls, options, source, table, subgroups, noise):
+def by_model(calls, sample, source, table, subgroups, noise):
     """A sample of subgroups, representatives or not, with the model's answers."""
-    for subgroup in sample(options, noise, subgroups, SAMPLED_SUBGROUPS):
+    for subgroup in some_of(subgroups, sample.subgroups, noise):
         normalizer = model.normalizer(table, subgroup)
         groups.one_subgroup(source, calls, table, subgroup, model.conjugates(table, subgroup), normalizer, noise)
-        for element in sample(options, noise, model.members(normalizer), SAMPLED_ELEMENTS):
+        for element in some_of(model.members(normalizer), sample.permutations, noise):
             groups.one_permutation(source, calls, subgroup, element, model.positions(table, subgroup, element), noise)
-        for element in sample(options, noise, range(table.order), SAMPLED_CONJUGATES):
+        for element in some_of(range(table.order), sample.conjugates, noise):
             source.call(calls, "conjugate", subgroup, element, gives=model.conjugate_set(table, subgroup, element))
 
 
-def replay(calls, options, noise):
-    for found in recorded_tables():
+def replay(calls, sample, noise):
+    for found in tables_of(recorded("tables.txt")):
         order, entries = int(found["T"][0]), bytes(map(int, found["T"][2:]))
         source = Source("table", order, entries)
         if found["M"] != ["0"]:
             groups.refused_group(source, calls, packed(int(found["M"][0])), noise)
             continue
-        table, subgroups = replay_group(calls, options, source, found, noise)
-        by_model(calls, options, source, table, subgroups, noise)
+        table, subgroups = replay_group(calls, sample, source, found, noise)
+        by_model(calls, sample, source, table, subgroups, noise)
         if found["name"].startswith("symbol "):
             text = found["name"].removeprefix("symbol ").encode()
-            replay_group(calls, options, Source("symbol", text), found, noise)
-            replay_record(calls, options, text, table, subgroups, noise)
+            replay_group(calls, sample, Source("symbol", text), found, noise)
+            replay_record(calls, sample, text, table, subgroups, noise)
 
 
 # Refusals -----------------------------------------------------------------------------------------------------------
@@ -226,10 +239,12 @@ def damaged_tables(noise):
 
 
 def judged(calls, order, entries):
+    """The model's verdict on a table, asked of the port; answers the refusal's number, or 0."""
     said = model.outcome(model.table_of_bytes, order, entries)
     refusal = packed(*said) if isinstance(said, tuple) else None
     calls.call("table_order", order, entries, gives=order if refusal is None else refusal)
     calls.call("table_identity", order, entries, gives=said.identity if refusal is None else refusal)
+    return 0 if refusal is None else said[0]
 
 
 def by_hand(calls, noise):
@@ -249,7 +264,7 @@ def main():
     refused_sources(calls, noise)
     for order, entries in itertools.chain(small_tables(), damaged_tables(noise)):
         judged(calls, order, entries)
-    replay(calls, options, noise)
+    replay(calls, ALL if options.all else FEW, noise)
     return calls.end()
 
 

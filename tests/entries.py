@@ -11,7 +11,7 @@ import sys
 
 ORACLE = os.path.join(os.path.dirname(os.path.abspath(__file__)), "..", "oracle")
 RECORDED = os.path.join(ORACLE, "recorded")
-sys.path.insert(0, ORACLE)
+sys.path.insert(1, ORACLE)
 
 WHOLE_NUMBER = 2 ** 64
 # Numbers that an entry which looks at a part of their bits only would take for small ones.

@@ -6,7 +6,7 @@ is asked for together with those that it goes before.
 
 from types import SimpleNamespace
 
-from entries import BEYOND, SET_BYTES, emptied, filled, packed, sets
+from entries import BEYOND, SET_BYTES, emptied, filled, packed, recorded, sets
 
 import model
 
@@ -32,6 +32,23 @@ def known_table(rows):
     identity = next(e for e in elements if rows[e] == list(elements))
     inverses = [rows[g].index(identity) for g in elements]
     return SimpleNamespace(rows=rows, order=len(rows), identity=identity, inverses=inverses)
+
+
+def gap_groups():
+    """The groups that GAP was asked about: (rows, counts of subgroups and classes, classes); a class gives each of its subgroups its
+    normalizer."""
+    for kind, *words in recorded("gap_groups.txt"):
+        if kind == "T":
+            order, entries = int(words[0]), bytes.fromhex(words[1])
+            rows = [list(entries[order * g:order * g + order]) for g in range(order)]
+            counts, classes = [], []
+        elif kind in "SC":
+            counts.append(int(words[0]))
+        elif kind == "K":
+            numbers = [int(word, 16) for word in words]
+            classes.append(dict(zip(numbers[::2], numbers[1::2])))
+        elif kind == "E":
+            yield rows, counts, classes
 
 
 def bytes_of(values, width):

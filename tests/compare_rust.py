@@ -1,0 +1,166 @@
+#!/usr/bin/env python3
+"""The longer comparison: the C entries beside the Rust where it can answer, and beside the model of the rules for the rest.
+
+    python3 tests/compare_rust.py PROGRAM HARNESS [--emulator COMMAND]
+
+PROGRAM is made from tests/entries.c, HARNESS by oracle/build.sh; tests/compare_rust.sh makes both and runs this.
+
+- Symbols: the database, the picked ones, every sign and matrix under every shift, and random and damaged ones. An accepted symbol has
+  the Rust's operations in the Rust's order, each double the bits of its twelfth; refusals, letters and records are the model's.
+- Records: damaged ones, by the model: the verdict, the bytes that a copy writes and those that it does not.
+- Tables: of symbols in list order and in record order, made from the Rust's own lists, and all groups of order up to 48 under fresh
+  labels: subgroups, classes, conjugates, normalizers and permutations are the Rust's. Damaged tables: the verdict is the model's, and
+  the Rust makes a group of a table exactly where 01 sees an identity and inverses.
+
+What is random has fixed seeds. Prints a line for each kind and at the end 'N compared, M differences'.
+"""
+
+import argparse
+import itertools
+import sys
+
+import compare_records
+import compare_symbols
+import compare_tables
+import groups
+from entries import Comparison, Noise, packed
+from groups import Source
+
+import cases
+import compare
+import make_recorded
+import model
+
+SEED = 31
+RANDOM_SYMBOLS = 60000
+DAMAGED_RECORDS = 30000
+RELABELLINGS = 2
+BATCH = 5000
+MOST_RECORD = 245
+SAMPLE = compare_tables.Sample(4, 2, 6)
+
+
+def batches(items):
+    items = iter(items)
+    while batch := list(itertools.islice(items, BATCH)):
+        yield batch
+
+
+# Symbols ------------------------------------------------------------------------------------------------------------
+
+def symbol_texts(database):
+    yield from database
+    yield from cases.extra_symbols()
+    yield from cases.shifted_symbols()
+    yield from cases.damaged_symbols(database, RANDOM_SYMBOLS, SEED)
+
+
+def one_symbol(calls, text, said, answer, noise):
+    lent = noise.bytes(MOST_RECORD + 9)
+    if isinstance(said[0], int):
+        compare_symbols.refused(calls, text, packed(*said))
+        calls.call("symbol_record", text, lent, noise.below(9), gives=packed(*said))
+        return
+    letter, operations = said
+    compare_symbols.accepted(calls, text, letter, compare_symbols.rust_operations(answer.split(" ")))
+    record, start = model.record(letter, operations), noise.below(9)
+    calls.call("symbol_record", text, lent, start, gives=len(operations),
+               leaves=[compare_records.written(lent, start, record)])
+    calls.call("symbol_record", text, lent[:start + len(record) - 1], start, gives=packed(20))
+
+
+def symbols(calls, harness, noise):
+    """Answers how many symbols were asked, and the records of those that are accepted."""
+    asked, records = 0, {}
+    for texts in batches(symbol_texts(compare.database(harness))):
+        answers = compare.ask(harness, ["operations " + compare.hex_of(text) for text in texts])
+        for text, answer in zip(texts, answers):
+            said = model.outcome(model.group_of_symbol, text)
+            one_symbol(calls, text, said, answer, noise)
+            if not isinstance(said[0], int):
+                records.setdefault(model.record(*said))
+        asked += len(texts)
+    return asked, list(records)
+
+
+# Records ------------------------------------------------------------------------------------------------------------
+
+def records(calls, known, noise):
+    """Damaged records, most of them of few operations: the model takes its time over many."""
+    small = [record for record in known if record[-3] <= 12]
+    buffers = cases.damaged_records(small, DAMAGED_RECORDS, SEED)
+    buffers += cases.damaged_records(known, DAMAGED_RECORDS // 10, SEED + 1)
+    for buffer in buffers:
+        compare_records.judged(calls, buffer, noise)
+    return len(buffers)
+
+
+# Tables -------------------------------------------------------------------------------------------------------------
+
+def rust_tables(harness, name, order, entries):
+    lines = make_recorded.table_lines(harness, name, order, entries)
+    return compare_tables.tables_of(line.split(" ") for line in lines)[0]
+
+
+def symbol_tables(calls, harness, noise):
+    """The database's groups by their texts and by their records."""
+    known = {}
+    texts = compare.database(harness)
+    for text, answer in zip(texts, compare.ask(harness, ["operations " + compare.hex_of(text) for text in texts])):
+        letter = text.decode().lstrip("-")[0]
+        operations = compare_symbols.rust_operations(answer.split(" "))
+        rows = model.table_of_operations(letter, operations).rows
+        source, places = compare_tables.record_source(text)
+        for by, table in ((Source("symbol", text), rows), (source, compare_tables.moved_rows(rows, places))):
+            entries = tuple(cases.flat(table))
+            if entries not in known:
+                known[entries] = rust_tables(harness, "", len(rows), entries)
+            compare_tables.replay_group(calls, SAMPLE, by, known[entries], noise)
+    return 2 * len(texts)
+
+
+def relabelled_tables(calls, harness, noise):
+    asked = 0
+    for rows, _, _ in groups.gap_groups():
+        for _ in range(RELABELLINGS):
+            table = cases.relabelled(rows, noise.below(2 ** 32))
+            entries = cases.flat(table)
+            found = rust_tables(harness, "", len(rows), entries)
+            compare_tables.replay_group(calls, SAMPLE, groups.table_source(table), found, noise)
+            asked += 1
+    return asked
+
+
+def damaged_tables(calls, harness, noise):
+    asked = 0
+    for tables in batches(itertools.chain(compare_tables.small_tables(), compare_tables.damaged_tables(noise))):
+        questions = [make_recorded.table_question("table", order, entries) for order, entries in tables]
+        for (order, entries), answer in zip(tables, compare.ask(harness, questions)):
+            number = compare_tables.judged(calls, order, entries)
+            # The Rust is given rows, not an order: it can be asked only about tables that have their bytes.
+            if 1 <= order <= model.MOST_OPERATIONS and len(entries) == order * order:
+                calls.judge((answer == "none") == (21 <= number <= 24),
+                            lambda: ("table %d %s" % (order, entries.hex()), "the Rust: " + answer[:80], "refused %d" % number))
+        asked += len(tables)
+    return asked
+
+
+def main():
+    parser = argparse.ArgumentParser(description=__doc__, formatter_class=argparse.RawDescriptionHelpFormatter)
+    parser.add_argument("program")
+    parser.add_argument("harness")
+    parser.add_argument("--emulator", default="")
+    options = parser.parse_args()
+    calls, noise = Comparison(options.emulator.split() + [options.program]), Noise(SEED)
+
+    asked, known = symbols(calls, options.harness, noise)
+    print("%d symbols" % asked, flush=True)
+    print("%d damaged records" % records(calls, known, noise), flush=True)
+    print("%d tables of symbols and records" % symbol_tables(calls, options.harness, noise), flush=True)
+    print("%d tables of groups of order up to 48" % relabelled_tables(calls, options.harness, noise), flush=True)
+    print("%d small and damaged tables" % damaged_tables(calls, options.harness, noise), flush=True)
+    return calls.end("%d compared, %d differences")
+
+
+if __name__ == "__main__":
+    sys.exit(main())
