@@ -131,8 +131,8 @@ def by_model(calls, sample, source, table, subgroups, noise):
             source.call(calls, "conjugate", subgroup, element, gives=model.conjugate_set(table, subgroup, element))
 
 
-def replay(calls, sample, noise):
-    for found in tables_of(recorded("tables.txt")):
+def replay(calls, sample, tables, noise):
+    for found in tables:
         order, entries = int(found["T"][0]), bytes(map(int, found["T"][2:]))
         source = Source("table", order, entries)
         if found["M"] != ["0"]:
@@ -247,24 +247,25 @@ def judged(calls, order, entries):
     return 0 if refusal is None else said[0]
 
 
-def by_hand(calls, noise):
+def by_hand(calls, tables, noise):
     """The figures that 01 itself gives."""
-    lent = noise.bytes(98 * 8)
     calls.call("table_order", 3, NOT_ASSOCIATIVE, gives=packed(25))
-    for entry, count in (("symbol_subgroups", 98), ("symbol_classes", 33)):
-        listed = model.subgroups(model.table_of_symbol(CUBIC)) if count == 98 else model.classes(model.table_of_symbol(CUBIC))
-        calls.call(entry, CUBIC, lent, gives=count, leaves=[groups.filled(lent, groups.sets(listed))])
+    cubic = next(found for found in tables if found["name"] == "symbol " + CUBIC.decode())
+    subgroups, representatives = numbers(cubic["S"][1:]), [each["H"] for each in cubic["classes"]]
+    for entry, count, listed in (("symbol_subgroups", 98, subgroups), ("symbol_classes", 33, representatives)):
+        calls.call(entry, CUBIC, noise.bytes(8 * count), gives=count, leaves=[groups.sets(listed)])
 
 
 def main():
     calls, options = comparison(__doc__, flags=("--all",))
     noise = Noise(SEED)
-    by_hand(calls, noise)
+    tables = tables_of(recorded("tables.txt"))
+    by_hand(calls, tables, noise)
     refused_orders(calls, noise)
     refused_sources(calls, noise)
     for order, entries in itertools.chain(small_tables(), damaged_tables(noise)):
         judged(calls, order, entries)
-    replay(calls, ALL if options.all else FEW, noise)
+    replay(calls, ALL if options.all else FEW, tables, noise)
     return calls.end()
 
 
