@@ -9,7 +9,7 @@ verdicts on damaged ones are the model's. What is random has a fixed seed. Print
 
 import sys
 
-from entries import BEYOND, Noise, WHOLE_NUMBER, answer_of, comparison, packed, recorded
+from entries import BEYOND, MOST_BYTES, Noise, WHOLE_NUMBER, answer_of, comparison, packed, recorded
 
 import cases
 import model
@@ -192,6 +192,9 @@ def main():
     lent = noise.bytes(15)
     calls.call("symbol_record", b"-P 1", lent, 0, gives=2, leaves=[FIRST])
     calls.call("record_copy", FIRST, lent, 0, gives=2, leaves=[FIRST])
+    long = noise.bytes(MOST_BYTES - len(FIRST))
+    calls.call("record_copy", long + FIRST, long, 5000, gives=2, leaves=[written(long, 5000, FIRST)])
+    calls.call("symbol_record", b"-P 1" + long, long, 0, gives=packed(1, 80))
     calls.call("record_order", None, gives=packed(30))
     calls.call("record_copy", None, None, 0, gives=packed(30))
     records = symbols(calls, noise)

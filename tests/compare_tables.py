@@ -13,7 +13,7 @@ import sys
 from typing import NamedTuple, Optional
 
 import groups
-from entries import BEYOND, Noise, comparison, packed, recorded
+from entries import BEYOND, MOST_BYTES, Noise, comparison, filled, packed, recorded, sets
 from groups import Source
 
 import cases
@@ -253,7 +253,9 @@ def by_hand(calls, tables, noise):
     cubic = next(found for found in tables if found["name"] == "symbol " + CUBIC.decode())
     subgroups, representatives = numbers(cubic["S"][1:]), [each["H"] for each in cubic["classes"]]
     for entry, count, listed in (("symbol_subgroups", 98, subgroups), ("symbol_classes", 33, representatives)):
-        calls.call(entry, CUBIC, noise.bytes(8 * count), gives=count, leaves=[groups.sets(listed)])
+        for more in (0, MOST_BYTES - 8 * count):
+            lent = noise.bytes(8 * count + more)
+            calls.call(entry, CUBIC, lent, gives=count, leaves=[filled(lent, sets(listed))])
 
 
 def main():

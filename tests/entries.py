@@ -16,6 +16,8 @@ sys.path.insert(1, ORACLE)
 WHOLE_NUMBER = 2 ** 64
 # Numbers that an entry which looks at a part of their bits only would take for small ones.
 BEYOND = (2 ** 8, 2 ** 16, 2 ** 32, 2 ** 63, WHOLE_NUMBER - 1)
+# The longest slice that tests/entries.c has room for.
+MOST_BYTES = 16384
 MOST_WAITING = 20000
 MOST_SHOWN = 20
 SET_BYTES = 8
