@@ -62,7 +62,12 @@ def one_symbol(calls, text, said, answer, noise):
         calls.call("symbol_record", text, lent, noise.below(9), gives=packed(*said))
         return
     letter, operations = said
-    compare_symbols.accepted(calls, text, letter, compare_symbols.rust_operations(answer.split(" ")))
+    try:
+        listed = compare_symbols.rust_operations(answer.split(" "))
+    except (ValueError, model.Refusal):
+        calls.judge(False, lambda: (repr(text), "the Rust: " + answer[:80], "a list of %d operations in twelfths" % len(operations)))
+        return
+    compare_symbols.accepted(calls, text, letter, listed)
     record, start = model.record(letter, operations), noise.below(9)
     calls.call("symbol_record", text, lent, start, gives=len(operations),
                leaves=[compare_records.written(lent, start, record)])
