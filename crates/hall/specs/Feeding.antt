@@ -94,7 +94,7 @@ unfolding inARow
 texts-first [] = refl
 texts-first (line ∷ lines) = ap₂ _++_ (first-bytes-decide line) (texts-first lines)
 
--- So what the program writes is the output.
+-- So the texts of what is handed over are the output.
 pub handed-output : (text : List ℕ) → textsOf (allHandedOver text) ≡ outputOf text
 unfolding outputOf
 handed-output text = ap textsOf (handed-lines text) ∙ texts-first (linesOf text)

@@ -30,7 +30,7 @@ inARow (text ∷ texts) = text ++ inARow texts
 abbrev pub textsOf : List (List ℕ) → List ℕ
 textsOf lines = inARow (map textOf lines)
 
--- What the program writes for all that it reads.
+-- What is to be written for a whole input.
 unfoldable pub outputOf : List ℕ → List ℕ
 outputOf text = textsOf (linesOf text)
 
