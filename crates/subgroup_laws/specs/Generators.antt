@@ -46,10 +46,11 @@ module _ (n : ℕ) (_·_ : ℕ → ℕ → ℕ) (e : ℕ) where
     pub sound : (x : ℕ) → member reached x ≡ true → Generated s x
     pub covers : (x : ℕ) → x < n → (member left x ≡ true) ⊎ Generated s x
 
-  -- s with its products by j on the right, and those by j on the left
+  -- s with its products by j on the right
   abbrev pub rightOf : ℕ → ℕ → ℕ
   rightOf s j = bitOr s (imageOf n (λ x. e · x · j) s)
 
+  -- and then with those by j on the left
   unfoldable pub widened : ℕ → ℕ → ℕ
   widened s j = bitOr (rightOf s j) (imageOf n (λ x. j · x · e) (rightOf s j))
 
@@ -71,11 +72,12 @@ module _ (n : ℕ) (_·_ : ℕ → ℕ → ℕ) (e : ℕ) where
         single : (x : ℕ) → member (2 ^ e) x ≡ true → Generated 0 x
         single x i = rw (sym (eqb-true e x (sym (member-singleton e x) ∙ i))) unit
 
-    -- widening makes products
+    -- widening makes elements
     widened-below : (s j : ℕ) → s < 2 ^ n → widened s j < 2 ^ n
     unfolding widened
     widened-below s j h = or-lt n (rightOf s j) _ (or-lt n s _ h (image-below n (λ x. e · x · j) s)) (image-below n (λ x. j · x · e) (rightOf s j))
 
+    -- that are generated
     widened-sound : (s r j : ℕ) → j < n → Generated s j → ((x : ℕ) → member r x ≡ true → Generated s x) → (x : ℕ) → member (widened r j) x ≡ true → Generated s x
     unfolding widened
     widened-sound s r j h J sound x i = elim (or-either (member (rightOf r j) x) (member (imageOf n (λ x. j · x · e) (rightOf r j)) x) (sym (member-or (rightOf r j) _ x) ∙ i)) [

@@ -1,5 +1,4 @@
 -- The invariant: the members still to come, and the values of the others.
--- (a x) b
 use mathlib.Core.Path.{_≡_, ap, _∙_}
 use mathlib.Core.List.{List}
 use Prim.Native.Nat.{ℕ, _^_}
@@ -12,6 +11,7 @@ use Rattle.subgroup_laws.specs.Table.{product}
 use Rattle.finite_group.proofs.adjoin.image.Statement.{statement}
 use Rattle.finite_group.proofs.adjoin.image.Tie as tie
 
+-- (a x) b
 abbrev value : List ℕ → ℕ → ℕ → ℕ → ℕ → ℕ
 value t n a b x = product n t (product n t a x) b
 

@@ -1,5 +1,4 @@
 -- The set is built in ascending order.
--- whether g conjugates s to itself
 use mathlib.Core.Path.{_≡_, refl, sym, ap, _∙_}
 use mathlib.Core.Logic.{⊎-elim}
 use mathlib.Core.Bool.{Bool}
@@ -14,6 +13,7 @@ use Rattle.subgroup_laws.specs.Table.{product}
 use Rattle.finite_group.proofs.subgroup.normalizer_set.Statement.{statement}
 use Rattle.finite_group.proofs.subgroup.normalizer_set.Tie as tie
 
+-- whether g conjugates s to itself
 abbrev keeps : List ℕ → ℕ → ℕ → ℕ → ℕ → Bool
 keeps t n e s g = eqb (conjugateOf n (product n t) e s g) s
 
