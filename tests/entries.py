@@ -64,10 +64,10 @@ def shown(line):
 
 def line_of(entry, arguments, before=None):
     """A call as tests/entries.c reads it; `before` is the text, record or table of the line before."""
-    words, source = [entry], source_of(arguments)
-    for value in arguments:
-        words.append("=" if value is source and source is not None and source == before else word_of(value))
-    return " ".join(words)
+    words, source = list(map(word_of, arguments)), source_of(arguments)
+    if source is not None and source == before:
+        words[arguments.index(source)] = "="
+    return " ".join([entry] + words)
 
 
 def source_of(arguments):
