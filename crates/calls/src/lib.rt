@@ -1,5 +1,7 @@
 // The entries for C: each asks one entry of the port, and hands its answer on as one number. include/symmetry.h declares them.
 mod packing;
 pub mod record;
+pub mod record_groups;
 pub mod symbol;
+pub mod symbol_groups;
 pub mod table;

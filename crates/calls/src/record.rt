@@ -55,7 +55,7 @@ fn refused_record(why: Refusal) -> u64
     refused(number(why), 0)
 }
 
-fn number(why: Refusal) -> u8
+pub(crate) fn number(why: Refusal) -> u8
     ensures { λ r. ⌜ r ≡ refusalNumber why ⌝ }
 {
     match why {

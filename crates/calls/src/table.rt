@@ -1,8 +1,9 @@
-// What is asked of the bytes of a table.
+// What is asked of the bytes of a table, and how the answer on a group is handed on, whatever the group was given by.
 ghost use mathlib.Core.Path.{_≡_};
-ghost use Rattle.finite_group.specs.Answers.{numberOf, orderAnswer, identityAnswer, subgroupsAnswer, subgroupsBytes, classesAnswer, classesBytes, conjugateEntry, normalizerEntry, permutationEntry, permutationList, conjugatesEntry, conjugatesList, conjugatorsList};
+ghost use Rattle.finite_group.specs.Answers.{numberOf, placeOf, orderAnswer, identityAnswer, subgroupsAnswer, subgroupsBytes, classesAnswer, classesBytes, conjugateEntry, normalizerEntry, permutationEntry, permutationList, conjugatesEntry, conjugatesList, conjugatorsList};
 ghost use Rattle.calls.specs.Answers.{tableAnswer};
 ghost use Rattle.calls.specs.Packing.{packed};
+ghost use Rattle.calls.specs.TableBounds.{Packable};
 use super::packing::refused;
 use finite_group::Answer;
 use finite_group::Refusal;
@@ -86,12 +87,13 @@ pub extern "C" fn symmetry_table_permutation(
     ))
 }
 
-fn answered(answer: Answer) -> u64
+pub(crate) fn answered(answer: Answer) -> u64
+    requires { ⌜ Packable answer ⌝ }
     ensures { λ r. ⌜ r ≡ packed (tableAnswer answer) ⌝ }
 {
     match answer {
         Answer::Value(value) => value,
-        Answer::Refused(refusal) => refused(number(refusal), 0),
+        Answer::Refused(refusal) => refused(number(refusal), place(refusal)),
     }
 }
 
@@ -99,6 +101,8 @@ fn number(refusal: Refusal) -> u8
     ensures { λ r. ⌜ r ≡ numberOf refusal ⌝ }
 {
     match refusal {
+        Refusal::Symbol(why) => why.number(),
+        Refusal::Record(why) => super::record::number(why),
         Refusal::Order => 21,
         Refusal::Cells => 22,
         Refusal::Identity => 23,
@@ -108,5 +112,23 @@ fn number(refusal: Refusal) -> u8
         Refusal::Subgroup => 27,
         Refusal::Element => 28,
         Refusal::Normalizer => 29,
+    }
+}
+
+fn place(refusal: Refusal) -> usize
+    ensures { λ r. ⌜ r ≡ placeOf refusal ⌝ }
+{
+    match refusal {
+        Refusal::Symbol(why) => why.place(),
+        Refusal::Record(_) => 0,
+        Refusal::Order => 0,
+        Refusal::Cells => 0,
+        Refusal::Identity => 0,
+        Refusal::Inverse => 0,
+        Refusal::Associativity => 0,
+        Refusal::Slots => 0,
+        Refusal::Subgroup => 0,
+        Refusal::Element => 0,
+        Refusal::Normalizer => 0,
     }
 }

@@ -1,8 +1,5 @@
 -- The answer on the table, packed, and the lent list as it was left.
-use mathlib.Core.Path.{_∙_, ap}
-use Rattle.finite_group.specs.declared.Answer.{Answer}
-use Rattle.calls.specs.Answers.{tableAnswer}
-use Rattle.calls.specs.Packing.{packed}
+use Rattle.calls.specs.TableBounds.{packable-as, packed-as, table-classes}
 use borrow.Author.Needs.{needs}
 use Rattle.calls.proofs.table.symmetry_table_classes.Statement.{statement}
 use Rattle.calls.proofs.table.symmetry_table_classes.Tie as tie
@@ -15,7 +12,7 @@ conjugacy-classes-requires : tie.Need-conjugacy-classes-requires
 conjugacy-classes-requires c κs = search needs
 
 answered-requires : tie.Need-answered-requires
-answered-requires c κs = search needs
+answered-requires c κs = packable-as (c .before .before .conjugacy-classes .ensures .0) (table-classes _ _ _)
 
 same-length : tie.Need-same-length
 same-length c = search needs
@@ -23,7 +20,7 @@ same-length c = search needs
 returns : tie.Need-returns
 returns c =
     let listed = c .before .before .before .conjugacy-classes .ensures in
-    (c .answered .ensures ∙ ap (λ (a : Answer). packed (tableAnswer a)) (listed .0), listed .1)
+    (packed-as (c .answered .ensures) (listed .0), listed .1)
 
 pub symmetry-table-classes-spec : {M : Type 1} → statement M
 symmetry-table-classes-spec =

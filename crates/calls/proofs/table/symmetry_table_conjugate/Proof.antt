@@ -1,8 +1,5 @@
 -- The answer on the table, packed.
-use mathlib.Core.Path.{_∙_, ap}
-use Rattle.finite_group.specs.declared.Answer.{Answer}
-use Rattle.calls.specs.Answers.{tableAnswer}
-use Rattle.calls.specs.Packing.{packed}
+use Rattle.calls.specs.TableBounds.{packable-as, packed-as, conjugate-within, on-table}
 use borrow.Author.Needs.{needs}
 use Rattle.calls.proofs.table.symmetry_table_conjugate.Statement.{statement}
 use Rattle.calls.proofs.table.symmetry_table_conjugate.Tie as tie
@@ -15,10 +12,10 @@ conjugate-requires : tie.Need-conjugate-requires
 conjugate-requires c κs = search needs
 
 answered-requires : tie.Need-answered-requires
-answered-requires c κs = search needs
+answered-requires c κs = packable-as (c .conjugate .ensures) (conjugate-within (on-table _ _) _ _)
 
 returns : tie.Need-returns
-returns c = c .answered .ensures ∙ ap (λ (a : Answer). packed (tableAnswer a)) (c .before .conjugate .ensures)
+returns c = packed-as (c .answered .ensures) (c .before .conjugate .ensures)
 
 pub symmetry-table-conjugate-spec : {M : Type 1} → statement M
 symmetry-table-conjugate-spec = tie.close (tie.spec conjugate-requires answered-requires returns)

@@ -1,8 +1,5 @@
 -- The answer on the table, packed, and the lent lists as they were left.
-use mathlib.Core.Path.{_∙_, ap}
-use Rattle.finite_group.specs.declared.Answer.{Answer}
-use Rattle.calls.specs.Answers.{tableAnswer}
-use Rattle.calls.specs.Packing.{packed}
+use Rattle.calls.specs.TableBounds.{packable-as, packed-as, conjugates-within, on-table}
 use borrow.Author.Needs.{needs}
 use Rattle.calls.proofs.table.symmetry_table_conjugates.Statement.{statement}
 use Rattle.calls.proofs.table.symmetry_table_conjugates.Tie as tie
@@ -15,7 +12,7 @@ conjugates-requires : tie.Need-conjugates-requires
 conjugates-requires c κs = search needs
 
 answered-requires : tie.Need-answered-requires
-answered-requires c κs = search needs
+answered-requires c κs = packable-as (c .before .before .before .before .conjugates .ensures .0) (conjugates-within (on-table _ _) _ _ _)
 
 same-length : tie.Need-same-length
 same-length c = search needs
@@ -26,7 +23,7 @@ same-length-2 c = search needs
 returns : tie.Need-returns
 returns c =
     let listed = c .before .before .before .before .before .conjugates .ensures in
-    (c .answered .ensures ∙ ap (λ (a : Answer). packed (tableAnswer a)) (listed .0), listed .1, listed .2)
+    (packed-as (c .answered .ensures) (listed .0), listed .1, listed .2)
 
 pub symmetry-table-conjugates-spec : {M : Type 1} → statement M
 symmetry-table-conjugates-spec =

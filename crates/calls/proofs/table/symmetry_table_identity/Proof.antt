@@ -1,8 +1,5 @@
 -- The answer on the table, packed.
-use mathlib.Core.Path.{_∙_, ap}
-use Rattle.finite_group.specs.declared.Answer.{Answer}
-use Rattle.calls.specs.Answers.{tableAnswer}
-use Rattle.calls.specs.Packing.{packed}
+use Rattle.calls.specs.TableBounds.{packable-as, packed-as, identity-within, on-table}
 use borrow.Author.Needs.{needs}
 use Rattle.calls.proofs.table.symmetry_table_identity.Statement.{statement}
 use Rattle.calls.proofs.table.symmetry_table_identity.Tie as tie
@@ -15,10 +12,10 @@ identity-requires : tie.Need-identity-requires
 identity-requires c κs = search needs
 
 answered-requires : tie.Need-answered-requires
-answered-requires c κs = search needs
+answered-requires c κs = packable-as (c .identity .ensures) (identity-within (on-table _ _))
 
 returns : tie.Need-returns
-returns c = c .answered .ensures ∙ ap (λ (a : Answer). packed (tableAnswer a)) (c .before .identity .ensures)
+returns c = packed-as (c .answered .ensures) (c .before .identity .ensures)
 
 pub symmetry-table-identity-spec : {M : Type 1} → statement M
 symmetry-table-identity-spec = tie.close (tie.spec identity-requires answered-requires returns)

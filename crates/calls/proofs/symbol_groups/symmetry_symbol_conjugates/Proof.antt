@@ -1,0 +1,31 @@
+-- The answer on the symbol's group, packed, and the lent lists as they were left.
+use Rattle.calls.specs.BuiltBounds.{on-symbol}
+use Rattle.calls.specs.TableBounds.{packable-as, packed-as, conjugates-within}
+use borrow.Author.Needs.{needs}
+use Rattle.calls.proofs.symbol_groups.symmetry_symbol_conjugates.Statement.{statement}
+use Rattle.calls.proofs.symbol_groups.symmetry_symbol_conjugates.Tie as tie
+use Rattle.calls.proofs.symbol_groups.symmetry_symbol_conjugates.Reads as reads
+use Rattle.calls.proofs.symbol_groups.symmetry_symbol_conjugates.Lts as lts
+use Rattle.calls.proofs.table.answered.Reads as answered-reads
+use Rattle.finite_group.proofs.symbol.conjugates.Reads as conjugates-reads
+
+conjugates-requires : tie.Need-conjugates-requires
+conjugates-requires c κs = search needs
+
+answered-requires : tie.Need-answered-requires
+answered-requires c κs = packable-as (c .before .before .before .before .conjugates .ensures .0) (conjugates-within (on-symbol _) _ _ _)
+
+same-length : tie.Need-same-length
+same-length c = search needs
+
+same-length-2 : tie.Need-same-length-2
+same-length-2 c = search needs
+
+returns : tie.Need-returns
+returns c =
+    let listed = c .before .before .before .before .before .conjugates .ensures in
+    (packed-as (c .answered .ensures) (listed .0), listed .1, listed .2)
+
+pub symmetry-symbol-conjugates-spec : {M : Type 1} → statement M
+symmetry-symbol-conjugates-spec =
+    tie.close (tie.spec conjugates-requires answered-requires same-length same-length-2 returns)

@@ -1,0 +1,28 @@
+-- The answer on the symbol's group, packed, and the lent list as it was left.
+use Rattle.calls.specs.BuiltBounds.{on-symbol}
+use Rattle.calls.specs.TableBounds.{packable-as, packed-as, permutation-within}
+use borrow.Author.Needs.{needs}
+use Rattle.calls.proofs.symbol_groups.symmetry_symbol_permutation.Statement.{statement}
+use Rattle.calls.proofs.symbol_groups.symmetry_symbol_permutation.Tie as tie
+use Rattle.calls.proofs.symbol_groups.symmetry_symbol_permutation.Reads as reads
+use Rattle.calls.proofs.symbol_groups.symmetry_symbol_permutation.Lts as lts
+use Rattle.calls.proofs.table.answered.Reads as answered-reads
+use Rattle.finite_group.proofs.symbol.normalizer_action.Reads as normalizer-action-reads
+
+normalizer-action-requires : tie.Need-normalizer-action-requires
+normalizer-action-requires c κs = search needs
+
+answered-requires : tie.Need-answered-requires
+answered-requires c κs = packable-as (c .before .before .normalizer-action .ensures .0) (permutation-within (on-symbol _) _ _ _)
+
+same-length : tie.Need-same-length
+same-length c = search needs
+
+returns : tie.Need-returns
+returns c =
+    let listed = c .before .before .before .normalizer-action .ensures in
+    (packed-as (c .answered .ensures) (listed .0), listed .1)
+
+pub symmetry-symbol-permutation-spec : {M : Type 1} → statement M
+symmetry-symbol-permutation-spec =
+    tie.close (tie.spec normalizer-action-requires answered-requires same-length returns)

@@ -1,0 +1,116 @@
+-- A symbol's refusal has its place, every other is at 0.
+use Rattle.finite_group.specs.Answers.{placeOf}
+use borrow.Author.Needs.{needs}
+use Rattle.calls.proofs.table.place.Statement.{statement}
+use Rattle.calls.proofs.table.place.Tie as tie
+use Rattle.calls.proofs.table.place.Reads as reads
+use Rattle.calls.proofs.table.place.Lts as lts
+use Rattle.symbol_group.proofs.refusal.Refusal.place.Reads as place-reads
+
+enum-known-refusal : tie.Need-enum-known-refusal
+enum-known-refusal c = search needs
+
+place-requires : tie.Need-place-requires
+place-requires c κs = search needs
+
+enum-told : tie.Need-enum-told
+enum-told c = search needs
+
+enum-told-2 : tie.Need-enum-told-2
+enum-told-2 c = search needs
+
+enum-told-3 : tie.Need-enum-told-3
+enum-told-3 c = search needs
+
+enum-told-4 : tie.Need-enum-told-4
+enum-told-4 c = search needs
+
+enum-told-5 : tie.Need-enum-told-5
+enum-told-5 c = search needs
+
+enum-told-6 : tie.Need-enum-told-6
+enum-told-6 c = search needs
+
+enum-told-7 : tie.Need-enum-told-7
+enum-told-7 c = search needs
+
+enum-told-8 : tie.Need-enum-told-8
+enum-told-8 c = search needs
+
+enum-told-9 : tie.Need-enum-told-9
+enum-told-9 c = search needs
+
+enum-told-10 : tie.Need-enum-told-10
+enum-told-10 c = search needs
+
+returns : tie.Need-returns
+unfolding placeOf
+returns c = search needs
+
+returns-2 : tie.Need-returns-2
+unfolding placeOf
+returns-2 c = search needs
+
+returns-3 : tie.Need-returns-3
+unfolding placeOf
+returns-3 c = search needs
+
+returns-4 : tie.Need-returns-4
+unfolding placeOf
+returns-4 c = search needs
+
+returns-5 : tie.Need-returns-5
+unfolding placeOf
+returns-5 c = search needs
+
+returns-6 : tie.Need-returns-6
+unfolding placeOf
+returns-6 c = search needs
+
+returns-7 : tie.Need-returns-7
+unfolding placeOf
+returns-7 c = search needs
+
+returns-8 : tie.Need-returns-8
+unfolding placeOf
+returns-8 c = search needs
+
+returns-9 : tie.Need-returns-9
+unfolding placeOf
+returns-9 c = search needs
+
+returns-10 : tie.Need-returns-10
+unfolding placeOf
+returns-10 c = search needs
+
+returns-11 : tie.Need-returns-11
+unfolding placeOf
+returns-11 c = search needs
+
+pub place-spec : {M : Type 1} → statement M
+place-spec =
+    tie.close
+    (tie.spec
+    enum-known-refusal
+    place-requires
+    enum-told
+    enum-told-2
+    enum-told-3
+    enum-told-4
+    enum-told-5
+    enum-told-6
+    enum-told-7
+    enum-told-8
+    enum-told-9
+    enum-told-10
+    returns
+    returns-2
+    returns-3
+    returns-4
+    returns-5
+    returns-6
+    returns-7
+    returns-8
+    returns-9
+    returns-10
+    returns-11)
