@@ -24,7 +24,7 @@ use Rattle.group_record.specs.ListedForm.{form-length, listed-form}
 use Rattle.group_record.specs.OneRecord.{operationBytes, operationIn, operation-wide, operation-again}
 use Rattle.group_record.specs.Copying.{roomFor, room-there, all-placed}
 use Rattle.group_record.specs.AcceptedSymbols.{symbol-writable}
-use Rattle.group_record.specs.SymbolRecords.{symbolRecordOf, symbolBufferOf}
+use Rattle.group_record.specs.SymbolRecords.{textRecord, symbolRecordOf, symbolBufferOf}
 use Rattle.group_record.specs.declared.SymbolRecord.{SymbolRecord}
 use Rattle.group_record.specs.declared.SymbolRecord.the-variants.{Written, NoRoom, Refused as NotWritten}
 use Rattle.answer_text.specs.Words.{newline, decimal, lineOf, number-short}
@@ -178,7 +178,7 @@ module _ (line : List ℕ) where
           drop 1 (trailer itemWidth editionNumber letter (length (listedForm letter listed))) ++ drop (0 + totalLength itemWidth (symbolAnswer line .count)) zeros
 
       placed : symbolBufferOf line zeros 0 ≡ recordOf letter listed ++ drop (0 + totalLength itemWidth (symbolAnswer line .count)) zeros
-      unfolding symbolBufferOf letter listed
+      unfolding symbolBufferOf textRecord letter listed
       placed = rw a (all-placed zeros 0 (symbolAnswer line .count) (recordOf (symbolAnswer line .centering) (take (symbolAnswer line .count) (symbolAnswer line .operations))) (enough-room a))
 
       split : bytes ≡ bytesOf operationBytes (listedForm letter listed) ++ (byteOf letter ∷ behind)
