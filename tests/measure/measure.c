@@ -123,7 +123,7 @@ int main(void) {
         read_source(hex);
         number = numbers[0], set = numbers[1], element = numbers[2];
         make_marked(entry);
-        printf("%llx ", (unsigned long long)answer);
+        printf("%llu ", (unsigned long long)answer);
         printf("%zu\n", deepest(entry));
     }
     return 0;
