@@ -1,6 +1,7 @@
 -- Tables of groups of motions: what the table of a list of operations is, and what is answered for a text and for a record.
 pub mod Tables
 pub mod TableLaws
+pub mod Overlay
 -- A record's table, by a search for each product.
 pub mod CodeSearch
 pub mod ReadTables

@@ -1,15 +1,13 @@
--- The table that the steps of a traversal make, row by row: what is asked of the steps, what they say of a table, and how far an array holds the table.
+-- The table that the steps of a traversal make, row by row: what is asked of the steps, what they say of a table, and how far the cells hold it.
 use mathlib.Core.Path.{_≡_, refl, sym, _∙_, ap}
 use mathlib.Core.List.{List}
 use Prim.Native.Nat.{ℕ, zero, suc, _+_, _*_, _/_, _%_, _≤_, _<_}
-use native.Mathlib.Numerals.{add-one}
 use native.Mathlib.Omega.{arith}
 use native.Mathlib.Decide.{ℕ-discrete}
 use native.Mathlib.Nat.{suc-mul, mul-le-mul-right, div-add-mod', div-lt-iff-lt-mul, mod-lt}
-use lib.ListN.{length, getD, take, set, replicate}
-use lib.Seq.{take-suc, take-all, getD-take, length-take-le, getD-set-same, getD-set-other}
-use Rattle.space_group.specs.Traversal.{padded}
-use Rattle.space_group.specs.Resuming.{padded-set, padded-at}
+use lib.ListN.{length, getD, set}
+use lib.Seq.{getD-set-same, getD-set-other}
+use Rattle.group_table.specs.Overlay.{begun, begun-next, begun-at}
 
 -- ---- the steps
 -- With n operations and m generators the step at p·m + k leads from operation p by generator k to an operation; and to each operation but the first
@@ -44,22 +42,20 @@ pub record GoesBy (n m : ℕ) (steps table : List ℕ) : Type 0 where
   pub inside : (i j : ℕ) → i < n → j < n → getD table (i * n + j) 0 < n
   pub next : (i p k : ℕ) → i < n → p < n → k < m → getD table (i * n + getD steps (p * m + k) 0) 0 ≡ getD steps (getD table (i * n + p) 0 * m + k) 0
 
--- The first cells of a table, the others 0.
-unfoldable pub begun : ℕ → List ℕ → List ℕ
-begun at table = padded 2304 0 (take at table)
-
 -- What filling a row takes: steps, parents, and a table that goes by them, whose rows before it are filled.
 pub record RowReady (n m i : ℕ) (steps earlier generator cells : List ℕ) : Type 0 where
   pub row : i < n
   pub traversed : Traversed n m steps
   pub parents : AllCome n m steps earlier generator
   pub table : List ℕ
+  pub lent : List ℕ
   pub goes : GoesBy n m steps table
-  pub filled : cells ≡ begun (i * n) table
+  pub room : n * n ≤ length lent
+  pub filled : cells ≡ begun (i * n) table lent
 
 -- What filling it does: of every such table one more row is filled.
 abbrev pub RowFilled : ℕ → ℕ → ℕ → List ℕ → List ℕ → List ℕ → Type 0
-RowFilled n m i steps before after = (table : List ℕ) → GoesBy n m steps table → before ≡ begun (i * n) table → after ≡ begun (i * n + n) table
+RowFilled n m i steps before after = (table lent : List ℕ) → GoesBy n m steps table → n * n ≤ length lent → before ≡ begun (i * n) table lent → after ≡ begun (i * n + n) table lent
 
 -- ---- indices
 -- A place in row i of n rows of k is before their end.
@@ -113,62 +109,31 @@ module _ (n m : ℕ) (steps earlier generator : List ℕ) where
           rw (getD-set-other earlier (getD steps at 0) j (at / m) 0 q, getD-set-other generator (getD steps at 0) j (at % m) 0 q) (h t j (omega arith) before b e)
     ]
 
--- ---- filling
--- Nothing is filled at first,
-pub begun-none : (table : List ℕ) → replicate 2304 0 ≡ begun 0 table
-unfolding begun
-begun-none table = refl
-
-module _ (table : List ℕ) (fits : length table ≤ 2304) where
-  -- then one cell after the other,
-  pub begun-next : (at : ℕ) → at < length table → set (begun at table) at (getD table at 0) ≡ begun (at + 1) table
-  unfolding begun
-  begun-next at h =
-      let front : length (take at table) ≡ at = length-take-le at table (omega arith) in
-      ap (λ (i : ℕ). set (padded 2304 0 (take at table)) i (getD table at 0)) (sym front)
-      ∙ padded-set 2304 0 (take at table) (getD table at 0) (omega arith)
-      ∙ ap (padded 2304 0) (sym (take-suc table at 0 h))
-      ∙ ap (λ (i : ℕ). padded 2304 0 (take i table)) (sym (add-one at))
-
-  -- and at the end all are.
-  pub begun-all : begun (length table) table ≡ padded 2304 0 table
-  unfolding begun
-  begun-all = ap (padded 2304 0) (take-all (length table) table (omega arith))
-
-  -- What is filled is right.
-  pub begun-at : (at t : ℕ) → t < at → at ≤ length table → getD (begun at table) t 0 ≡ getD table t 0
-  unfolding begun
-  begun-at at t h k = padded-at 2304 0 (take at table) t 0 (omega (arith, length-take-le at table k)) ∙ getD-take at table t 0 h
-
 -- ---- a row
--- There is room for the table.
-pub table-fits : (n m : ℕ) (steps table : List ℕ) → Traversed n m steps → GoesBy n m steps table → length table ≤ 2304
-table-fits n m steps table S G = omega (arith, G .size, cells-fit n m steps S)
-
-module _ (n m : ℕ) (steps table cells : List ℕ) (S : Traversed n m steps) (G : GoesBy n m steps table) (i : ℕ) (row : i < n) where
+module _ (n m : ℕ) (steps table lent cells : List ℕ) (room : n * n ≤ length lent) (S : Traversed n m steps) (G : GoesBy n m steps table) (i : ℕ) (row : i < n) where
   -- In each row likewise.
-  fits : length table ≤ 2304
-  fits = table-fits n m steps table S G
+  fits : length table ≤ length lent
+  fits = omega (arith, G .size)
 
   -- The first cell of a row is the left factor itself.
-  pub row-first : cells ≡ begun (i * n) table → set cells (i * n) i ≡ begun (i * n + 1) table
+  pub row-first : cells ≡ begun (i * n) table lent → set cells (i * n) i ≡ begun (i * n + 1) table lent
   row-first e =
       let inside = place-inside i 0 n n row (omega arith) in
-      rw e (ap (λ (x : ℕ). set (begun (i * n) table) (i * n) x) (sym (G .first i row)) ∙ begun-next table fits (i * n) (omega (arith, G .size)))
+      rw e (ap (λ (x : ℕ). set (begun (i * n) table lent) (i * n) x) (sym (G .first i row)) ∙ begun-next table lent fits (i * n) (omega (arith, G .size)))
 
-  module _ (j p k : ℕ) (b : j < n) (C : Comes m steps j p k) (e : cells ≡ begun (i * n + j) table) where
+  module _ (j p k : ℕ) (b : j < n) (C : Comes m steps j p k) (e : cells ≡ begun (i * n + j) table lent) where
     -- The product with the parent is there,
     parent-cell : getD cells (i * n + p) 0 ≡ getD table (i * n + p) 0
-    parent-cell = rw e (begun-at table fits (i * n + j) (i * n + p) (omega (arith, C .earlier)) (omega (arith, G .size, place-inside i j n n row b)))
+    parent-cell = rw e (begun-at table lent fits (i * n + j) (i * n + p) (omega (arith, C .earlier)) (omega (arith, G .size, place-inside i j n n row b)))
 
     -- it is an index,
     pub row-inside : getD cells (i * n + p) 0 < n
     row-inside = rw parent-cell (G .inside i p row (omega (arith, C .earlier)))
 
     -- and its step is the next cell.
-    pub row-next : set cells (i * n + j) (getD steps (getD cells (i * n + p) 0 * m + k) 0) ≡ begun (i * n + (j + 1)) table
+    pub row-next : set cells (i * n + j) (getD steps (getD cells (i * n + p) 0 * m + k) 0) ≡ begun (i * n + (j + 1)) table lent
     row-next =
         let onward : i * n + j + 1 ≡ i * n + (j + 1) = omega arith in
         let leads : getD steps (getD cells (i * n + p) 0 * m + k) 0 ≡ getD table (i * n + j) 0 =
         rw parent-cell (sym (G .next i p k row (omega (arith, C .earlier)) (C .generator)) ∙ ap (λ (x : ℕ). getD table (i * n + x) 0) (C .leads)) in
-        rw leads (ap (λ (l : List ℕ). set l (i * n + j) (getD table (i * n + j) 0)) e ∙ begun-next table fits (i * n + j) (omega (arith, G .size, place-inside i j n n row b)) ∙ ap (λ (x : ℕ). begun x table) onward)
+        rw leads (ap (λ (l : List ℕ). set l (i * n + j) (getD table (i * n + j) 0)) e ∙ begun-next table lent fits (i * n + j) (omega (arith, G .size, place-inside i j n n row b)) ∙ ap (λ (x : ℕ). begun x table lent) onward)

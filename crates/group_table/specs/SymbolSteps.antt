@@ -1,6 +1,6 @@
 -- The table of an accepted symbol's operations goes by the steps of its traversal: a step is the product with the generator's index, and products associate.
-use mathlib.Core.Path.{_≡_, refl, sym, _∙_, ap}
-use mathlib.Core.List.{List, map}
+use mathlib.Core.Path.{_≡_, refl, sym, _∙_, ap, ap₂}
+use mathlib.Core.List.{List, [], map}
 use Prim.Native.Nat.{ℕ, _+_, _*_, _/_, _%_, _-_, _≤_, _<_}
 use native.Mathlib.Omega.{arith}
 use native.Mathlib.Nat.{suc-mul, mul-le-mul-right, div-add-mod', div-lt-iff-lt-mul, mod-lt}
@@ -21,21 +21,27 @@ use Rattle.space_group.specs.Resuming.{padded-at}
 use Rattle.space_group.specs.Acceptance.{Accepted, accepted-list}
 use Rattle.space_group.specs.Members.{identity-first, at-most-48}
 use Rattle.space_group.specs.Steps.{steps-length, step-right}
-use Rattle.symbol_group.specs.Answers.{outcomeAnswer, readingAnswer, symbolAnswer}
+use Rattle.symbol_group.specs.Answers.{outcomeAnswer, readingAnswer, symbolAnswer, orderBy, orderOf}
 use Rattle.symbol_group.specs.Exactly.{symbol-small}
 use Rattle.symbol_group.specs.Slots.{symbol-slots}
 use Rattle.symbol_group.specs.declared.Answer as decided
-use Rattle.symbol_group.specs.declared.Answer.the-variants.{Group as Given}
+use Rattle.symbol_group.specs.declared.Answer.the-variants.{Group as Given, Refused as NotGiven}
+use Rattle.symbol_group.specs.declared.refusal.Refusal.{Refusal}
 use Rattle.symbol_group.specs.declared.SymbolGroup.{SymbolGroup}
+use Rattle.symbol_group.specs.declared.SymbolOrder.{SymbolOrder}
+use Rattle.symbol_group.specs.declared.SymbolOrder.the-variants.{Is, Refused as OrderRefused}
 use Rattle.group_record.specs.Groups.{Allowed, Listing}
 use Rattle.group_record.specs.AcceptedSymbols.{accepted-listing, accepted-allowed}
 use Rattle.subgroup_laws.specs.Groups.{Group}
 use Rattle.subgroup_laws.specs.Table.{product}
-use Rattle.group_table.specs.Tables.{tableOf, symbolTableBy, symbolTable}
+use Rattle.subgroup_laws.specs.TableLaws.{square-limit}
+use Rattle.group_table.specs.Tables.{tableOf, symbolTableBy, symbolTable, symbolCellsBy, symbolCells, overlaid, laid}
 use Rattle.group_table.specs.TableLaws.{motionAt, table-length}
 use Rattle.group_table.specs.TableMotions.{BelongsTo, listed-belongs, product-is}
 use Rattle.group_table.specs.TableGroups.{identityIndex, identity-at, group-table}
 use Rattle.group_table.specs.Parents.{parent-step}
+use Rattle.group_table.specs.declared.SymbolTable.{SymbolTable}
+use Rattle.group_table.specs.Overlay.{laid-all, laid-none, laid-blank}
 use Rattle.group_table.specs.StepTables.{Traversed, GoesBy, place-inside, divisor}
 
 module _ (c : Centering) (gens operations : List Operation) (steps : List ℕ) (A : Accepted c gens operations steps) where
@@ -151,9 +157,52 @@ module _ (text : List ℕ) (g : SymbolGroup) (e : g ≡ symbolAnswer text) where
       let slots = symbol-slots text in
       length-take-le (g .count) (g .operations) (omega (arith, ap (λ (h : SymbolGroup). h .count) e, ap (λ (h : SymbolGroup). length (h .operations)) e))
 
-  -- The answer, by cases of the symbol's.
-  pub symbol-table-by : (a : decided.Answer) → g .answer ≡ a → symbolTableBy a (g .centering) (take (g .count) (g .operations)) ≡ symbolTable text
-  unfolding symbolTable
-  symbol-table-by a told =
-      ap (λ (b : decided.Answer). symbolTableBy b (g .centering) (take (g .count) (g .operations))) (sym told)
-      ∙ ap (λ (h : SymbolGroup). symbolTableBy (h .answer) (h .centering) (take (h .count) (h .operations))) e
+  -- The order, by cases of the symbol's answer,
+  symbol-order-by : (a : decided.Answer) → g .answer ≡ a → orderBy a (g .count) ≡ orderOf text
+  unfolding orderOf
+  symbol-order-by a told =
+      ap (λ (b : decided.Answer). orderBy b (g .count)) (sym told)
+      ∙ ap (λ (h : SymbolGroup). orderBy (h .answer) (h .count)) e
+
+  -- and the cells.
+  symbol-cells-by : (a : decided.Answer) → g .answer ≡ a → symbolCellsBy a (g .centering) (take (g .count) (g .operations)) ≡ symbolCells text
+  unfolding symbolCells
+  symbol-cells-by a told =
+      ap (λ (b : decided.Answer). symbolCellsBy b (g .centering) (take (g .count) (g .operations))) (sym told)
+      ∙ ap (λ (h : SymbolGroup). symbolCellsBy (h .answer) (h .centering) (take (h .count) (h .operations))) e
+
+  -- There are n² cells.
+  symbol-square : length (tableOf (g .centering) (take (g .count) (g .operations))) ≡ g .count * g .count
+  symbol-square = table-length (g .centering) (take (g .count) (g .operations)) ∙ ap (λ (n : ℕ). n * n) symbol-order
+
+  -- What is answered if the slots are too few,
+  pub symbol-short : g .answer ≡ Given → (lent : List ℕ) → length lent < g .count * g .count → (Is (g .count) ≡ orderOf text) × (lent ≡ laid (symbolCells text) lent)
+  symbol-short told lent short =
+      (symbol-order-by Given told, sym (laid-none _ lent (omega (arith, symbol-square))) ∙ ap (λ (cells : List ℕ). laid cells lent) (symbol-cells-by Given told))
+
+  -- if they hold all cells,
+  pub symbol-filled : g .answer ≡ Given → (lent now : List ℕ) → g .count * g .count ≤ length lent → now ≡ overlaid (tableOf (g .centering) (take (g .count) (g .operations))) lent → (Is (g .count) ≡ orderOf text) × (now ≡ laid (symbolCells text) lent)
+  symbol-filled told lent now room e =
+      (symbol-order-by Given told, e ∙ sym (laid-all _ lent (omega (arith, symbol-square))) ∙ ap (λ (cells : List ℕ). laid cells lent) (symbol-cells-by Given told))
+
+  -- and for a refusal.
+  pub symbol-refused : (r : Refusal) → g .answer ≡ NotGiven r → (lent : List ℕ) → (OrderRefused r ≡ orderOf text) × (lent ≡ laid (symbolCells text) lent)
+  symbol-refused r told lent =
+      (symbol-order-by (NotGiven r) told, sym (laid-all [] lent (omega arith)) ∙ ap (λ (cells : List ℕ). laid cells lent) (symbol-cells-by (NotGiven r) told))
+
+-- The table by value is the order, and the cells in blank slots.
+abbrev byValue : SymbolOrder → List ℕ → SymbolTable
+byValue (Is n) cells = record { answer = Given; order = n; cells = cells }
+byValue (OrderRefused r) cells = record { answer = NotGiven r; order = 0; cells = cells }
+
+by-value : (a : decided.Answer) (c : Centering) (count : ℕ) (l : List Operation) → length l ≡ count → count ≤ 48 → byValue (orderBy a count) (laid (symbolCellsBy a c l) (replicate 2304 0)) ≡ symbolTableBy a c l
+by-value Given c count l long few =
+    let blank = laid-blank (tableOf c l) 2304 (omega (arith, table-length c l, square-limit (length l) (omega arith))) in
+    λ i. record { answer = Given; order = sym long i; cells = blank i }
+by-value (NotGiven r) c count l long few = ap (byValue (OrderRefused r)) (laid-blank [] 2304 (omega arith))
+
+pub symbol-by-value : (text : List ℕ) (o : SymbolOrder) (cells : List ℕ) → o ≡ orderOf text → cells ≡ laid (symbolCells text) (replicate 2304 0) → byValue o cells ≡ symbolTable text
+unfolding orderOf symbolCells symbolTable
+symbol-by-value text o cells e d =
+    ap₂ byValue e d
+    ∙ by-value (symbolAnswer text .answer) (symbolAnswer text .centering) (symbolAnswer text .count) (take (symbolAnswer text .count) (symbolAnswer text .operations)) (symbol-order text (symbolAnswer text) refl) (symbol-slots text .0)

@@ -1,5 +1,5 @@
 -- What the answers say: a table is given for every accepted symbol and for every record that is read, it is that of a group, and it is the table of their sets of motions.
-use mathlib.Core.Path.{_≡_, refl}
+use mathlib.Core.Path.{_≡_, refl, _∙_, subst}
 use mathlib.Core.List.{List, map}
 use Prim.Native.Nat.{ℕ, _*_, _-_}
 use native.Mathlib.Omega.{arith}
@@ -10,9 +10,10 @@ use Rattle.operation.specs.Meaning.{motionOf}
 use Rattle.operation.specs.declared.Operation.{Operation}
 use Rattle.centering.specs.declared.Centering.{Centering}
 use Rattle.space_group.specs.Members.{identity-first}
-use Rattle.symbol_group.specs.Answers.{symbolAnswer}
+use Rattle.symbol_group.specs.Answers.{symbolAnswer, orderBy, orderOf}
 use Rattle.symbol_group.specs.declared.Answer as symbol
 use Rattle.symbol_group.specs.declared.Answer.the-variants.{Group, Refused}
+use Rattle.symbol_group.specs.declared.SymbolOrder.the-variants.{Is}
 use Rattle.group_record.specs.Groups.{InSet, Allowed, Listing}
 use Rattle.group_record.specs.Reading.{readOf}
 use Rattle.group_record.specs.Acceptance.{Bytes}
@@ -21,11 +22,13 @@ use Rattle.group_record.specs.SymbolSets.{InSetOf, set-of-list}
 use Rattle.group_record.specs.declared.Reading.{Reading}
 use Rattle.group_record.specs.declared.Reading.the-variants.{Accepted, Refused as RecordRefused}
 use Rattle.subgroup_laws.specs.Table.{product, GroupTable}
-use Rattle.group_table.specs.Tables.{tableOf, cellsOf, symbolTableBy, symbolTable, recordTableBy, recordTable}
+use Rattle.group_table.specs.Tables.{tableOf, cellsOf, symbolTableBy, symbolTable, symbolCellsBy, symbolCells, recordTableBy, recordTable, recordOrderBy, recordOrder, recordCellsBy, recordCells}
 use Rattle.group_table.specs.TableLaws.{table-length}
 use Rattle.group_table.specs.TableMotions.{BelongsTo, one-index, product-belongs}
 use Rattle.group_table.specs.TableGroups.{identityIndex, identity-at, group-table}
-use Rattle.group_table.specs.ReadTables.{read-allowed}
+use Rattle.group_table.specs.ReadTables.{read-allowed, read-order}
+use Rattle.group_table.specs.SymbolSteps.{symbol-order}
+use Rattle.group_table.specs.declared.RecordOrder.the-variants.{Is as RecordIs}
 
 -- n² cells are the table of a set of motions by a list of operations: that of a group, each motion of the set belongs to exactly one index, and products
 -- go with the table.
@@ -110,3 +113,32 @@ module _ (text : List ℕ) (e : symbolAnswer text .answer ≡ Group) where
       let T = accepted-text text e in
       let (rest, first) = identity-first (T .letter) (T .generators) (T .operations) (T .steps) (T .accepted) in
       identity-at letter symbol-listing 0 (rw (T .same-operations, first) (omega arith)) (rw (T .same-operations, first) refl)
+
+-- ---- the cells alone
+-- The cells of an accepted symbol are the table of a group whose identity is element 0.
+pub symbol-cells-group : (text : List ℕ) (n : ℕ) → orderOf text ≡ Is n → GroupTable n (symbolCells text) 0
+unfolding orderOf symbolCells
+symbol-cells-group text n = by-answer (symbolAnswer text .answer) refl
+  where
+    by-answer : (a : symbol.Answer) → symbolAnswer text .answer ≡ a → orderBy a (symbolAnswer text .count) ≡ Is n → GroupTable n (symbolCellsBy a (symbolAnswer text .centering) (take (symbolAnswer text .count) (symbolAnswer text .operations))) 0
+    by-answer Group e p =
+        let g = symbolAnswer text in
+        let l = take (g .count) (g .operations) in
+        let same : g .count ≡ n = cc in
+        let T = group-table (g .centering) (symbol-listing text e) (symbol-allowed text e) in
+        subst (λ (k : ℕ). GroupTable k (tableOf (g .centering) l) 0) (symbol-order text g refl ∙ same) (subst (GroupTable (length l) (tableOf (g .centering) l)) (symbol-identity text e) T)
+    by-answer (Refused r) e p = let z : _≡_ {A = ℕ} 0 1 = cc in absurd (omega arith)
+
+-- The cells of a record that is read are the table of a group.
+pub record-cells-group : (bytes : List ℕ) → Bytes bytes → (n : ℕ) → recordOrder bytes ≡ RecordIs n → GroupTable n (recordCells bytes) (identityIndex (readOf bytes .centering) (take (readOf bytes .count) (readOf bytes .operations)))
+unfolding recordOrder recordCells
+record-cells-group bytes b n = by-answer (readOf bytes .answer) refl
+  where
+    by-answer : (a : Reading) → readOf bytes .answer ≡ a → recordOrderBy a (readOf bytes .count) ≡ RecordIs n → GroupTable n (recordCellsBy a (readOf bytes .centering) (take (readOf bytes .count) (readOf bytes .operations))) (identityIndex (readOf bytes .centering) (take (readOf bytes .count) (readOf bytes .operations)))
+    by-answer Accepted e p =
+        let g = readOf bytes in
+        let l = take (g .count) (g .operations) in
+        let same : g .count ≡ n = cc in
+        let (w, A) = read-allowed bytes g refl b e in
+        subst (λ (k : ℕ). GroupTable k (tableOf (g .centering) l) (identityIndex (g .centering) l)) (read-order bytes b e .0 ∙ same) (group-table (g .centering) (w .listing) A)
+    by-answer (RecordRefused r) e p = let z : _≡_ {A = ℕ} 0 1 = cc in absurd (omega arith)

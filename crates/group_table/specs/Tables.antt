@@ -1,8 +1,9 @@
 -- What the table of a list of operations is (01, "Tables and subgroups"): indices in list order, the row being the left factor, products modulo L.
-use mathlib.Core.Bool.{Bool, _&&_}
+use mathlib.Core.Bool.{Bool, _&&_, cond}
 use mathlib.Core.List.{List, [], _∷_, _++_, map}
 use Prim.Native.Nat.{ℕ}
-use lib.ListN.{length, take, replicate}
+use lib.Dec.{ltb}
+use lib.ListN.{length, take, drop, replicate}
 use Rattle.laws.specs.Motion.{SpaceMotion, compose}
 use Rattle.laws.specs.SameMatrix.{sameRotation}
 use Rattle.laws.specs.Growth.{place}
@@ -19,6 +20,8 @@ use Rattle.group_record.specs.declared.Reading.{Reading}
 use Rattle.group_record.specs.declared.Reading.the-variants.{Accepted, Refused as RecordRefused}
 use Rattle.group_table.specs.declared.SymbolTable.{SymbolTable}
 use Rattle.group_table.specs.declared.RecordTable.{RecordTable}
+use Rattle.group_table.specs.declared.RecordOrder.{RecordOrder}
+use Rattle.group_table.specs.declared.RecordOrder.the-variants.{Is, Refused as OrderRefused}
 
 -- ---- the table of a list
 -- Two motions are one modulo L: the same rotation, and translations in one class.
@@ -62,3 +65,35 @@ recordTableBy (RecordRefused r) c l = record { answer = RecordRefused r; order =
 
 unfoldable pub recordTable : List ℕ → RecordTable
 recordTable bytes = let g = readOf bytes in recordTableBy (g .answer) (g .centering) (take (g .count) (g .operations))
+
+-- ---- the cells alone, into lent slots
+-- The cells of an accepted symbol's table; a refusal has none.
+abbrev pub symbolCellsBy : symbol.Answer → Centering → List Operation → List ℕ
+symbolCellsBy Group c l = tableOf c l
+symbolCellsBy (Refused r) c l = []
+
+unfoldable pub symbolCells : List ℕ → List ℕ
+symbolCells text = let g = symbolAnswer text in symbolCellsBy (g .answer) (g .centering) (take (g .count) (g .operations))
+
+-- The order of a record that is read, or why it is not.
+abbrev pub recordOrderBy : Reading → ℕ → RecordOrder
+recordOrderBy Accepted count = Is count
+recordOrderBy (RecordRefused r) count = OrderRefused r
+
+unfoldable pub recordOrder : List ℕ → RecordOrder
+recordOrder bytes = let g = readOf bytes in recordOrderBy (g .answer) (g .count)
+
+-- The cells of its table.
+abbrev pub recordCellsBy : Reading → Centering → List Operation → List ℕ
+recordCellsBy Accepted c l = tableOf c l
+recordCellsBy (RecordRefused r) c l = []
+
+unfoldable pub recordCells : List ℕ → List ℕ
+recordCells bytes = let g = readOf bytes in recordCellsBy (g .answer) (g .centering) (take (g .count) (g .operations))
+
+-- Cells go to the front of lent slots, and what is behind them stays; without room for all of them nothing is written.
+abbrev pub overlaid : List ℕ → List ℕ → List ℕ
+overlaid cells lent = cells ++ drop (length cells) lent
+
+unfoldable pub laid : List ℕ → List ℕ → List ℕ
+laid cells lent = cond (ltb (length lent) (length cells)) lent (overlaid cells lent)

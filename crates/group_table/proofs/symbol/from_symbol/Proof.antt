@@ -1,41 +1,40 @@
--- The symbol's answer decides: a group has its table from its steps, a refusal is passed on.
+-- The cells are filled into blank slots, and the order says which answer it is.
 use mathlib.Core.Path.{sym, _∙_}
+use Rattle.group_table.specs.SymbolSteps.{symbol-by-value}
 use borrow.Author.Needs.{needs}
-use Rattle.symbol_group.specs.declared.Answer.the-variants.{Group, Refused}
-use Rattle.group_table.specs.SymbolSteps.{symbol-steps, symbol-order, symbol-table-by}
 use Rattle.group_table.proofs.symbol.from_symbol.Statement.{statement}
 use Rattle.group_table.proofs.symbol.from_symbol.Tie as tie
 use Rattle.group_table.proofs.symbol.from_symbol.Reads as reads
 use Rattle.group_table.proofs.symbol.from_symbol.Lts as lts
-use Rattle.group_table.proofs.symbol.filled.Reads as filled-reads
-use Rattle.symbol_group.proofs.SymbolGroup.new.Reads as new-reads
+use Rattle.group_table.proofs.symbol.fill_cells.Reads as fill-cells-reads
 
-new-requires : tie.Need-new-requires
-new-requires c κs = search needs
+slice-aggregate-fill-cells : tie.Need-slice-aggregate-fill-cells
+slice-aggregate-fill-cells c = search needs
 
-enum-told : tie.Need-enum-told
-enum-told c = search needs
+fill-cells-requires : tie.Need-fill-cells-requires
+fill-cells-requires c κs = search needs
 
-filled-requires : tie.Need-filled-requires
-filled-requires c κs =
-    let made = c .before .before .new in
-    symbol-steps (c .before .before .before .before .args .text .now) (made .result) (made .ensures) (c .enum-told .given .1)
+enum-known-found : tie.Need-enum-known-found
+enum-known-found c = search needs
 
-enum-known-answer : tie.Need-enum-known-answer
-enum-known-answer c = search needs
+enum-known-found-2 : tie.Need-enum-known-found-2
+enum-known-found-2 c = search needs
 
 returns : tie.Need-returns
 returns c =
-    let made = c .before .before .before .new in
-    let text = c .before .before .before .before .before .args .text .now in
-    (λ x. record { answer = Group; order = sym (symbol-order text (made .result) (made .ensures)) x; cells = c .filled .ensures x })
-    ∙ symbol-table-by text (made .result) (made .ensures) Group (c .before .enum-told .given .1)
+    symbol-by-value (c .before .before .before .before .before .before .before .args .text .now) _ _ (sym (c .before .found .given .1) ∙ c .before .before .before .before .fill-cells .ensures .0) (c .before .before .before .before .fill-cells .ensures .1)
 
 returns-2 : tie.Need-returns-2
 returns-2 c =
-    let made = c .before .before .before .new in
-    symbol-table-by (c .before .before .before .before .before .args .text .now) (made .result) (made .ensures) (Refused (c .before .answer .given .0 .0)) (c .before .answer .given .1)
+    symbol-by-value (c .before .before .before .before .before .before .before .args .text .now) _ _ (sym (c .before .found2 .given .1) ∙ c .before .before .before .before .fill-cells .ensures .0) (c .before .before .before .before .fill-cells .ensures .1)
 
 pub from-symbol-spec : {M : Type 1} → statement M
 from-symbol-spec =
-    tie.close (tie.spec new-requires enum-told filled-requires enum-known-answer returns returns-2)
+    tie.close
+    (tie.spec
+    slice-aggregate-fill-cells
+    fill-cells-requires
+    enum-known-found
+    enum-known-found-2
+    returns
+    returns-2)
