@@ -71,6 +71,11 @@ entry-times-residue a u =
     residue-mul (entryOf a) (pos u) ∙ rw (entry-residue a, residue-pos u) (remainder-product (a + 11) u)
 
 -- One coordinate of Ru + t modulo 12.
-pub moved-residue : (a b c x y z t : ℕ) → residue (dot (entryOf a) (entryOf b) (entryOf c) (pos x) (pos y) (pos z) +ℤ pos t) ≡ ((a + 11) * x + (b + 11) * y + (c + 11) * z + t) % 12
-moved-residue a b c x y z t =
-    simp (residue-add, entry-times-residue, residue-pos, remainder-sum)
+pub moved-residue : (a b c x y z t : ℕ) → residue (dot (entryOf a) (entryOf b) (entryOf c) (pos x) (pos y) (pos z) +ℤ pos t) ≡ (a * x + b * y + c * z + t + 11 * (x + y + z)) % 12
+moved-residue a b c x y z t = termwise ∙ ap (λ n. n % 12) elevens
+  where
+    termwise : residue (dot (entryOf a) (entryOf b) (entryOf c) (pos x) (pos y) (pos z) +ℤ pos t) ≡ ((a + 11) * x + (b + 11) * y + (c + 11) * z + t) % 12
+    termwise = simp (residue-add, entry-times-residue, residue-pos, remainder-sum)
+
+    elevens : (a + 11) * x + (b + 11) * y + (c + 11) * z + t ≡ a * x + b * y + c * z + t + 11 * (x + y + z)
+    elevens = omega arith

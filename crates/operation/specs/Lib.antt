@@ -2,9 +2,11 @@
 -- Meaning: matrices, vectors and motions behind the numbers.
 pub mod Meaning
 pub mod Digits
+pub mod Lanes
 pub mod Entries
 -- The product, the code, the type, doubles.
 pub mod Product
+pub mod Columns
 pub mod Composed
 pub mod Code
 pub mod Answer

@@ -5,7 +5,7 @@ use Prim.Native.Nat.{ℕ, zero, suc, _+_, _*_}
 use native.Mathlib.Omega.{arith}
 use lib.Dec.{ltb}
 use lib.IntN.{ℤ, pos, negsuc, one, _+ℤ_, _-ℤ_, _*ℤ_}
-use Rattle.laws.specs.Matrix.{Matrix, Vector, dot, act}
+use Rattle.laws.specs.Matrix.{Matrix, Vector, dot, act, plus}
 use Rattle.laws.specs.Motion.{Motion, SpaceMotion, compose}
 use Rattle.laws.specs.Residue.{residue}
 use Rattle.operation.specs.Meaning.{entryOf, digitOf, matrixOf, vectorOf, motionOf, digitsOf, rowInside, allInside}
@@ -14,8 +14,8 @@ use Rattle.operation.specs.declared.Translation.{Translation}
 use Rattle.operation.specs.declared.Operation.{Operation}
 use Rattle.operation.specs.declared.product.Product.{Product}
 use Rattle.operation.specs.declared.product.Product.the-variants.{Inside, Outside}
-use Rattle.operation.specs.declared.product.Row.{Row}
-use Rattle.operation.specs.declared.product.Row.the-variants.{Inside as RowInside, Outside as RowOutside}
+use Rattle.operation.specs.declared.product.Column.{Column}
+use Rattle.operation.specs.declared.product.Column.the-variants.{Inside as ColumnInside, Outside as ColumnOutside}
 
 -- The identity: rotation I, translation (0,0,0).
 abbrev pub identityOperation : Operation
@@ -25,25 +25,39 @@ identityOperation =
       translation = record { x = 0; y = 0; z = 0 };
     }
 
-unfoldable pub rowOf : ℤ → ℤ → ℤ → Row
-rowOf p q r = cond (rowInside p q r) (RowInside (digitOf p) (digitOf q) (digitOf r)) RowOutside
+unfoldable pub columnOf : ℤ → ℤ → ℤ → Column
+columnOf p q r = cond (rowInside p q r) (ColumnInside (digitOf p) (digitOf q) (digitOf r)) ColumnOutside
 
--- What a row's answer says of its entries.
-row-answer : (b : Bool) (x y z a b′ c : ℕ) → cond b (RowInside x y z) RowOutside ≡ RowInside a b′ c → (b ≡ true) × (a ≡ x) × (b′ ≡ y) × (c ≡ z)
-row-answer true x y z a b′ c e = (refl, (cc), (cc), cc)
-row-answer false x y z a b′ c e = let h : _≡_ {A = ℕ} 0 1 = cc in absurd (omega arith)
+-- A rotation times a column of digits.
+unfoldable pub columnTimes : Rotation → ℕ → ℕ → ℕ → Column
+columnTimes r a b c =
+    columnOf
+    (dot (entryOf (r .xx)) (entryOf (r .xy)) (entryOf (r .xz)) (entryOf a) (entryOf b) (entryOf c))
+    (dot (entryOf (r .yx)) (entryOf (r .yy)) (entryOf (r .yz)) (entryOf a) (entryOf b) (entryOf c))
+    (dot (entryOf (r .zx)) (entryOf (r .zy)) (entryOf (r .zz)) (entryOf a) (entryOf b) (entryOf c))
 
-row-refusal : (b : Bool) (x y z : ℕ) → cond b (RowInside x y z) RowOutside ≡ RowOutside → b ≡ false
-row-refusal true x y z e = let h : _≡_ {A = ℕ} 0 1 = cc in absurd (omega arith)
-row-refusal false x y z e = refl
+-- What a column's answer says of its entries.
+column-answer : (b : Bool) (x y z a b′ c : ℕ) → cond b (ColumnInside x y z) ColumnOutside ≡ ColumnInside a b′ c → (b ≡ true) × (a ≡ x) × (b′ ≡ y) × (c ≡ z)
+column-answer true x y z a b′ c e = (refl, (cc), (cc), cc)
+column-answer false x y z a b′ c e = let h : _≡_ {A = ℕ} 0 1 = cc in absurd (omega arith)
 
-pub row-inside : (p q r : ℤ) (a b c : ℕ) → rowOf p q r ≡ RowInside a b c → (rowInside p q r ≡ true) × (a ≡ digitOf p) × (b ≡ digitOf q) × (c ≡ digitOf r)
-unfolding rowOf
-row-inside p q r a b c e = row-answer (rowInside p q r) (digitOf p) (digitOf q) (digitOf r) a b c e
+column-refusal : (b : Bool) (x y z : ℕ) → cond b (ColumnInside x y z) ColumnOutside ≡ ColumnOutside → b ≡ false
+column-refusal true x y z e = let h : _≡_ {A = ℕ} 0 1 = cc in absurd (omega arith)
+column-refusal false x y z e = refl
 
-pub row-outside : (p q r : ℤ) → rowOf p q r ≡ RowOutside → rowInside p q r ≡ false
-unfolding rowOf
-row-outside p q r e = row-refusal (rowInside p q r) (digitOf p) (digitOf q) (digitOf r) e
+pub column-inside : (p q r : ℤ) (a b c : ℕ) → columnOf p q r ≡ ColumnInside a b c → (rowInside p q r ≡ true) × (a ≡ digitOf p) × (b ≡ digitOf q) × (c ≡ digitOf r)
+unfolding columnOf
+column-inside p q r a b c e = column-answer (rowInside p q r) (digitOf p) (digitOf q) (digitOf r) a b c e
+
+pub column-outside : (p q r : ℤ) → columnOf p q r ≡ ColumnOutside → rowInside p q r ≡ false
+unfolding columnOf
+column-outside p q r e = column-refusal (rowInside p q r) (digitOf p) (digitOf q) (digitOf r) e
+
+-- A translation rotated and then added to another: Ru + t modulo 12.
+unfoldable pub movedOf : Rotation → Translation → Translation → Translation
+movedOf r u t =
+    let v = plus (act (matrixOf r) (vectorOf u)) (vectorOf t) in
+    record { x = residue (v .x); y = residue (v .y); z = residue (v .z) }
 
 -- A rotation applied to a translation: Rt modulo 12.
 unfoldable pub rotatedOf : Rotation → Translation → Translation

@@ -1,12 +1,9 @@
 // The identity, and the product (R,t)(S,u) = (RS, Ru + t) with the translation modulo 12.
 // Ported from base/operation.rs of moyo 0.21.0 (`identity`, `mul`), and changed: digits and twelfths, and an answer for a product whose entries leave −1..1.
 ghost use mathlib.Core.Path.{_≡_};
-ghost use Prim.Native.Nat.{_+_, _*_, _≤_};
-ghost use lib.IntN.{pos, _+ℤ_};
-ghost use Rattle.laws.specs.Matrix.{dot};
-ghost use Rattle.laws.specs.Residue.{residue};
-ghost use Rattle.operation.specs.Meaning.{entryOf, digitOf};
-ghost use Rattle.operation.specs.Product.{identityOperation, rowOf, rotatedOf, productOf};
+ghost use Prim.Native.Nat.{_*_, _≤_};
+ghost use Rattle.operation.specs.Lanes.{lanesOf, rowsTimes, raisedColumn, foursOf};
+ghost use Rattle.operation.specs.Product.{identityOperation, columnTimes, movedOf, rotatedOf, productOf};
 use super::Operation;
 use super::Rotation;
 use super::Translation;
@@ -17,8 +14,8 @@ pub enum Product {
     Outside,
 }
 
-// The digits of one row of a product of rotations.
-pub enum Row {
+// The digits of one column of a product of rotations.
+pub enum Column {
     Inside(u8, u8, u8),
     Outside,
 }
@@ -42,77 +39,92 @@ pub fn identity() -> Operation
     }
 }
 
-fn wide(digit: u8) -> u32
+// Three numbers in one, each in a lane of 21 bits, so that one product does the work of three: 1 in the second lane, in the third, and in each.
+const SECOND: u64 = 2097152;
+
+const THIRD: u64 = 4398046511104;
+
+const EACH: u64 = 4398048608257;
+
+fn wide(digit: u8) -> u64
     ensures { λ r. ⌜ r ≡ digit ⌝ }
 {
-    digit as u32
+    digit as u64
 }
 
-fn term(a: u8, x: u8) -> u32
-    ensures { λ r. ⌜ (r ≡ a * x) × (r ≤ 65025) ⌝ }
+fn lanes(x: u8, y: u8, z: u8) -> u64
+    ensures { λ r. ⌜ r ≡ lanesOf x y z ⌝ }
 {
-    wide(a) * wide(x)
+    wide(x) + wide(y) * SECOND + wide(z) * THIRD
 }
 
-// Σ(a−1)(x−1) + 1 is Σax + 4 less Σ(a+x), so no number here is negative.
-fn row_times_column(a: u8, b: u8, c: u8, x: u8, y: u8, z: u8) -> u8
-    ensures { λ r. ⌜ r ≡ digitOf (dot (entryOf a) (entryOf b) (entryOf c) (entryOf x) (entryOf y) (entryOf z)) ⌝ }
+fn lanes_times(x: u8, y: u8, z: u8, a: u8) -> u64
+    ensures { λ r. ⌜ (r ≡ lanesOf (x * a) (y * a) (z * a)) × (r ≤ 285983110751911425) ⌝ }
 {
-    let products = term(a, x) + term(b, y) + term(c, z) + 4;
-    let sums = wide(a) + wide(b) + wide(c) + wide(x) + wide(y) + wide(z);
-    if products < sums {
-        return 3;
-    }
-    let digit = products - sums;
-    if digit < 3 {
-        return digit as u8;
-    }
-    3
+    lanes(x, y, z) * wide(a)
 }
 
-// Row (a b c) of a product of rotations.
-fn row_times(a: u8, b: u8, c: u8, s: Rotation) -> Row
-    ensures { λ r. ⌜ r ≡ rowOf (dot (entryOf a) (entryOf b) (entryOf c) (entryOf (s .xx)) (entryOf (s .yx)) (entryOf (s .zx))) (dot (entryOf a) (entryOf b) (entryOf c) (entryOf (s .xy)) (entryOf (s .yy)) (entryOf (s .zy))) (dot (entryOf a) (entryOf b) (entryOf c) (entryOf (s .xz)) (entryOf (s .yz)) (entryOf (s .zz))) ⌝ }
+// The three rows of digits times a column.
+fn rows_times(r: Rotation, a: u8, b: u8, c: u8) -> u64
+    ensures { λ s. ⌜ (s ≡ rowsTimes r a b c) × (s ≤ 857949332255734275) ⌝ }
 {
-    let x = row_times_column(a, b, c, s.xx, s.yx, s.zx);
-    if 3 <= x {
-        return Row::Outside;
-    }
-    let y = row_times_column(a, b, c, s.xy, s.yy, s.zy);
-    if 3 <= y {
-        return Row::Outside;
-    }
-    let z = row_times_column(a, b, c, s.xz, s.yz, s.zz);
-    if 3 <= z {
-        return Row::Outside;
-    }
-    Row::Inside(x, y, z)
+    lanes_times(r.xx, r.yx, r.zx, a)
+        + lanes_times(r.xy, r.yy, r.zy, b)
+        + lanes_times(r.xz, r.yz, r.zz, c)
 }
 
-// An entry is a − 1, so modulo 12 it is a + 11.
-fn entry_times(a: u8, u: u8) -> u32
-    ensures { λ r. ⌜ (r ≡ (a + 11) * u) × (r ≤ 67830) ⌝ }
+// Σ(a−1)(x−1) + 1 is Σax + 4 less Σ(a+x). With 2048 more in each lane no number here is negative, and none borrows from the next.
+fn raised_column(r: Rotation, a: u8, b: u8, c: u8) -> u64
+    ensures { λ s. ⌜ (s ≡ raisedColumn r a b c) × (s ≤ 866974127999877639) ⌝ }
 {
-    (wide(a) + 11) * wide(u)
+    let base = 2052 * EACH - rows_times(r, 1, 1, 1);
+    rows_times(r, a, b, c) + base - (wide(a) + wide(b) + wide(c)) * EACH
 }
 
-// One coordinate of Ru + t modulo 12.
-fn moved(a: u8, b: u8, c: u8, u: Translation, t: u8) -> u8
-    ensures { λ r. ⌜ r ≡ residue (dot (entryOf a) (entryOf b) (entryOf c) (pos (u .x)) (pos (u .y)) (pos (u .z)) +ℤ pos t) ⌝ }
+// Each lane's largest multiple of 4.
+fn fours(n: u64) -> u64
+    ensures { λ r. ⌜ r ≡ foursOf n ⌝ }
 {
-    let sum = entry_times(a, u.x) + entry_times(b, u.y) + entry_times(c, u.z) + wide(t);
-    (sum % 12) as u8
+    n - (n % 4 + n / SECOND % 4 * SECOND + n / THIRD % 4 * THIRD)
+}
+
+// A column of a product of rotations: each lane is 2048, 2049 or 2050 where it and the next number both have the multiple 2048.
+fn column_times(r: Rotation, a: u8, b: u8, c: u8) -> Column
+    ensures { λ s. ⌜ s ≡ columnTimes r a b c ⌝ }
+{
+    let raised = raised_column(r, a, b, c);
+    if fours(raised) != 2048 * EACH {
+        return Column::Outside;
+    }
+    if fours(raised + EACH) != 2048 * EACH {
+        return Column::Outside;
+    }
+    Column::Inside(
+        (raised % 256) as u8,
+        (raised / SECOND % 256) as u8,
+        (raised / THIRD % 256) as u8,
+    )
+}
+
+// Ru + t modulo 12. An entry is a − 1, so modulo 12 it is a + 11.
+fn moved(r: Rotation, u: Translation, t: Translation) -> Translation
+    ensures { λ v. ⌜ v ≡ movedOf r u t ⌝ }
+{
+    let sum = rows_times(r, u.x, u.y, u.z)
+        + lanes(t.x, t.y, t.z)
+        + (wide(u.x) + wide(u.y) + wide(u.z)) * (11 * EACH);
+    Translation {
+        x: (sum % SECOND % 12) as u8,
+        y: (sum / SECOND % SECOND % 12) as u8,
+        z: (sum / THIRD % 12) as u8,
+    }
 }
 
 // Rt modulo 12.
 pub fn rotated(r: Rotation, t: Translation) -> Translation
     ensures { λ u. ⌜ u ≡ rotatedOf r t ⌝ }
 {
-    Translation {
-        x: moved(r.xx, r.xy, r.xz, t, 0),
-        y: moved(r.yx, r.yy, r.yz, t, 0),
-        z: moved(r.zx, r.zy, r.zz, t, 0),
-    }
+    moved(r, t, Translation { x: 0, y: 0, z: 0 })
 }
 
 pub fn mul(f: Operation, g: Operation) -> Product
@@ -120,20 +132,16 @@ pub fn mul(f: Operation, g: Operation) -> Product
 {
     let r = f.rotation;
     let s = g.rotation;
-    let u = g.translation;
-    let t = f.translation;
-    let Row::Inside(xx, xy, xz) = row_times(r.xx, r.xy, r.xz, s) else {
+    let Column::Inside(xx, yx, zx) = column_times(r, s.xx, s.yx, s.zx) else {
         return Product::Outside;
     };
-    let Row::Inside(yx, yy, yz) = row_times(r.yx, r.yy, r.yz, s) else {
+    let Column::Inside(xy, yy, zy) = column_times(r, s.xy, s.yy, s.zy) else {
         return Product::Outside;
     };
-    let Row::Inside(zx, zy, zz) = row_times(r.zx, r.zy, r.zz, s) else {
+    let Column::Inside(xz, yz, zz) = column_times(r, s.xz, s.yz, s.zz) else {
         return Product::Outside;
     };
-    let x = moved(r.xx, r.xy, r.xz, u, t.x);
-    let y = moved(r.yx, r.yy, r.yz, u, t.y);
-    let z = moved(r.zx, r.zy, r.zz, u, t.z);
+    let translation = moved(r, g.translation, f.translation);
     Product::Inside(Operation {
         rotation: Rotation {
             xx,
@@ -146,6 +154,6 @@ pub fn mul(f: Operation, g: Operation) -> Product
             zy,
             zz,
         },
-        translation: Translation { x, y, z },
+        translation,
     })
 }

@@ -1,55 +1,97 @@
--- The unsigned sum and the integer sum have one residue modulo 12.
+-- Each lane is the sum of one coordinate, and has the residue of the integer sum.
 use mathlib.Core.Path.{sym, _∙_, ap}
-use Prim.Native.Nat.{ℕ, _%_}
+use Prim.Native.Nat.{_+_, _*_, _/_, _%_, _<_}
+use native.Mathlib.Omega.{arith}
+use Rattle.laws.specs.Matrix.{act, plus}
 use Rattle.operation.specs.Digits.{moved-residue}
+use Rattle.operation.specs.Lanes.{moved-small, moved-lanes, first-lane, second-lane, third-lane}
+use Rattle.operation.specs.Meaning.{matrixOf, vectorOf}
+use Rattle.operation.specs.Product.{movedOf}
 use borrow.Author.Needs.{needs}
 use Rattle.operation.proofs.product.moved.Statement.{statement}
 use Rattle.operation.proofs.product.moved.Tie as tie
 use Rattle.operation.proofs.product.moved.Reads as reads
 use Rattle.operation.proofs.product.moved.Lts as lts
-use Rattle.operation.proofs.product.entry_times.Reads as entry-times-reads
+use Rattle.operation.proofs.product.lanes.Reads as lanes-reads
+use Rattle.operation.proofs.product.rows_times.Reads as rows-times-reads
 use Rattle.operation.proofs.product.wide.Reads as wide-reads
 
-entry-times-requires : tie.Need-entry-times-requires
-entry-times-requires c κs = search needs
+rows-times-requires : tie.Need-rows-times-requires
+rows-times-requires c κs = search needs
 
-entry-times-requires-2 : tie.Need-entry-times-requires-2
-entry-times-requires-2 c κs = search needs
+lanes-requires : tie.Need-lanes-requires
+lanes-requires c κs = search needs
 
 add-sum : tie.Need-add-sum
 add-sum c = search needs
 
-entry-times-requires-3 : tie.Need-entry-times-requires-3
-entry-times-requires-3 c κs = search needs
+wide-requires : tie.Need-wide-requires
+wide-requires c κs = search needs
+
+wide-requires-2 : tie.Need-wide-requires-2
+wide-requires-2 c κs = search needs
 
 add-sum-2 : tie.Need-add-sum-2
 add-sum-2 c = search needs
 
-wide-requires : tie.Need-wide-requires
-wide-requires c κs = search needs
+wide-requires-3 : tie.Need-wide-requires-3
+wide-requires-3 c κs = search needs
 
 add-sum-3 : tie.Need-add-sum-3
 add-sum-3 c = search needs
 
-cast-result : tie.Need-cast-result
-cast-result c = search needs
+mul-sum : tie.Need-mul-sum
+mul-sum c = search needs
+
+mul-sum-2 : tie.Need-mul-sum-2
+mul-sum-2 c = search needs
+
+add-sum-4 : tie.Need-add-sum-4
+add-sum-4 c = search needs
+
+cast-t15 : tie.Need-cast-t15
+cast-t15 c = search needs
+
+cast-t16 : tie.Need-cast-t16
+cast-t16 c = search needs
+
+cast-t17 : tie.Need-cast-t17
+cast-t17 c = search needs
 
 returns : tie.Need-returns
+unfolding movedOf act plus matrixOf vectorOf
 returns c =
-    let a = c .before .before .before .before .args in
-    ap (λ (n : ℕ). n % 12) (cc (c .wide .ensures, c .before .entry-times3 .ensures .0, c .before .before .entry-times2 .ensures .0, c .before .before .before .entry-times .ensures .0)) ∙
-    sym (moved-residue (a .a) (a .b) (a .c) (a .u .x) (a .u .y) (a .u .z) (a .t))
+    let a = c .before .before .before .before .before .args in
+    let r = a .r in
+    let u = a .u in
+    let t = a .t in
+    let x = r .xx * u .x + r .xy * u .y + r .xz * u .z + t .x + 11 * (u .x + u .y + u .z) in
+    let y = r .yx * u .x + r .yy * u .y + r .yz * u .z + t .y + 11 * (u .x + u .y + u .z) in
+    let z = r .zx * u .x + r .zy * u .y + r .zz * u .z + t .z + 11 * (u .x + u .y + u .z) in
+    let hx : x < 2097152 = moved-small (r .xx) (r .xy) (r .xz) (u .x) (u .y) (u .z) (t .x) (omega arith) (omega arith) (omega arith) (omega arith) (omega arith) (omega arith) (omega arith) in
+    let hy : y < 2097152 = moved-small (r .yx) (r .yy) (r .yz) (u .x) (u .y) (u .z) (t .y) (omega arith) (omega arith) (omega arith) (omega arith) (omega arith) (omega arith) (omega arith) in
+    let sum = (λ i. c .before .before .before .before .rows-times .ensures .0 i + c .before .before .before .lanes .ensures i + (c .before .before .wide .ensures i + c .before .wide2 .ensures i + c .wide3 .ensures i) * 48378534690827) ∙ moved-lanes _ _ _ _ _ _ _ in
+    let px = ap (λ n. n % 2097152 % 12) sum ∙ ap (λ n. n % 12) (first-lane x y z hx hy) ∙ sym (moved-residue (r .xx) (r .xy) (r .xz) (u .x) (u .y) (u .z) (t .x)) in
+    let py = ap (λ n. n / 2097152 % 2097152 % 12) sum ∙ ap (λ n. n % 12) (second-lane x y z hx hy) ∙ sym (moved-residue (r .yx) (r .yy) (r .yz) (u .x) (u .y) (u .z) (t .y)) in
+    let pz = ap (λ n. n / 4398046511104 % 12) sum ∙ ap (λ n. n % 12) (third-lane x y z hx hy) ∙ sym (moved-residue (r .zx) (r .zy) (r .zz) (u .x) (u .y) (u .z) (t .z)) in
+    λ i. record { x = px i; y = py i; z = pz i }
 
 pub moved-spec : {M : Type 1} → statement M
 moved-spec =
     tie.close
     (tie.spec
-    entry-times-requires
-    entry-times-requires-2
+    rows-times-requires
+    lanes-requires
     add-sum
-    entry-times-requires-3
-    add-sum-2
     wide-requires
+    wide-requires-2
+    add-sum-2
+    wide-requires-3
     add-sum-3
-    cast-result
+    mul-sum
+    mul-sum-2
+    add-sum-4
+    cast-t15
+    cast-t16
+    cast-t17
     returns)
