@@ -84,7 +84,7 @@ def read_back(calls, record, noise):
 
 
 def judged(calls, buffer, noise):
-    """A buffer that may hold no record: the model's verdict on it, by every entry that only reads or copies it."""
+    """A buffer that may hold no record: the model's verdict on it, by every entry that only reads or copies it; answers that verdict."""
     said = model.outcome(model.read_record, buffer)
     calls.call("record_order", buffer, gives=answer_of(said, lambda group: len(group[1])))
     calls.call("record_letter", buffer, gives=answer_of(said, lambda group: ord(group[0])))
@@ -98,6 +98,7 @@ def judged(calls, buffer, noise):
     calls.call("record_copy", buffer, noise.bytes(5), 0, gives=no_room)
     calls.call("record_copy", buffer, lent, BEYOND[noise.below(5)], gives=no_room)
     calls.call("record_copy", buffer, None, 0, gives=no_room)
+    return said
 
 
 def changed(record, noise):

@@ -6,11 +6,14 @@
 PROGRAM is made from tests/entries.c, HARNESS by oracle/build.sh; tests/compare_rust.sh makes both and runs this.
 
 - Symbols: the database, the picked ones, every sign and matrix under every shift, and random and damaged ones. An accepted symbol has
-  the Rust's operations in the Rust's order, each double the bits of its twelfth; refusals, letters and records are the model's.
+  the Rust's operations in the Rust's order, each double the bits of its twelfth; refusals, letters and records are the model's. Where 01
+  refuses, what the Rust says is nothing that docs/DIFFERENCES.md does not list.
 - Records: damaged ones, by the model: the verdict, the bytes that a copy writes and those that it does not.
 - Tables: of symbols in list order and in record order, made from the Rust's own lists, and all groups of order up to 48 under fresh
-  labels: subgroups, classes, conjugates, normalizers and permutations are the Rust's. Damaged tables: the verdict is the model's, and
-  the Rust makes a group of a table exactly where 01 sees an identity and inverses.
+  labels: subgroups, classes, conjugates, normalizers and permutations are the Rust's. Small and damaged tables, and orders at and beyond
+  the bounds: the verdict is the model's, the Rust makes a group of a table exactly where 01 sees an identity and inverses, and what is a
+  group after all has the Rust's subgroups.
+- Whatever is refused leaves every lent list as it was.
 
 What is random has fixed seeds. Prints a line for each kind and at the end 'N compared, M differences'.
 """
@@ -38,12 +41,25 @@ RELABELLINGS = 2
 BATCH = 5000
 MOST_RECORD = 245
 SAMPLE = compare_tables.Sample(4, 2, 6)
+FEW = compare_tables.Sample(1, 1, 2)
+MOST_LENT = 40
 
 
 def batches(items):
     items = iter(items)
     while batch := list(itertools.islice(items, BATCH)):
         yield batch
+
+
+def unwritten(calls, source, refusal, noise):
+    """A source that names no group: one entry on whole groups and one on subgroups, with lists that must stay as they are."""
+    lent, other = noise.bytes(noise.below(MOST_LENT)), noise.bytes(noise.below(MOST_LENT))
+    source.call(calls, noise.chance.choice(("subgroups", "classes")), lent, gives=refusal)
+    number, element = noise.below(2 ** 48), noise.below(64)
+    if noise.below(2):
+        source.call(calls, "conjugates", number, lent, other, gives=refusal)
+    else:
+        source.call(calls, "permutation", number, element, other, gives=refusal)
 
 
 # Symbols ------------------------------------------------------------------------------------------------------------
@@ -55,11 +71,14 @@ def symbol_texts(database):
     yield from cases.damaged_symbols(database, RANDOM_SYMBOLS, SEED)
 
 
-def one_symbol(calls, text, said, answer, noise):
+def one_symbol(calls, text, said, answer, generators, noise):
     lent = noise.bytes(MOST_RECORD + 9)
     if isinstance(said[0], int):
         compare_symbols.refused(calls, text, packed(*said))
         calls.call("symbol_record", text, lent, noise.below(9), gives=packed(*said))
+        unwritten(calls, Source("symbol", text), packed(*said), noise)
+        kind, listed = compare.sort_symbol(text, said, answer, generators)
+        calls.judge(listed, lambda: (repr(text), "the Rust: " + answer[:80], kind + ", which is listed"))
         return
     letter, operations = said
     try:
@@ -78,10 +97,10 @@ def symbols(calls, harness, noise):
     """Answers how many symbols were asked, and the records of those that are accepted."""
     asked, records = 0, {}
     for texts in batches(symbol_texts(compare.database(harness))):
-        answers = compare.ask(harness, ["operations " + compare.hex_of(text) for text in texts])
-        for text, answer in zip(texts, answers):
+        answers = (compare.ask(harness, [command + compare.hex_of(text) for text in texts]) for command in ("operations ", "generators "))
+        for text, answer, generators in zip(texts, *answers):
             said = model.outcome(model.group_of_symbol, text)
-            one_symbol(calls, text, said, answer, noise)
+            one_symbol(calls, text, said, answer, generators, noise)
             if not isinstance(said[0], int):
                 records.setdefault(model.record(*said))
         asked += len(texts)
@@ -96,7 +115,9 @@ def records(calls, known, noise):
     buffers = cases.damaged_records(small, DAMAGED_RECORDS, SEED)
     buffers += cases.damaged_records(known, DAMAGED_RECORDS // 10, SEED + 1)
     for buffer in buffers:
-        compare_records.judged(calls, buffer, noise)
+        said = compare_records.judged(calls, buffer, noise)
+        if isinstance(said[0], int):
+            unwritten(calls, Source("record", buffer), packed(*said), noise)
     return len(buffers)
 
 
@@ -137,11 +158,16 @@ def relabelled_tables(calls, harness, noise):
 
 
 def damaged_tables(calls, harness, noise):
+    compare_tables.refused_orders(calls, noise)
     asked = 0
     for tables in batches(itertools.chain(compare_tables.small_tables(), compare_tables.damaged_tables(noise))):
         questions = [make_recorded.table_question("table", order, entries) for order, entries in tables]
         for (order, entries), answer in zip(tables, compare.ask(harness, questions)):
-            number = compare_tables.judged(calls, order, entries)
+            number, source = compare_tables.judged(calls, order, entries), Source("table", order, entries)
+            if number:
+                unwritten(calls, source, packed(number), noise)
+            else:
+                compare_tables.replay_group(calls, FEW, source, rust_tables(harness, "", order, entries), noise)
             # The Rust is given rows, not an order: it can be asked only about tables that have their bytes.
             if 1 <= order <= model.MOST_OPERATIONS and len(entries) == order * order:
                 calls.judge((answer == "none") == (21 <= number <= 24),

@@ -3,8 +3,8 @@
 #
 #   tests/compare_rust.sh RUST_SOURCE_FOLDER
 #
-# RUST_SOURCE_FOLDER is moyo 0.21.0's src folder. Beyond the kit it needs rustc, python3 and a C compiler for x86-64, elsewhere than on
-# x86-64 also an emulator. The last line is 'N compared, 0 differences', or differences are listed and the exit status is 1.
+# RUST_SOURCE_FOLDER is moyo 0.21.0's src folder. What is needed beyond it and the kit is installed. The last line is 'N compared, 0 differences';
+# or differences are listed, and the exit status is 1.
 set -euo pipefail
 
 if [ $# -ne 1 ]; then
@@ -13,18 +13,10 @@ if [ $# -ne 1 ]; then
 fi
 rust=$(cd "$1" && pwd)
 cd "$(dirname "$0")/.."
-case $(uname -m) in
-x86_64) compiler=gcc emulator="" ;;
-*) compiler=x86_64-linux-gnu-gcc emulator=qemu-x86_64 ;;
-esac
-work=$(mktemp -d)
-trap 'rm -rf "$work"' EXIT
+. tests/needed.sh
+need_rustc
 
-oracle/build.sh "$rust" "$work/oracle"
-rt staticlib calls >"$work/library" 2>&1 || {
-    cat "$work/library"
-    exit 1
-}
-"$compiler" -O1 -Wall -static tests/entries.c target/staticlib/libcalls.a -o "$work/entries"
-export PYTHONDONTWRITEBYTECODE=1
-python3 tests/compare_rust.py "$work/entries" "$work/oracle/harness" --emulator "$emulator"
+oracle/build.sh "$rust" "$scratch/oracle"
+quietly rt staticlib calls
+"${tools}gcc" -O1 -Wall -static tests/entries.c target/staticlib/libcalls.a -o "$scratch/entries"
+python3 tests/compare_rust.py "$scratch/entries" "$scratch/oracle/harness" --emulator "$emulator"
