@@ -1,4 +1,4 @@
--- What the entries of the other rooms say where C asks for a part of it: a symbol's letter, a record's order and letter, and what a table answers.
+-- What the entries of the other rooms say where C asks for a part of it: a symbol's letter, a record's order and letter, and what is answered on groups.
 use mathlib.Core.List.{List}
 use Prim.Native.Nat.{ℕ}
 use lib.ListN.{length}
@@ -14,6 +14,9 @@ use Rattle.group_record.specs.declared.RecordGroup.{RecordGroup}
 use Rattle.finite_group.specs.Answers as table
 use Rattle.finite_group.specs.declared.Answer as table-answer
 use Rattle.finite_group.specs.declared.Answer.the-variants.{Value, Refused}
+use Rattle.motion_group.specs.Answers as motions
+use Rattle.motion_group.specs.declared.Answer as motion-answer
+use Rattle.motion_group.specs.declared.Answer.the-variants as motion-answers
 use Rattle.calls.specs.Packing.{mapped}
 
 -- The letter of a symbol's group.
@@ -42,3 +45,8 @@ recordOrder g = mapped listLength (groupAnswer g)
 abbrev pub tableAnswer : table-answer.Answer → Answer ℕ Nothing
 tableAnswer (Value n) = given n
 tableAnswer (Refused r) = refused (table.numberOf r) (table.placeOf r) tt
+
+-- What is answered on the group of a symbol or a record.
+abbrev pub motionAnswer : motion-answer.Answer → Answer ℕ Nothing
+motionAnswer (motion-answers.Value n) = given n
+motionAnswer (motion-answers.Refused r) = refused (motions.numberOf r) (motions.placeOf r) tt

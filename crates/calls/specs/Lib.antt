@@ -4,4 +4,4 @@ pub mod Answers
 pub mod SymbolBounds
 pub mod RecordBounds
 pub mod TableBounds
-pub mod BuiltBounds
+pub mod MotionBounds

@@ -1,4 +1,4 @@
--- What is answered on a group of order at most 48 can be packed: elements and orders are at most 48, sets are below 2⁴⁸, and a list of
+-- What is answered on the bytes of a table can be packed: elements and orders are at most 48, sets are below 2⁴⁸, and a list of
 -- different sets is no longer than that.
 use mathlib.Core.Path.{_≡_, refl, sym, _∙_, ap, subst}
 use mathlib.Core.Bool.{Bool, true, false, cond, _&&_}
@@ -11,11 +11,10 @@ use lib.Dec.{eqb, ltb}
 use lib.ListN.{length}
 use lib.Pow.{pow-lt}
 use borrow.Author.Tests.{ltb-true}
-use Rattle.symbol_group.specs.Refusals as symbol
 use Rattle.laws.specs.ListOrder.{earlier}
 use Rattle.laws.specs.Sets.{setOf-below}
 use Rattle.laws.specs.Sorted.{keep, sort, sort-length}
-use Rattle.finite_group.specs.Answers.{onGroup, listAnswer, subgroupsAnswer, classesAnswer, conjugateAnswer, normalizerAnswer, permutationAnswer, conjugatesAnswer, numberOf, placeOf}
+use Rattle.finite_group.specs.Answers.{onGroup, listAnswer, orderAnswer, identityAnswer, subgroupsAnswer, classesAnswer, conjugateAnswer, conjugateEntry, normalizerAnswer, normalizerEntry, permutationAnswer, permutationEntry, conjugatesAnswer, conjugatesEntry, numberOf, placeOf}
 use Rattle.subgroup_laws.specs.Bounded.{and-both}
 use Rattle.finite_group.specs.ConjugateLists.{tooShort}
 use Rattle.subgroup_laws.specs.Conjugates.{othersOf, isOther, conjugatesOf}
@@ -31,10 +30,9 @@ use Rattle.finite_group.specs.TableVerdict.{Verdict, order-refused, cells-refus
 use Rattle.finite_group.specs.declared.Answer.{Answer}
 use Rattle.finite_group.specs.declared.Answer.the-variants.{Value, Refused}
 use Rattle.finite_group.specs.declared.Refusal.{Refusal}
-use Rattle.finite_group.specs.declared.Refusal.the-variants.{Symbol, Record, Order, Cells, Identity, Inverse, Associativity, Slots, Subgroup, Element, Normalizer}
+use Rattle.finite_group.specs.declared.Refusal.the-variants.{Order, Cells, Identity, Inverse, Associativity, Slots, Subgroup, Element, Normalizer}
 use Rattle.calls.specs.Answers.{tableAnswer}
 use Rattle.calls.specs.Packing.{packed, Told, near, Within, Low}
-use Rattle.calls.specs.RecordBounds.{record-told}
 
 -- An answer that can be packed.
 abbrev pub Packable : Answer → Type 0
@@ -48,33 +46,18 @@ pub packed-as : {r : ℕ} {a b : Answer} → r ≡ packed (tableAnswer a) → a 
 packed-as p e = p ∙ ap (λ (a : Answer). packed (tableAnswer a)) e
 
 -- ---- refusals
--- What has to be known of a refusal before it can be told: nothing but of a symbol's, which may be at any place.
-abbrev pub Known : Refusal → Type 0
-Known (Symbol r) = Told (symbol.numberOf r) (symbol.placeOf r)
-Known (Record r) = Unit {0}
-Known Order = Unit {0}
-Known Cells = Unit {0}
-Known Identity = Unit {0}
-Known Inverse = Unit {0}
-Known Associativity = Unit {0}
-Known Slots = Unit {0}
-Known Subgroup = Unit {0}
-Known Element = Unit {0}
-Known Normalizer = Unit {0}
-
-pub refusal-told : (r : Refusal) → Known r → Told (numberOf r) (placeOf r)
+-- 21 to 29, at 0.
+pub refusal-told : (r : Refusal) → Told (numberOf r) (placeOf r)
 unfolding numberOf placeOf
-refusal-told (Symbol r) k = k
-refusal-told (Record r) k = record-told r
-refusal-told Order k = near (omega arith) (omega arith) (omega arith)
-refusal-told Cells k = near (omega arith) (omega arith) (omega arith)
-refusal-told Identity k = near (omega arith) (omega arith) (omega arith)
-refusal-told Inverse k = near (omega arith) (omega arith) (omega arith)
-refusal-told Associativity k = near (omega arith) (omega arith) (omega arith)
-refusal-told Slots k = near (omega arith) (omega arith) (omega arith)
-refusal-told Subgroup k = near (omega arith) (omega arith) (omega arith)
-refusal-told Element k = near (omega arith) (omega arith) (omega arith)
-refusal-told Normalizer k = near (omega arith) (omega arith) (omega arith)
+refusal-told Order = near (omega arith) (omega arith) (omega arith)
+refusal-told Cells = near (omega arith) (omega arith) (omega arith)
+refusal-told Identity = near (omega arith) (omega arith) (omega arith)
+refusal-told Inverse = near (omega arith) (omega arith) (omega arith)
+refusal-told Associativity = near (omega arith) (omega arith) (omega arith)
+refusal-told Slots = near (omega arith) (omega arith) (omega arith)
+refusal-told Subgroup = near (omega arith) (omega arith) (omega arith)
+refusal-told Element = near (omega arith) (omega arith) (omega arith)
+refusal-told Normalizer = near (omega arith) (omega arith) (omega arith)
 
 -- Either answer of a test, where the test's outcome may be used.
 either : (test : Bool) (a b : Answer) → (test ≡ true → Packable a) → Packable b → Packable (cond test a b)
@@ -118,7 +101,7 @@ module _ (n : ℕ) (times : ℕ → ℕ → ℕ) (e : ℕ) (G : Group n times e)
   unfolding listAnswer
   list-packable p b =
       either (ltb (length b / 8) (length (listed n p))) (Refused Slots) (Value (length (listed n p)))
-      (λ _. refusal-told Slots tt) (omega (arith, listed-short n p, few-sets n limit))
+      (λ _. refusal-told Slots) (omega (arith, listed-short n p, few-sets n limit))
 
   order-packable : Packable (Value n)
   order-packable = omega arith
@@ -131,14 +114,14 @@ module _ (n : ℕ) (times : ℕ → ℕ → ℕ) (e : ℕ) (G : Group n times e)
   conjugate-packable s g =
       either (isSubgroup n times e s) (cond (ltb g n) (Value (conjugateOf n times e s g)) (Refused Element)) (Refused Subgroup)
       (λ _. either (ltb g n) (Value (conjugateOf n times e s g)) (Refused Element)
-      (λ _. set-low (conjugateOf n times e s g) (conjugate-below n times e G s g)) (refusal-told Element tt))
-      (refusal-told Subgroup tt)
+      (λ _. set-low (conjugateOf n times e s g) (conjugate-below n times e G s g)) (refusal-told Element))
+      (refusal-told Subgroup)
 
   normalizer-packable : (s : ℕ) → Packable (normalizerAnswer n times e s)
   unfolding normalizerAnswer normalizerOf
   normalizer-packable s =
       either (isSubgroup n times e s) (Value (normalizerOf n times e s)) (Refused Subgroup)
-      (λ _. set-low (normalizerOf n times e s) (setOf-below n (λ g. eqb (conjugateOf n times e s g) s))) (refusal-told Subgroup tt)
+      (λ _. set-low (normalizerOf n times e s) (setOf-below n (λ g. eqb (conjugateOf n times e s g) s))) (refusal-told Subgroup)
 
   -- A subgroup has at most as many members as the group.
   members-few : (s : ℕ) → isSubgroup n times e s ≡ true → ones s ≤ n
@@ -153,10 +136,10 @@ module _ (n : ℕ) (times : ℕ → ℕ → ℕ) (e : ℕ) (G : Group n times e)
       either (isSubgroup n times e s) (cond (ltb g n) normal (Refused Element)) (Refused Subgroup)
       (λ t. either (ltb g n) normal (Refused Element)
       (λ _. either (eqb (conjugateOf n times e s g) s) slots (Refused Normalizer)
-      (λ _. either (ltb (length b) (ones s)) (Refused Slots) (Value (ones s)) (λ _. refusal-told Slots tt) (omega (arith, members-few s t)))
-      (refusal-told Normalizer tt))
-      (refusal-told Element tt))
-      (refusal-told Subgroup tt)
+      (λ _. either (ltb (length b) (ones s)) (Refused Slots) (Value (ones s)) (λ _. refusal-told Slots) (omega (arith, members-few s t)))
+      (refusal-told Normalizer))
+      (refusal-told Element))
+      (refusal-told Subgroup)
 
   conjugates-packable : (s : ℕ) (b c : List ℕ) → Packable (conjugatesAnswer n times e s b c)
   unfolding conjugatesAnswer conjugatesOf othersOf
@@ -164,58 +147,55 @@ module _ (n : ℕ) (times : ℕ → ℕ → ℕ) (e : ℕ) (G : Group n times e)
       let fits = cond (tooShort n times e s b c) (Refused Slots) (Value (length (conjugatesOf n times e s))) in
       either (isSubgroup n times e s) fits (Refused Subgroup)
       (λ _. either (tooShort n times e s b c) (Refused Slots) (Value (length (conjugatesOf n times e s)))
-      (λ _. refusal-told Slots tt) (omega (arith, listed-short n (isOther n times e s), few-sets n limit)))
-      (refusal-told Subgroup tt)
+      (λ _. refusal-told Slots) (omega (arith, listed-short n (isOther n times e s), few-sets n limit)))
+      (refusal-told Subgroup)
 
--- ---- on whatever the group was given by
--- What is packable on every group of at most 48 elements is packable on what was given, a group or not.
-pub record OnGroups (n : ℕ) (times : ℕ → ℕ → ℕ) (on : (ℕ → Answer) → Answer) : Type 0 where
-  pub packable : (f : ℕ → Answer) → ((e : ℕ) → Group n times e → n ≤ 48 → Packable (f e)) → Packable (on f)
+-- ---- on the bytes of a table
+module _ (n : ℕ) (t : List ℕ) where
+  -- What is packable on every group of at most 48 elements is packable on them, a group's or not.
+  on-table : (f : ℕ → Answer) → ((e : ℕ) → Group n (product n t) e → n ≤ 48 → Packable (f e)) → Packable (onGroup (checkOf n t) f)
+  on-table f h = by-verdict (checked-verdict n t)
+    where
+      by-verdict : {c : _} → Verdict n t c → Packable (onGroup c f)
+      by-verdict (order-refused k) = refusal-told Order
+      by-verdict (cells-refused k l m) = refusal-told Cells
+      by-verdict (identity-refused k C m) = refusal-told Identity
+      by-verdict (inverse-refused k C e I x l m) = refusal-told Inverse
+      by-verdict (associativity-refused k C e I J x y z l m o p) = refusal-told Associativity
+      by-verdict (accepted k C e G) = h e G (C .limit)
 
-module _ {n : ℕ} {times : ℕ → ℕ → ℕ} {on : (ℕ → Answer) → Answer} (O : OnGroups n times on) where
-  pub order-within : Packable (on (λ e. Value n))
-  order-within = O .packable (λ e. Value n) (λ e G k. order-packable n times e G k)
+  pub table-order : Packable (orderAnswer n t)
+  table-order = on-table (λ e. Value n) (λ e G k. order-packable n (product n t) e G k)
 
-  pub identity-within : Packable (on (λ e. Value e))
-  identity-within = O .packable (λ e. Value e) (λ e G k. identity-packable n times e G k)
+  pub table-identity : Packable (identityAnswer n t)
+  table-identity = on-table (λ e. Value e) (λ e G k. identity-packable n (product n t) e G k)
 
-  -- The subgroups, or the first of each class.
-  pub list-within : (classes : Bool) (b : List ℕ) → Packable (on (λ e. listAnswer (listed n (chosen n times e classes)) b))
-  list-within classes b =
-      O .packable (λ e. listAnswer (listed n (chosen n times e classes)) b)
-      (λ e G k. list-packable n times e G k (chosen n times e classes) b)
+  pub table-subgroups : (b : List ℕ) → Packable (subgroupsAnswer n t b)
+  unfolding subgroupsOf
+  table-subgroups b =
+      on-table (λ e. listAnswer (subgroupsOf n (product n t) e) b)
+      (λ e G k. list-packable n (product n t) e G k (chosen n (product n t) e false) b)
 
-  pub conjugate-within : (s g : ℕ) → Packable (on (λ e. conjugateAnswer n times e s g))
-  conjugate-within s g =
-      O .packable (λ e. conjugateAnswer n times e s g) (λ e G k. conjugate-packable n times e G k s g)
+  pub table-classes : (b : List ℕ) → Packable (classesAnswer n t b)
+  unfolding representativesOf
+  table-classes b =
+      on-table (λ e. listAnswer (representativesOf n (product n t) e) b)
+      (λ e G k. list-packable n (product n t) e G k (chosen n (product n t) e true) b)
 
-  pub conjugates-within : (s : ℕ) (b c : List ℕ) → Packable (on (λ e. conjugatesAnswer n times e s b c))
-  conjugates-within s b c =
-      O .packable (λ e. conjugatesAnswer n times e s b c) (λ e G k. conjugates-packable n times e G k s b c)
+  pub table-conjugate : (s g : ℕ) → Packable (conjugateEntry n t s g)
+  table-conjugate s g =
+      on-table (λ e. conjugateAnswer n (product n t) e s g) (λ e G k. conjugate-packable n (product n t) e G k s g)
 
-  pub normalizer-within : (s : ℕ) → Packable (on (λ e. normalizerAnswer n times e s))
-  normalizer-within s = O .packable (λ e. normalizerAnswer n times e s) (λ e G k. normalizer-packable n times e G k s)
+  pub table-conjugates : (s : ℕ) (b c : List ℕ) → Packable (conjugatesEntry n t s b c)
+  table-conjugates s b c =
+      on-table (λ e. conjugatesAnswer n (product n t) e s b c)
+      (λ e G k. conjugates-packable n (product n t) e G k s b c)
 
-  pub permutation-within : (s g : ℕ) (b : List ℕ) → Packable (on (λ e. permutationAnswer n times e s g b))
-  permutation-within s g b =
-      O .packable (λ e. permutationAnswer n times e s g b) (λ e G k. permutation-packable n times e G k s g b)
+  pub table-normalizer : (s : ℕ) → Packable (normalizerEntry n t s)
+  table-normalizer s =
+      on-table (λ e. normalizerAnswer n (product n t) e s) (λ e G k. normalizer-packable n (product n t) e G k s)
 
--- The bytes of a table.
-pub on-table : (n : ℕ) (t : List ℕ) → OnGroups n (product n t) (onGroup (checkOf n t))
-on-table n t = record { packable = λ f h. by-verdict f h (checked-verdict n t) }
-  where
-    by-verdict : (f : ℕ → Answer) → ((e : ℕ) → Group n (product n t) e → n ≤ 48 → Packable (f e)) → {c : _} → Verdict n t c → Packable (onGroup c f)
-    by-verdict f h (order-refused k) = refusal-told Order tt
-    by-verdict f h (cells-refused k l m) = refusal-told Cells tt
-    by-verdict f h (identity-refused k C m) = refusal-told Identity tt
-    by-verdict f h (inverse-refused k C e I x l m) = refusal-told Inverse tt
-    by-verdict f h (associativity-refused k C e I J x y z l m o p) = refusal-told Associativity tt
-    by-verdict f h (accepted k C e G) = h e G (C .limit)
-
-pub table-subgroups : (n : ℕ) (t b : List ℕ) → Packable (subgroupsAnswer n t b)
-unfolding subgroupsOf
-table-subgroups n t b = list-within (on-table n t) false b
-
-pub table-classes : (n : ℕ) (t b : List ℕ) → Packable (classesAnswer n t b)
-unfolding representativesOf
-table-classes n t b = list-within (on-table n t) true b
+  pub table-permutation : (s g : ℕ) (b : List ℕ) → Packable (permutationEntry n t s g b)
+  table-permutation s g b =
+      on-table (λ e. permutationAnswer n (product n t) e s g b)
+      (λ e G k. permutation-packable n (product n t) e G k s g b)

@@ -1,39 +1,41 @@
 // What is asked of the group that a record lists.
 ghost use mathlib.Core.Path.{_≡_};
-ghost use mathlib.Core.Bool.{true, false};
-ghost use Rattle.finite_group.specs.Built.{recordBuilt, identityIn, listAnswerIn, listBytesIn, conjugateIn, normalizerIn, permutationIn, positionsIn, conjugatesIn, conjugateBytesIn, conjugatorBytesIn};
-ghost use Rattle.calls.specs.Answers.{tableAnswer};
+ghost use mathlib.Core.List.{List};
+ghost use Prim.Native.Nat.{ℕ};
+ghost use Rattle.finite_group.specs.Answers.{identityAnswer, subgroupsAnswer, subgroupsBytes, classesAnswer, classesBytes, conjugateEntry, normalizerEntry, permutationEntry, permutationList, conjugatesEntry, conjugatesList, conjugatorsList};
+ghost use Rattle.motion_group.specs.Answers.{onRecord, bytesOnRecord};
+ghost use Rattle.calls.specs.Answers.{motionAnswer};
 ghost use Rattle.calls.specs.Packing.{packed};
-use super::table::answered;
+use super::motion::answered;
 
 #[no_mangle]
 pub extern "C" fn symmetry_record_identity(bytes: &[u8]) -> u64
-    ensures { λ r. ⌜ r ≡ packed (tableAnswer (identityIn (recordBuilt (now (bytes .entry))))) ⌝ }
+    ensures { λ r. ⌜ r ≡ packed (motionAnswer (onRecord (now (bytes .entry)) (λ (n : ℕ) (t : List ℕ). identityAnswer n t))) ⌝ }
 {
-    answered(finite_group::record::identity(bytes))
+    answered(motion_group::record::identity(bytes))
 }
 
 #[no_mangle]
 pub extern "C" fn symmetry_record_subgroups(bytes: &[u8], sets: &mut [u8]) -> u64
-    ensures { λ r. ⌜ (r ≡ packed (tableAnswer (listAnswerIn (recordBuilt (now (bytes .entry))) false (now (sets .entry)))))
-        × (now (sets .exit) ≡ listBytesIn (recordBuilt (now (bytes .entry))) false (now (sets .entry))) ⌝ }
+    ensures { λ r. ⌜ (r ≡ packed (motionAnswer (onRecord (now (bytes .entry)) (λ (n : ℕ) (t : List ℕ). subgroupsAnswer n t (now (sets .entry))))))
+        × (now (sets .exit) ≡ bytesOnRecord (now (bytes .entry)) (now (sets .entry)) (λ (n : ℕ) (t : List ℕ). subgroupsBytes n t (now (sets .entry)))) ⌝ }
 {
-    answered(finite_group::record::enumerate_subgroups(bytes, sets))
+    answered(motion_group::record::enumerate_subgroups(bytes, sets))
 }
 
 #[no_mangle]
 pub extern "C" fn symmetry_record_classes(bytes: &[u8], sets: &mut [u8]) -> u64
-    ensures { λ r. ⌜ (r ≡ packed (tableAnswer (listAnswerIn (recordBuilt (now (bytes .entry))) true (now (sets .entry)))))
-        × (now (sets .exit) ≡ listBytesIn (recordBuilt (now (bytes .entry))) true (now (sets .entry))) ⌝ }
+    ensures { λ r. ⌜ (r ≡ packed (motionAnswer (onRecord (now (bytes .entry)) (λ (n : ℕ) (t : List ℕ). classesAnswer n t (now (sets .entry))))))
+        × (now (sets .exit) ≡ bytesOnRecord (now (bytes .entry)) (now (sets .entry)) (λ (n : ℕ) (t : List ℕ). classesBytes n t (now (sets .entry)))) ⌝ }
 {
-    answered(finite_group::record::conjugacy_classes(bytes, sets))
+    answered(motion_group::record::conjugacy_classes(bytes, sets))
 }
 
 #[no_mangle]
 pub extern "C" fn symmetry_record_conjugate(bytes: &[u8], set: u64, element: u64) -> u64
-    ensures { λ r. ⌜ r ≡ packed (tableAnswer (conjugateIn (recordBuilt (now (bytes .entry))) set element)) ⌝ }
+    ensures { λ r. ⌜ r ≡ packed (motionAnswer (onRecord (now (bytes .entry)) (λ (n : ℕ) (t : List ℕ). conjugateEntry n t set element))) ⌝ }
 {
-    answered(finite_group::record::conjugate(bytes, set, element as usize))
+    answered(motion_group::record::conjugate(bytes, set, element as usize))
 }
 
 #[no_mangle]
@@ -43,18 +45,18 @@ pub extern "C" fn symmetry_record_conjugates(
     sets: &mut [u8],
     conjugators: &mut [u8],
 ) -> u64
-    ensures { λ r. ⌜ (r ≡ packed (tableAnswer (conjugatesIn (recordBuilt (now (bytes .entry))) set (now (sets .entry)) (now (conjugators .entry)))))
-        × (now (sets .exit) ≡ conjugateBytesIn (recordBuilt (now (bytes .entry))) set (now (sets .entry)) (now (conjugators .entry)))
-        × (now (conjugators .exit) ≡ conjugatorBytesIn (recordBuilt (now (bytes .entry))) set (now (sets .entry)) (now (conjugators .entry))) ⌝ }
+    ensures { λ r. ⌜ (r ≡ packed (motionAnswer (onRecord (now (bytes .entry)) (λ (n : ℕ) (t : List ℕ). conjugatesEntry n t set (now (sets .entry)) (now (conjugators .entry))))))
+        × (now (sets .exit) ≡ bytesOnRecord (now (bytes .entry)) (now (sets .entry)) (λ (n : ℕ) (t : List ℕ). conjugatesList n t set (now (sets .entry)) (now (conjugators .entry))))
+        × (now (conjugators .exit) ≡ bytesOnRecord (now (bytes .entry)) (now (conjugators .entry)) (λ (n : ℕ) (t : List ℕ). conjugatorsList n t set (now (sets .entry)) (now (conjugators .entry)))) ⌝ }
 {
-    answered(finite_group::record::conjugates(bytes, set, sets, conjugators))
+    answered(motion_group::record::conjugates(bytes, set, sets, conjugators))
 }
 
 #[no_mangle]
 pub extern "C" fn symmetry_record_normalizer(bytes: &[u8], set: u64) -> u64
-    ensures { λ r. ⌜ r ≡ packed (tableAnswer (normalizerIn (recordBuilt (now (bytes .entry))) set)) ⌝ }
+    ensures { λ r. ⌜ r ≡ packed (motionAnswer (onRecord (now (bytes .entry)) (λ (n : ℕ) (t : List ℕ). normalizerEntry n t set))) ⌝ }
 {
-    answered(finite_group::record::normalizer(bytes, set))
+    answered(motion_group::record::normalizer(bytes, set))
 }
 
 #[no_mangle]
@@ -64,8 +66,8 @@ pub extern "C" fn symmetry_record_permutation(
     element: u64,
     positions: &mut [u8],
 ) -> u64
-    ensures { λ r. ⌜ (r ≡ packed (tableAnswer (permutationIn (recordBuilt (now (bytes .entry))) set element (now (positions .entry)))))
-        × (now (positions .exit) ≡ positionsIn (recordBuilt (now (bytes .entry))) set element (now (positions .entry))) ⌝ }
+    ensures { λ r. ⌜ (r ≡ packed (motionAnswer (onRecord (now (bytes .entry)) (λ (n : ℕ) (t : List ℕ). permutationEntry n t set element (now (positions .entry))))))
+        × (now (positions .exit) ≡ bytesOnRecord (now (bytes .entry)) (now (positions .entry)) (λ (n : ℕ) (t : List ℕ). permutationList n t set element (now (positions .entry)))) ⌝ }
 {
-    answered(finite_group::record::normalizer_action(bytes, set, element as usize, positions))
+    answered(motion_group::record::normalizer_action(bytes, set, element as usize, positions))
 }

@@ -1,39 +1,41 @@
 // What is asked of the group that a symbol's text spells.
 ghost use mathlib.Core.Path.{_≡_};
-ghost use mathlib.Core.Bool.{true, false};
-ghost use Rattle.finite_group.specs.Built.{symbolBuilt, identityIn, listAnswerIn, listBytesIn, conjugateIn, normalizerIn, permutationIn, positionsIn, conjugatesIn, conjugateBytesIn, conjugatorBytesIn};
-ghost use Rattle.calls.specs.Answers.{tableAnswer};
+ghost use mathlib.Core.List.{List};
+ghost use Prim.Native.Nat.{ℕ};
+ghost use Rattle.finite_group.specs.Answers.{identityAnswer, subgroupsAnswer, subgroupsBytes, classesAnswer, classesBytes, conjugateEntry, normalizerEntry, permutationEntry, permutationList, conjugatesEntry, conjugatesList, conjugatorsList};
+ghost use Rattle.motion_group.specs.Answers.{onSymbol, bytesOnSymbol};
+ghost use Rattle.calls.specs.Answers.{motionAnswer};
 ghost use Rattle.calls.specs.Packing.{packed};
-use super::table::answered;
+use super::motion::answered;
 
 #[no_mangle]
 pub extern "C" fn symmetry_symbol_identity(text: &[u8]) -> u64
-    ensures { λ r. ⌜ r ≡ packed (tableAnswer (identityIn (symbolBuilt (now (text .entry))))) ⌝ }
+    ensures { λ r. ⌜ r ≡ packed (motionAnswer (onSymbol (now (text .entry)) (λ (n : ℕ) (t : List ℕ). identityAnswer n t))) ⌝ }
 {
-    answered(finite_group::symbol::identity(text))
+    answered(motion_group::symbol::identity(text))
 }
 
 #[no_mangle]
 pub extern "C" fn symmetry_symbol_subgroups(text: &[u8], sets: &mut [u8]) -> u64
-    ensures { λ r. ⌜ (r ≡ packed (tableAnswer (listAnswerIn (symbolBuilt (now (text .entry))) false (now (sets .entry)))))
-        × (now (sets .exit) ≡ listBytesIn (symbolBuilt (now (text .entry))) false (now (sets .entry))) ⌝ }
+    ensures { λ r. ⌜ (r ≡ packed (motionAnswer (onSymbol (now (text .entry)) (λ (n : ℕ) (t : List ℕ). subgroupsAnswer n t (now (sets .entry))))))
+        × (now (sets .exit) ≡ bytesOnSymbol (now (text .entry)) (now (sets .entry)) (λ (n : ℕ) (t : List ℕ). subgroupsBytes n t (now (sets .entry)))) ⌝ }
 {
-    answered(finite_group::symbol::enumerate_subgroups(text, sets))
+    answered(motion_group::symbol::enumerate_subgroups(text, sets))
 }
 
 #[no_mangle]
 pub extern "C" fn symmetry_symbol_classes(text: &[u8], sets: &mut [u8]) -> u64
-    ensures { λ r. ⌜ (r ≡ packed (tableAnswer (listAnswerIn (symbolBuilt (now (text .entry))) true (now (sets .entry)))))
-        × (now (sets .exit) ≡ listBytesIn (symbolBuilt (now (text .entry))) true (now (sets .entry))) ⌝ }
+    ensures { λ r. ⌜ (r ≡ packed (motionAnswer (onSymbol (now (text .entry)) (λ (n : ℕ) (t : List ℕ). classesAnswer n t (now (sets .entry))))))
+        × (now (sets .exit) ≡ bytesOnSymbol (now (text .entry)) (now (sets .entry)) (λ (n : ℕ) (t : List ℕ). classesBytes n t (now (sets .entry)))) ⌝ }
 {
-    answered(finite_group::symbol::conjugacy_classes(text, sets))
+    answered(motion_group::symbol::conjugacy_classes(text, sets))
 }
 
 #[no_mangle]
 pub extern "C" fn symmetry_symbol_conjugate(text: &[u8], set: u64, element: u64) -> u64
-    ensures { λ r. ⌜ r ≡ packed (tableAnswer (conjugateIn (symbolBuilt (now (text .entry))) set element)) ⌝ }
+    ensures { λ r. ⌜ r ≡ packed (motionAnswer (onSymbol (now (text .entry)) (λ (n : ℕ) (t : List ℕ). conjugateEntry n t set element))) ⌝ }
 {
-    answered(finite_group::symbol::conjugate(text, set, element as usize))
+    answered(motion_group::symbol::conjugate(text, set, element as usize))
 }
 
 #[no_mangle]
@@ -43,18 +45,18 @@ pub extern "C" fn symmetry_symbol_conjugates(
     sets: &mut [u8],
     conjugators: &mut [u8],
 ) -> u64
-    ensures { λ r. ⌜ (r ≡ packed (tableAnswer (conjugatesIn (symbolBuilt (now (text .entry))) set (now (sets .entry)) (now (conjugators .entry)))))
-        × (now (sets .exit) ≡ conjugateBytesIn (symbolBuilt (now (text .entry))) set (now (sets .entry)) (now (conjugators .entry)))
-        × (now (conjugators .exit) ≡ conjugatorBytesIn (symbolBuilt (now (text .entry))) set (now (sets .entry)) (now (conjugators .entry))) ⌝ }
+    ensures { λ r. ⌜ (r ≡ packed (motionAnswer (onSymbol (now (text .entry)) (λ (n : ℕ) (t : List ℕ). conjugatesEntry n t set (now (sets .entry)) (now (conjugators .entry))))))
+        × (now (sets .exit) ≡ bytesOnSymbol (now (text .entry)) (now (sets .entry)) (λ (n : ℕ) (t : List ℕ). conjugatesList n t set (now (sets .entry)) (now (conjugators .entry))))
+        × (now (conjugators .exit) ≡ bytesOnSymbol (now (text .entry)) (now (conjugators .entry)) (λ (n : ℕ) (t : List ℕ). conjugatorsList n t set (now (sets .entry)) (now (conjugators .entry)))) ⌝ }
 {
-    answered(finite_group::symbol::conjugates(text, set, sets, conjugators))
+    answered(motion_group::symbol::conjugates(text, set, sets, conjugators))
 }
 
 #[no_mangle]
 pub extern "C" fn symmetry_symbol_normalizer(text: &[u8], set: u64) -> u64
-    ensures { λ r. ⌜ r ≡ packed (tableAnswer (normalizerIn (symbolBuilt (now (text .entry))) set)) ⌝ }
+    ensures { λ r. ⌜ r ≡ packed (motionAnswer (onSymbol (now (text .entry)) (λ (n : ℕ) (t : List ℕ). normalizerEntry n t set))) ⌝ }
 {
-    answered(finite_group::symbol::normalizer(text, set))
+    answered(motion_group::symbol::normalizer(text, set))
 }
 
 #[no_mangle]
@@ -64,8 +66,8 @@ pub extern "C" fn symmetry_symbol_permutation(
     element: u64,
     positions: &mut [u8],
 ) -> u64
-    ensures { λ r. ⌜ (r ≡ packed (tableAnswer (permutationIn (symbolBuilt (now (text .entry))) set element (now (positions .entry)))))
-        × (now (positions .exit) ≡ positionsIn (symbolBuilt (now (text .entry))) set element (now (positions .entry))) ⌝ }
+    ensures { λ r. ⌜ (r ≡ packed (motionAnswer (onSymbol (now (text .entry)) (λ (n : ℕ) (t : List ℕ). permutationEntry n t set element (now (positions .entry))))))
+        × (now (positions .exit) ≡ bytesOnSymbol (now (text .entry)) (now (positions .entry)) (λ (n : ℕ) (t : List ℕ). permutationList n t set element (now (positions .entry)))) ⌝ }
 {
-    answered(finite_group::symbol::normalizer_action(text, set, element as usize, positions))
+    answered(motion_group::symbol::normalizer_action(text, set, element as usize, positions))
 }

@@ -1,6 +1,6 @@
-// What is asked of the bytes of a table, and how the answer on a group is handed on, whatever the group was given by.
+// What is asked of the bytes of a table, and how the answer is handed on.
 ghost use mathlib.Core.Path.{_≡_};
-ghost use Rattle.finite_group.specs.Answers.{numberOf, placeOf, orderAnswer, identityAnswer, subgroupsAnswer, subgroupsBytes, classesAnswer, classesBytes, conjugateEntry, normalizerEntry, permutationEntry, permutationList, conjugatesEntry, conjugatesList, conjugatorsList};
+ghost use Rattle.finite_group.specs.Answers.{numberOf, orderAnswer, identityAnswer, subgroupsAnswer, subgroupsBytes, classesAnswer, classesBytes, conjugateEntry, normalizerEntry, permutationEntry, permutationList, conjugatesEntry, conjugatesList, conjugatorsList};
 ghost use Rattle.calls.specs.Answers.{tableAnswer};
 ghost use Rattle.calls.specs.Packing.{packed};
 ghost use Rattle.calls.specs.TableBounds.{Packable};
@@ -87,22 +87,20 @@ pub extern "C" fn symmetry_table_permutation(
     ))
 }
 
-pub(crate) fn answered(answer: Answer) -> u64
+fn answered(answer: Answer) -> u64
     requires { ⌜ Packable answer ⌝ }
     ensures { λ r. ⌜ r ≡ packed (tableAnswer answer) ⌝ }
 {
     match answer {
         Answer::Value(value) => value,
-        Answer::Refused(refusal) => refused(number(refusal), place(refusal)),
+        Answer::Refused(refusal) => refused(number(refusal), 0),
     }
 }
 
-fn number(refusal: Refusal) -> u8
+pub(crate) fn number(refusal: Refusal) -> u8
     ensures { λ r. ⌜ r ≡ numberOf refusal ⌝ }
 {
     match refusal {
-        Refusal::Symbol(why) => why.number(),
-        Refusal::Record(why) => super::record::number(why),
         Refusal::Order => 21,
         Refusal::Cells => 22,
         Refusal::Identity => 23,
@@ -112,23 +110,5 @@ fn number(refusal: Refusal) -> u8
         Refusal::Subgroup => 27,
         Refusal::Element => 28,
         Refusal::Normalizer => 29,
-    }
-}
-
-fn place(refusal: Refusal) -> usize
-    ensures { λ r. ⌜ r ≡ placeOf refusal ⌝ }
-{
-    match refusal {
-        Refusal::Symbol(why) => why.place(),
-        Refusal::Record(_) => 0,
-        Refusal::Order => 0,
-        Refusal::Cells => 0,
-        Refusal::Identity => 0,
-        Refusal::Inverse => 0,
-        Refusal::Associativity => 0,
-        Refusal::Slots => 0,
-        Refusal::Subgroup => 0,
-        Refusal::Element => 0,
-        Refusal::Normalizer => 0,
     }
 }

@@ -5,8 +5,6 @@ use Prim.Native.Nat.{ℕ, _/_}
 use lib.Count.{ones}
 use lib.Dec.{eqb, ltb}
 use lib.ListN.{length, drop, replicate}
-use Rattle.symbol_group.specs.Refusals as symbol
-use Rattle.group_record.specs.Reading.{refusalNumber}
 use Rattle.subgroup_laws.specs.Conjugates.{conjugatesOf, conjugatorsOf}
 use Rattle.subgroup_laws.specs.Lists.{subgroupsOf, representativesOf}
 use Rattle.subgroup_laws.specs.Permutations.{permutationOf}
@@ -20,12 +18,10 @@ use Rattle.finite_group.specs.declared.Answer.the-variants.{Value, Refus
 use Rattle.finite_group.specs.declared.Checked.{Checked}
 use Rattle.finite_group.specs.declared.Checked.the-variants.{Group as IsGroup, NoGroup}
 use Rattle.finite_group.specs.declared.Refusal.{Refusal}
-use Rattle.finite_group.specs.declared.Refusal.the-variants.{Symbol, Record, Order, Cells, Identity, Inverse, Associativity, Slots, Subgroup, Element, Normalizer}
+use Rattle.finite_group.specs.declared.Refusal.the-variants.{Order, Cells, Identity, Inverse, Associativity, Slots, Subgroup, Element, Normalizer}
 
 -- the numbers of the refusals
 unfoldable pub numberOf : Refusal → ℕ
-numberOf (Symbol r) = symbol.numberOf r
-numberOf (Record r) = refusalNumber r
 numberOf Order = 21
 numberOf Cells = 22
 numberOf Identity = 23
@@ -36,19 +32,9 @@ numberOf Subgroup = 27
 numberOf Element = 28
 numberOf Normalizer = 29
 
--- their place is 0, but for a symbol's
+-- their place is 0
 unfoldable pub placeOf : Refusal → ℕ
-placeOf (Symbol r) = symbol.placeOf r
-placeOf (Record r) = 0
-placeOf Order = 0
-placeOf Cells = 0
-placeOf Identity = 0
-placeOf Inverse = 0
-placeOf Associativity = 0
-placeOf Slots = 0
-placeOf Subgroup = 0
-placeOf Element = 0
-placeOf Normalizer = 0
+placeOf r = 0
 
 -- on the group of a table, or its refusal
 abbrev pub onGroup : Checked → (ℕ → Answer) → Answer

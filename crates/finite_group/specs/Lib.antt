@@ -13,6 +13,4 @@ pub mod SearchLoop
 pub mod ConjugateLists
 -- What is answered.
 pub mod Answers
-pub mod Built
-pub mod BuiltGroups
 pub mod ListAnswers

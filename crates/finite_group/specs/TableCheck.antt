@@ -1,4 +1,5 @@
 -- What the check of a table's bytes answers (document 01, "Refusal numbers"): refusals 21 to 25, the first that applies.
+use mathlib.Core.Path.{_≡_}
 use mathlib.Core.Bool.{cond}
 use mathlib.Core.List.{List}
 use Prim.Native.Nat.{ℕ}
@@ -21,3 +22,7 @@ checkOf n t =
     (NoGroup Inverse))
     (NoGroup Identity))
     (NoGroup NoCells)))
+
+-- the check accepts the table, and e is its identity
+abbrev pub Accepts : ℕ → List ℕ → ℕ → Type 0
+Accepts n t e = checkOf n t ≡ IsGroup e

@@ -14,7 +14,7 @@ use Rattle.subgroup_laws.specs.GroupLaws.{TwoSidedIdentity, TwoSidedInverse, id
 use Rattle.subgroup_laws.specs.Groups.{Group, identityOf, hasInverses, associatesAt, associates}
 use Rattle.subgroup_laws.specs.Table.{product, Cells, goodCells, GroupTable}
 use Rattle.subgroup_laws.specs.TableLaws.{good-cells, cells-good, product-below}
-use Rattle.finite_group.specs.TableCheck.{checkOf}
+use Rattle.finite_group.specs.TableCheck.{checkOf, Accepts}
 use Rattle.finite_group.specs.declared.Checked.{Checked}
 use Rattle.finite_group.specs.declared.Checked.the-variants.{Group as IsGroup, NoGroup}
 use Rattle.finite_group.specs.declared.Refusal.the-variants.{Order, «Cells» as NoCells, Identity, Inverse, Associativity}
@@ -151,7 +151,7 @@ module _ (n : ℕ) (t : List ℕ) where
   checked-verdict = let (c, v) = some-verdict in rw (verdict-checked v) v
 
 -- a table is accepted exactly if its order is 1 to 48 and it is that of a group
-pub accepted-exactly : (n : ℕ) (t : List ℕ) (e : ℕ) → (checkOf n t ≡ IsGroup e) ↔ ((0 < n) × Cells n t × Group n (product n t) e)
+pub accepted-exactly : (n : ℕ) (t : List ℕ) (e : ℕ) → Accepts n t e ↔ ((0 < n) × Cells n t × Group n (product n t) e)
 accepted-exactly n t e = (λ p. read (checked-verdict n t) p, λ g. verdict-checked n t (accepted (g .0) (g .1) e (g .2)))
   where
     read : {c : Checked} → Verdict n t c → c ≡ IsGroup e → (0 < n) × Cells n t × Group n (product n t) e
@@ -163,5 +163,5 @@ accepted-exactly n t e = (λ p. read (checked-verdict n t) p, λ g. verdict-chec
     read (accepted h C f G) p = let q : f ≡ e = cc in (h, C, rw q at G)
 
 -- what is accepted is the table of a group
-pub checked-table : (n : ℕ) (t : List ℕ) (e : ℕ) → checkOf n t ≡ IsGroup e → GroupTable n t e
+pub checked-table : (n : ℕ) (t : List ℕ) (e : ℕ) → Accepts n t e → GroupTable n t e
 checked-table n t e p = let (h, C, G) = accepted-exactly n t e .0 p in record { cells = C; group = G }

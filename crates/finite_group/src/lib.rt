@@ -1,4 +1,4 @@
-// Finite groups given by the bytes of their tables, by a symbol or by a record: the check of a table, subgroups, conjugates, classes, normalizers and their permutations.
+// Finite groups given by the bytes of their tables: the check of a table, subgroups, conjugates, classes, normalizers and their permutations.
 // Ported from subgroup/finite_group.rs of moyo 0.21.0 (`FiniteGroup`), and changed: a flat table of bytes, sets as 64-bit numbers in lent slots, refusals.
 ghost use mathlib.Core.Path.{_≡_};
 ghost use Rattle.finite_group.specs.Answers.{orderAnswer, identityAnswer, subgroupsAnswer, subgroupsBytes, classesAnswer, classesBytes, conjugateEntry, normalizerEntry, permutationEntry, permutationList, conjugatesEntry, conjugatesList, conjugatorsList};
@@ -11,22 +11,17 @@ use table::from_table;
 
 mod adjoin;
 mod associativity;
-mod built;
 mod conjugate_list;
 mod conjugation;
 mod permutation;
-pub mod record;
 mod search;
 mod sets;
 mod slots;
 mod subgroup;
-pub mod symbol;
 mod table;
 
-// Why there is no answer: document 01's refusals 21 to 29, or that of the symbol or the record that a table was to be built from.
+// Why there is no answer: document 01's refusals 21 to 29.
 pub enum Refusal {
-    Symbol(symbol_group::refusal::Refusal),
-    Record(group_record::Refusal),
     Order,
     Cells,
     Identity,

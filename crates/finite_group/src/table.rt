@@ -54,7 +54,7 @@ fn is_identity(t: &[u8], n: usize, e: usize) -> bool
 }
 
 // The first two-sided identity, or n.
-pub(crate) fn identity_of(t: &[u8], n: usize) -> usize
+fn identity_of(t: &[u8], n: usize) -> usize
     requires { ⌜ Cells n (now t) ⌝ }
     ensures { λ r. ⌜ r ≡ identityOf n (product n (now (t .entry))) ⌝ }
 {

@@ -1,21 +1,21 @@
 -- The answer on the record's group, packed, and the lent list as it was left.
-use mathlib.Core.Bool.{true}
-use native.Mathlib.Omega.{arith}
-use Rattle.calls.specs.BuiltBounds.{on-record}
-use Rattle.calls.specs.TableBounds.{packable-as, packed-as, list-within}
+use mathlib.Core.List.{List}
+use Prim.Native.Nat.{ℕ}
 use borrow.Author.Needs.{needs}
+use Rattle.finite_group.specs.Answers.{classesAnswer}
+use Rattle.calls.specs.MotionBounds.{tellable-as, told-as, on-record}
+use Rattle.calls.specs.TableBounds.{table-classes}
 use Rattle.calls.proofs.record_groups.symmetry_record_classes.Statement.{statement}
 use Rattle.calls.proofs.record_groups.symmetry_record_classes.Tie as tie
-use Rattle.calls.proofs.record_groups.symmetry_record_classes.Reads as reads
-use Rattle.calls.proofs.record_groups.symmetry_record_classes.Lts as lts
-use Rattle.calls.proofs.table.answered.Reads as answered-reads
-use Rattle.finite_group.proofs.record.conjugacy_classes.Reads as conjugacy-classes-reads
 
 conjugacy-classes-requires : tie.Need-conjugacy-classes-requires
 conjugacy-classes-requires c κs = search needs
 
 answered-requires : tie.Need-answered-requires
-answered-requires c κs = packable-as (c .before .before .conjugacy-classes .ensures .0) (list-within (on-record _ (λ i. omega (arith, c .before .before .before .before .before .shared-slice-known .given i))) true _)
+answered-requires c κs =
+    let called = c .before .before in
+    let asks = called .before .before .before .before .args in
+    tellable-as (called .conjugacy-classes .ensures .0) (on-record _ (λ (n : ℕ) (t : List ℕ). classesAnswer n t (asks .sets .now)) (λ n t. table-classes n t (asks .sets .now)))
 
 same-length : tie.Need-same-length
 same-length c = search needs
@@ -23,7 +23,7 @@ same-length c = search needs
 returns : tie.Need-returns
 returns c =
     let listed = c .before .before .before .conjugacy-classes .ensures in
-    (packed-as (c .answered .ensures) (listed .0), listed .1)
+    (told-as (c .answered .ensures) (listed .0), listed .1)
 
 pub symmetry-record-classes-spec : {M : Type 1} → statement M
 symmetry-record-classes-spec =

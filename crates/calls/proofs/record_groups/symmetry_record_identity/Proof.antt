@@ -1,23 +1,24 @@
 -- The answer on the record's group, packed.
-use native.Mathlib.Omega.{arith}
-use Rattle.calls.specs.BuiltBounds.{on-record}
-use Rattle.calls.specs.TableBounds.{packable-as, packed-as, identity-within}
+use mathlib.Core.List.{List}
+use Prim.Native.Nat.{ℕ}
 use borrow.Author.Needs.{needs}
+use Rattle.finite_group.specs.Answers.{identityAnswer}
+use Rattle.calls.specs.MotionBounds.{tellable-as, told-as, on-record}
+use Rattle.calls.specs.TableBounds.{table-identity}
 use Rattle.calls.proofs.record_groups.symmetry_record_identity.Statement.{statement}
 use Rattle.calls.proofs.record_groups.symmetry_record_identity.Tie as tie
-use Rattle.calls.proofs.record_groups.symmetry_record_identity.Reads as reads
-use Rattle.calls.proofs.record_groups.symmetry_record_identity.Lts as lts
-use Rattle.calls.proofs.table.answered.Reads as answered-reads
-use Rattle.finite_group.proofs.record.identity.Reads as identity-reads
 
 identity-requires : tie.Need-identity-requires
 identity-requires c κs = search needs
 
 answered-requires : tie.Need-answered-requires
-answered-requires c κs = packable-as (c .identity .ensures) (identity-within (on-record _ (λ i. omega (arith, c .before .shared-slice-known .given i))))
+answered-requires c κs =
+    let called = c in
+    tellable-as (called .identity .ensures) (on-record _ (λ (n : ℕ) (t : List ℕ). identityAnswer n t) (λ n t. table-identity n t))
 
 returns : tie.Need-returns
-returns c = packed-as (c .answered .ensures) (c .before .identity .ensures)
+returns c = told-as (c .answered .ensures) (c .before .identity .ensures)
 
 pub symmetry-record-identity-spec : {M : Type 1} → statement M
-symmetry-record-identity-spec = tie.close (tie.spec identity-requires answered-requires returns)
+symmetry-record-identity-spec =
+    tie.close (tie.spec identity-requires answered-requires returns)

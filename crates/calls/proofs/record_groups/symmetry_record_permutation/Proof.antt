@@ -1,20 +1,21 @@
 -- The answer on the record's group, packed, and the lent list as it was left.
-use native.Mathlib.Omega.{arith}
-use Rattle.calls.specs.BuiltBounds.{on-record}
-use Rattle.calls.specs.TableBounds.{packable-as, packed-as, permutation-within}
+use mathlib.Core.List.{List}
+use Prim.Native.Nat.{ℕ}
 use borrow.Author.Needs.{needs}
+use Rattle.finite_group.specs.Answers.{permutationEntry}
+use Rattle.calls.specs.MotionBounds.{tellable-as, told-as, on-record}
+use Rattle.calls.specs.TableBounds.{table-permutation}
 use Rattle.calls.proofs.record_groups.symmetry_record_permutation.Statement.{statement}
 use Rattle.calls.proofs.record_groups.symmetry_record_permutation.Tie as tie
-use Rattle.calls.proofs.record_groups.symmetry_record_permutation.Reads as reads
-use Rattle.calls.proofs.record_groups.symmetry_record_permutation.Lts as lts
-use Rattle.calls.proofs.table.answered.Reads as answered-reads
-use Rattle.finite_group.proofs.record.normalizer_action.Reads as normalizer-action-reads
 
 normalizer-action-requires : tie.Need-normalizer-action-requires
 normalizer-action-requires c κs = search needs
 
 answered-requires : tie.Need-answered-requires
-answered-requires c κs = packable-as (c .before .before .normalizer-action .ensures .0) (permutation-within (on-record _ (λ i. omega (arith, c .before .before .before .before .before .shared-slice-known .given i))) _ _ _)
+answered-requires c κs =
+    let called = c .before .before in
+    let asks = called .before .before .before .before .args in
+    tellable-as (called .normalizer-action .ensures .0) (on-record _ (λ (n : ℕ) (t : List ℕ). permutationEntry n t (asks .set) (asks .element) (asks .positions .now)) (λ n t. table-permutation n t (asks .set) (asks .element) (asks .positions .now)))
 
 same-length : tie.Need-same-length
 same-length c = search needs
@@ -22,7 +23,7 @@ same-length c = search needs
 returns : tie.Need-returns
 returns c =
     let listed = c .before .before .before .normalizer-action .ensures in
-    (packed-as (c .answered .ensures) (listed .0), listed .1)
+    (told-as (c .answered .ensures) (listed .0), listed .1)
 
 pub symmetry-record-permutation-spec : {M : Type 1} → statement M
 symmetry-record-permutation-spec =

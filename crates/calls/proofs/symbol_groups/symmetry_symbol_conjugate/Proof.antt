@@ -1,22 +1,25 @@
 -- The answer on the symbol's group, packed.
-use Rattle.calls.specs.BuiltBounds.{on-symbol}
-use Rattle.calls.specs.TableBounds.{packable-as, packed-as, conjugate-within}
+use mathlib.Core.List.{List}
+use Prim.Native.Nat.{ℕ}
 use borrow.Author.Needs.{needs}
+use Rattle.finite_group.specs.Answers.{conjugateEntry}
+use Rattle.calls.specs.MotionBounds.{tellable-as, told-as, on-symbol}
+use Rattle.calls.specs.TableBounds.{table-conjugate}
 use Rattle.calls.proofs.symbol_groups.symmetry_symbol_conjugate.Statement.{statement}
 use Rattle.calls.proofs.symbol_groups.symmetry_symbol_conjugate.Tie as tie
-use Rattle.calls.proofs.symbol_groups.symmetry_symbol_conjugate.Reads as reads
-use Rattle.calls.proofs.symbol_groups.symmetry_symbol_conjugate.Lts as lts
-use Rattle.calls.proofs.table.answered.Reads as answered-reads
-use Rattle.finite_group.proofs.symbol.conjugate.Reads as conjugate-reads
 
 conjugate-requires : tie.Need-conjugate-requires
 conjugate-requires c κs = search needs
 
 answered-requires : tie.Need-answered-requires
-answered-requires c κs = packable-as (c .conjugate .ensures) (conjugate-within (on-symbol _) _ _)
+answered-requires c κs =
+    let called = c in
+    let asks = called .before .before .args in
+    tellable-as (called .conjugate .ensures) (on-symbol _ (λ (n : ℕ) (t : List ℕ). conjugateEntry n t (asks .set) (asks .element)) (λ n t. table-conjugate n t (asks .set) (asks .element)))
 
 returns : tie.Need-returns
-returns c = packed-as (c .answered .ensures) (c .before .conjugate .ensures)
+returns c = told-as (c .answered .ensures) (c .before .conjugate .ensures)
 
 pub symmetry-symbol-conjugate-spec : {M : Type 1} → statement M
-symmetry-symbol-conjugate-spec = tie.close (tie.spec conjugate-requires answered-requires returns)
+symmetry-symbol-conjugate-spec =
+    tie.close (tie.spec conjugate-requires answered-requires returns)

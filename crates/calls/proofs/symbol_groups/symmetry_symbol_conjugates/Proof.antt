@@ -1,19 +1,21 @@
 -- The answer on the symbol's group, packed, and the lent lists as they were left.
-use Rattle.calls.specs.BuiltBounds.{on-symbol}
-use Rattle.calls.specs.TableBounds.{packable-as, packed-as, conjugates-within}
+use mathlib.Core.List.{List}
+use Prim.Native.Nat.{ℕ}
 use borrow.Author.Needs.{needs}
+use Rattle.finite_group.specs.Answers.{conjugatesEntry}
+use Rattle.calls.specs.MotionBounds.{tellable-as, told-as, on-symbol}
+use Rattle.calls.specs.TableBounds.{table-conjugates}
 use Rattle.calls.proofs.symbol_groups.symmetry_symbol_conjugates.Statement.{statement}
 use Rattle.calls.proofs.symbol_groups.symmetry_symbol_conjugates.Tie as tie
-use Rattle.calls.proofs.symbol_groups.symmetry_symbol_conjugates.Reads as reads
-use Rattle.calls.proofs.symbol_groups.symmetry_symbol_conjugates.Lts as lts
-use Rattle.calls.proofs.table.answered.Reads as answered-reads
-use Rattle.finite_group.proofs.symbol.conjugates.Reads as conjugates-reads
 
 conjugates-requires : tie.Need-conjugates-requires
 conjugates-requires c κs = search needs
 
 answered-requires : tie.Need-answered-requires
-answered-requires c κs = packable-as (c .before .before .before .before .conjugates .ensures .0) (conjugates-within (on-symbol _) _ _ _)
+answered-requires c κs =
+    let called = c .before .before .before .before in
+    let asks = called .before .before .before .before .before .before .args in
+    tellable-as (called .conjugates .ensures .0) (on-symbol _ (λ (n : ℕ) (t : List ℕ). conjugatesEntry n t (asks .set) (asks .sets .now) (asks .conjugators .now)) (λ n t. table-conjugates n t (asks .set) (asks .sets .now) (asks .conjugators .now)))
 
 same-length : tie.Need-same-length
 same-length c = search needs
@@ -24,7 +26,7 @@ same-length-2 c = search needs
 returns : tie.Need-returns
 returns c =
     let listed = c .before .before .before .before .before .conjugates .ensures in
-    (packed-as (c .answered .ensures) (listed .0), listed .1, listed .2)
+    (told-as (c .answered .ensures) (listed .0), listed .1, listed .2)
 
 pub symmetry-symbol-conjugates-spec : {M : Type 1} → statement M
 symmetry-symbol-conjugates-spec =

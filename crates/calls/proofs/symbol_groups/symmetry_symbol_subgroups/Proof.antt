@@ -1,20 +1,21 @@
 -- The answer on the symbol's group, packed, and the lent list as it was left.
-use mathlib.Core.Bool.{false}
-use Rattle.calls.specs.BuiltBounds.{on-symbol}
-use Rattle.calls.specs.TableBounds.{packable-as, packed-as, list-within}
+use mathlib.Core.List.{List}
+use Prim.Native.Nat.{ℕ}
 use borrow.Author.Needs.{needs}
+use Rattle.finite_group.specs.Answers.{subgroupsAnswer}
+use Rattle.calls.specs.MotionBounds.{tellable-as, told-as, on-symbol}
+use Rattle.calls.specs.TableBounds.{table-subgroups}
 use Rattle.calls.proofs.symbol_groups.symmetry_symbol_subgroups.Statement.{statement}
 use Rattle.calls.proofs.symbol_groups.symmetry_symbol_subgroups.Tie as tie
-use Rattle.calls.proofs.symbol_groups.symmetry_symbol_subgroups.Reads as reads
-use Rattle.calls.proofs.symbol_groups.symmetry_symbol_subgroups.Lts as lts
-use Rattle.calls.proofs.table.answered.Reads as answered-reads
-use Rattle.finite_group.proofs.symbol.enumerate_subgroups.Reads as enumerate-subgroups-reads
 
 enumerate-subgroups-requires : tie.Need-enumerate-subgroups-requires
 enumerate-subgroups-requires c κs = search needs
 
 answered-requires : tie.Need-answered-requires
-answered-requires c κs = packable-as (c .before .before .enumerate-subgroups .ensures .0) (list-within (on-symbol _) false _)
+answered-requires c κs =
+    let called = c .before .before in
+    let asks = called .before .before .before .before .args in
+    tellable-as (called .enumerate-subgroups .ensures .0) (on-symbol _ (λ (n : ℕ) (t : List ℕ). subgroupsAnswer n t (asks .sets .now)) (λ n t. table-subgroups n t (asks .sets .now)))
 
 same-length : tie.Need-same-length
 same-length c = search needs
@@ -22,7 +23,7 @@ same-length c = search needs
 returns : tie.Need-returns
 returns c =
     let listed = c .before .before .before .enumerate-subgroups .ensures in
-    (packed-as (c .answered .ensures) (listed .0), listed .1)
+    (told-as (c .answered .ensures) (listed .0), listed .1)
 
 pub symmetry-symbol-subgroups-spec : {M : Type 1} → statement M
 symmetry-symbol-subgroups-spec =

@@ -3,22 +3,6 @@ use Rattle.finite_group.specs.Answers.{numberOf}
 use borrow.Author.Needs.{needs}
 use Rattle.calls.proofs.table.number.Statement.{statement}
 use Rattle.calls.proofs.table.number.Tie as tie
-use Rattle.calls.proofs.table.number.Reads as reads
-use Rattle.calls.proofs.table.number.Lts as lts
-use Rattle.calls.proofs.record.number.Reads as record-number-reads
-use Rattle.symbol_group.proofs.refusal.Refusal.number.Reads as refusal-Refusal-number-reads
-
-enum-known-refusal : tie.Need-enum-known-refusal
-enum-known-refusal c = search needs
-
-number-requires : tie.Need-number-requires
-number-requires c κs = search needs
-
-enum-known-refusal-2 : tie.Need-enum-known-refusal-2
-enum-known-refusal-2 c = search needs
-
-number-requires-2 : tie.Need-number-requires-2
-number-requires-2 c κs = search needs
 
 enum-told : tie.Need-enum-told
 enum-told c = search needs
@@ -83,22 +67,10 @@ returns-9 : tie.Need-returns-9
 unfolding numberOf
 returns-9 c = search needs
 
-returns-10 : tie.Need-returns-10
-unfolding numberOf
-returns-10 c = search needs
-
-returns-11 : tie.Need-returns-11
-unfolding numberOf
-returns-11 c = search needs
-
 pub number-spec : {M : Type 1} → statement M
 number-spec =
     tie.close
     (tie.spec
-    enum-known-refusal
-    number-requires
-    enum-known-refusal-2
-    number-requires-2
     enum-told
     enum-told-2
     enum-told-3
@@ -116,6 +88,4 @@ number-spec =
     returns-6
     returns-7
     returns-8
-    returns-9
-    returns-10
-    returns-11)
+    returns-9)

@@ -1,5 +1,5 @@
 -- The answer on the table, packed.
-use Rattle.calls.specs.TableBounds.{packable-as, packed-as, conjugate-within, on-table}
+use Rattle.calls.specs.TableBounds.{packable-as, packed-as, table-conjugate}
 use borrow.Author.Needs.{needs}
 use Rattle.calls.proofs.table.symmetry_table_conjugate.Statement.{statement}
 use Rattle.calls.proofs.table.symmetry_table_conjugate.Tie as tie
@@ -12,7 +12,7 @@ conjugate-requires : tie.Need-conjugate-requires
 conjugate-requires c κs = search needs
 
 answered-requires : tie.Need-answered-requires
-answered-requires c κs = packable-as (c .conjugate .ensures) (conjugate-within (on-table _ _) _ _)
+answered-requires c κs = packable-as (c .conjugate .ensures) (table-conjugate _ _ _ _)
 
 returns : tie.Need-returns
 returns c = packed-as (c .answered .ensures) (c .before .conjugate .ensures)

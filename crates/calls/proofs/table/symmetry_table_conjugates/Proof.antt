@@ -1,5 +1,5 @@
 -- The answer on the table, packed, and the lent lists as they were left.
-use Rattle.calls.specs.TableBounds.{packable-as, packed-as, conjugates-within, on-table}
+use Rattle.calls.specs.TableBounds.{packable-as, packed-as, table-conjugates}
 use borrow.Author.Needs.{needs}
 use Rattle.calls.proofs.table.symmetry_table_conjugates.Statement.{statement}
 use Rattle.calls.proofs.table.symmetry_table_conjugates.Tie as tie
@@ -12,7 +12,7 @@ conjugates-requires : tie.Need-conjugates-requires
 conjugates-requires c κs = search needs
 
 answered-requires : tie.Need-answered-requires
-answered-requires c κs = packable-as (c .before .before .before .before .conjugates .ensures .0) (conjugates-within (on-table _ _) _ _ _)
+answered-requires c κs = packable-as (c .before .before .before .before .conjugates .ensures .0) (table-conjugates _ _ _ _ _)
 
 same-length : tie.Need-same-length
 same-length c = search needs

@@ -1,5 +1,5 @@
 -- The answer on the table, packed.
-use Rattle.calls.specs.TableBounds.{packable-as, packed-as, identity-within, on-table}
+use Rattle.calls.specs.TableBounds.{packable-as, packed-as, table-identity}
 use borrow.Author.Needs.{needs}
 use Rattle.calls.proofs.table.symmetry_table_identity.Statement.{statement}
 use Rattle.calls.proofs.table.symmetry_table_identity.Tie as tie
@@ -12,7 +12,7 @@ identity-requires : tie.Need-identity-requires
 identity-requires c κs = search needs
 
 answered-requires : tie.Need-answered-requires
-answered-requires c κs = packable-as (c .identity .ensures) (identity-within (on-table _ _))
+answered-requires c κs = packable-as (c .identity .ensures) (table-identity _ _)
 
 returns : tie.Need-returns
 returns c = packed-as (c .answered .ensures) (c .before .identity .ensures)

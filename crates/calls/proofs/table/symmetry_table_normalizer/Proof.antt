@@ -1,5 +1,5 @@
 -- The answer on the table, packed.
-use Rattle.calls.specs.TableBounds.{packable-as, packed-as, normalizer-within, on-table}
+use Rattle.calls.specs.TableBounds.{packable-as, packed-as, table-normalizer}
 use borrow.Author.Needs.{needs}
 use Rattle.calls.proofs.table.symmetry_table_normalizer.Statement.{statement}
 use Rattle.calls.proofs.table.symmetry_table_normalizer.Tie as tie
@@ -12,7 +12,7 @@ normalizer-requires : tie.Need-normalizer-requires
 normalizer-requires c κs = search needs
 
 answered-requires : tie.Need-answered-requires
-answered-requires c κs = packable-as (c .normalizer .ensures) (normalizer-within (on-table _ _) _)
+answered-requires c κs = packable-as (c .normalizer .ensures) (table-normalizer _ _ _)
 
 returns : tie.Need-returns
 returns c = packed-as (c .answered .ensures) (c .before .normalizer .ensures)

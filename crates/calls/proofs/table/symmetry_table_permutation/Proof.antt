@@ -1,5 +1,5 @@
 -- The answer on the table, packed, and the lent list as it was left.
-use Rattle.calls.specs.TableBounds.{packable-as, packed-as, permutation-within, on-table}
+use Rattle.calls.specs.TableBounds.{packable-as, packed-as, table-permutation}
 use borrow.Author.Needs.{needs}
 use Rattle.calls.proofs.table.symmetry_table_permutation.Statement.{statement}
 use Rattle.calls.proofs.table.symmetry_table_permutation.Tie as tie
@@ -12,7 +12,7 @@ normalizer-action-requires : tie.Need-normalizer-action-requires
 normalizer-action-requires c κs = search needs
 
 answered-requires : tie.Need-answered-requires
-answered-requires c κs = packable-as (c .before .before .normalizer-action .ensures .0) (permutation-within (on-table _ _) _ _ _)
+answered-requires c κs = packable-as (c .before .before .normalizer-action .ensures .0) (table-permutation _ _ _ _ _)
 
 same-length : tie.Need-same-length
 same-length c = search needs

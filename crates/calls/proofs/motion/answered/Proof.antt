@@ -1,0 +1,41 @@
+-- The value as it is, or the refusal by its number and place.
+use mathlib.Core.Path.{sym, _∙_}
+use borrow.Author.Needs.{needs}
+use Rattle.calls.specs.MotionBounds.{tellable-as}
+use Rattle.calls.proofs.motion.answered.Statement.{statement}
+use Rattle.calls.proofs.motion.answered.Tie as tie
+
+enum-known-answer : tie.Need-enum-known-answer
+enum-known-answer c = search needs
+
+enum-known-answer-2 : tie.Need-enum-known-answer-2
+enum-known-answer-2 c = search needs
+
+number-requires : tie.Need-number-requires
+number-requires c κs = search needs
+
+place-requires : tie.Need-place-requires
+place-requires c κs = search needs
+
+refused-requires : tie.Need-refused-requires
+refused-requires c κs = rw (c .before .number .ensures, c .place .ensures) (tellable-as (sym (c .before .before .before .answer2 .given .1)) (c .before .before .before .before .before .pre))
+
+returns : tie.Need-returns
+returns c = search needs
+
+returns-2 : tie.Need-returns-2
+returns-2 c =
+    c .refused .ensures
+    ∙ simp (c .before .before .number .ensures, c .before .place .ensures, c .before .before .before .before .answer2 .given .1)
+
+pub answered-spec : {M : Type 1} → statement M
+answered-spec =
+    tie.close
+    (tie.spec
+    enum-known-answer
+    enum-known-answer-2
+    number-requires
+    place-requires
+    refused-requires
+    returns
+    returns-2)

@@ -1,0 +1,46 @@
+-- By cases of the order; the cells are filled into slots that are wide enough.
+use mathlib.Core.Path.{sym, _∙_, ap}
+use borrow.Author.Needs.{needs}
+use Rattle.motion_group.specs.Accepted.{filled-holds, symbol-holds}
+use Rattle.motion_group.specs.Answers.{ofSymbol}
+use Rattle.motion_group.proofs.symbol.table.Statement.{statement}
+use Rattle.motion_group.proofs.symbol.table.Tie as tie
+
+fill-cells-requires : tie.Need-fill-cells-requires
+fill-cells-requires c κs = search needs
+
+enum-known-order : tie.Need-enum-known-order
+enum-known-order c = search needs
+
+enum-known-refusal : tie.Need-enum-known-refusal
+enum-known-refusal c = search needs
+
+same-length : tie.Need-same-length
+same-length c = search needs
+
+returns : tie.Need-returns
+returns c =
+    let filled = c .before .before .before .before .before in
+    let start = filled .before .before .before .before in
+    filled-holds (sym (ap ofSymbol (c .before .order .given .1)) ∙ ap ofSymbol (filled .fill-cells .ensures .0)) (filled .fill-cells .ensures .1) (symbol-holds _ _ (start .pre))
+
+same-length-2 : tie.Need-same-length-2
+same-length-2 c = search needs
+
+returns-2 : tie.Need-returns-2
+returns-2 c =
+    let filled = c .before .before .before .before .before in
+    let start = filled .before .before .before .before in
+    filled-holds (sym (ap ofSymbol (c .before .refusal .given .1)) ∙ ap ofSymbol (filled .fill-cells .ensures .0)) (filled .fill-cells .ensures .1) (symbol-holds _ _ (start .pre))
+
+pub table-spec : {M : Type 1} → statement M
+table-spec =
+    tie.close
+    (tie.spec
+    fill-cells-requires
+    enum-known-order
+    enum-known-refusal
+    same-length
+    returns
+    same-length-2
+    returns-2)

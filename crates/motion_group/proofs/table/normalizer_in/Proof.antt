@@ -1,0 +1,60 @@
+-- By cases of the source; the part of the cells that is the table is handed on.
+use mathlib.Core.Path.{_∙_, ap}
+use Prim.Native.Nat.{_*_}
+use native.Mathlib.Omega.{arith}
+use borrow.Author.Needs.{needs}
+use Rattle.motion_group.specs.Answers.{ofTable}
+use Rattle.motion_group.specs.Cells.{end-fits, from-start}
+use Rattle.motion_group.proofs.table.normalizer_in.Statement.{statement}
+use Rattle.motion_group.proofs.table.normalizer_in.Tie as tie
+
+enum-known-source : tie.Need-enum-known-source
+enum-known-source c = search needs
+
+mul-end : tie.Need-mul-end
+mul-end c = let start = c .before .before .before .before in omega (arith, end-fits (start .args .source) _ (start .pre) _ (c .before .source .given .1))
+
+sub-normalizer : tie.Need-sub-normalizer
+sub-normalizer c = search needs
+
+part-normalizer-start : tie.Need-part-normalizer-start
+part-normalizer-start c = search needs
+
+part-normalizer-end : tie.Need-part-normalizer-end
+part-normalizer-end c = let start = c .before .before .before .before in omega (arith, end-fits (start .args .source) _ (start .pre) _ (c .before .source .given .1))
+
+normalizer-requires : tie.Need-normalizer-requires
+normalizer-requires c κs = search needs
+
+told-requires : tie.Need-told-requires
+told-requires c κs = search needs
+
+enum-known-source-2 : tie.Need-enum-known-source-2
+enum-known-source-2 c = search needs
+
+returns : tie.Need-returns
+returns c =
+    let called = c .before in
+    let source = called .before .before .before .source in
+    let n = source .given .0 .0 in
+    let start = called .before .before .before .before .before .before in
+    rw (source .given .1, ← (from-start (n * n) (start .args .cells .now)))
+    (c .told .ensures ∙ ap ofTable (called .normalizer .ensures))
+
+returns-2 : tie.Need-returns-2
+returns-2 c = rw (c .before .source2 .given .1)
+
+pub normalizer-in-spec : {M : Type 1} → statement M
+normalizer-in-spec =
+    tie.close
+    (tie.spec
+    enum-known-source
+    mul-end
+    sub-normalizer
+    part-normalizer-start
+    part-normalizer-end
+    normalizer-requires
+    told-requires
+    enum-known-source-2
+    returns
+    returns-2)

@@ -1,0 +1,64 @@
+-- By cases of the source; the part of the cells that is the table is handed on.
+use mathlib.Core.Path.{refl, _∙_, ap}
+use Prim.Native.Nat.{_*_}
+use native.Mathlib.Omega.{arith}
+use borrow.Author.Needs.{needs}
+use Rattle.motion_group.specs.Answers.{ofTable}
+use Rattle.motion_group.specs.Cells.{end-fits, from-start}
+use Rattle.motion_group.proofs.table.subgroups_in.Statement.{statement}
+use Rattle.motion_group.proofs.table.subgroups_in.Tie as tie
+
+enum-known-source : tie.Need-enum-known-source
+enum-known-source c = search needs
+
+mul-end : tie.Need-mul-end
+mul-end c = let start = c .before .before .before .before .before in omega (arith, end-fits (start .args .source) _ (start .pre) _ (c .before .source .given .1))
+
+sub-enumerate-subgroups : tie.Need-sub-enumerate-subgroups
+sub-enumerate-subgroups c = search needs
+
+part-enumerate-subgroups-start : tie.Need-part-enumerate-subgroups-start
+part-enumerate-subgroups-start c = search needs
+
+part-enumerate-subgroups-end : tie.Need-part-enumerate-subgroups-end
+part-enumerate-subgroups-end c = let start = c .before .before .before .before .before in omega (arith, end-fits (start .args .source) _ (start .pre) _ (c .before .source .given .1))
+
+enumerate-subgroups-requires : tie.Need-enumerate-subgroups-requires
+enumerate-subgroups-requires c κs = search needs
+
+told-requires : tie.Need-told-requires
+told-requires c κs = search needs
+
+enum-known-source-2 : tie.Need-enum-known-source-2
+enum-known-source-2 c = search needs
+
+same-length : tie.Need-same-length
+same-length c = search needs
+
+returns : tie.Need-returns
+returns c =
+    let called = c .before .before .before in
+    let source = called .before .before .before .before .source in
+    let n = source .given .0 .0 in
+    let start = called .before .before .before .before .before .before .before .before in
+    rw (source .given .1, ← (from-start (n * n) (start .args .cells .now)))
+    (c .told .ensures ∙ ap ofTable (called .enumerate-subgroups .ensures .0), called .enumerate-subgroups .ensures .1)
+
+returns-2 : tie.Need-returns-2
+returns-2 c = rw (c .before .source2 .given .1) (refl, refl)
+
+pub subgroups-in-spec : {M : Type 1} → statement M
+subgroups-in-spec =
+    tie.close
+    (tie.spec
+    enum-known-source
+    mul-end
+    sub-enumerate-subgroups
+    part-enumerate-subgroups-start
+    part-enumerate-subgroups-end
+    enumerate-subgroups-requires
+    told-requires
+    enum-known-source-2
+    same-length
+    returns
+    returns-2)

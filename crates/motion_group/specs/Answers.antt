@@ -1,0 +1,71 @@
+-- What is asked of the group of a symbol or a record: its refusal, or what `finite_group` answers on the cells of its table.
+use mathlib.Core.List.{List}
+use Prim.Native.Nat.{ℕ}
+use Rattle.symbol_group.specs.Answers.{orderOf}
+use Rattle.symbol_group.specs.Refusals as symbol
+use Rattle.symbol_group.specs.declared.SymbolOrder.{SymbolOrder}
+use Rattle.symbol_group.specs.declared.SymbolOrder.the-variants as symbol-order
+use Rattle.group_record.specs.Reading.{refusalNumber}
+use Rattle.group_table.specs.Tables.{symbolCells, recordOrder, recordCells}
+use Rattle.group_table.specs.declared.RecordOrder.{RecordOrder}
+use Rattle.group_table.specs.declared.RecordOrder.the-variants as record-order
+use Rattle.finite_group.specs.Answers as group
+use Rattle.finite_group.specs.declared.Answer as group-answer
+use Rattle.finite_group.specs.declared.Answer.the-variants as group-answers
+use Rattle.motion_group.specs.declared.Answer.{Answer}
+use Rattle.motion_group.specs.declared.Answer.the-variants.{Value, Refused}
+use Rattle.motion_group.specs.declared.Refusal.{Refusal}
+use Rattle.motion_group.specs.declared.Refusal.the-variants.{Symbol, Record, Group}
+use Rattle.motion_group.specs.declared.table.Source.{Source}
+use Rattle.motion_group.specs.declared.table.Source.the-variants.{Group as Given, Refused as NotGiven}
+
+-- ---- in numbers
+-- The number of a refusal, and its place.
+abbrev pub numberOf : Refusal → ℕ
+numberOf (Symbol r) = symbol.numberOf r
+numberOf (Record r) = refusalNumber r
+numberOf (Group r) = group.numberOf r
+
+abbrev pub placeOf : Refusal → ℕ
+placeOf (Symbol r) = symbol.placeOf r
+placeOf (Record r) = 0
+placeOf (Group r) = group.placeOf r
+
+-- ---- on the order of a group, or a refusal
+-- What is answered on a table, as an answer of this room.
+abbrev pub ofTable : group-answer.Answer → Answer
+ofTable (group-answers.Value v) = Value v
+ofTable (group-answers.Refused r) = Refused (Group r)
+
+abbrev pub onSource : Source → (ℕ → group-answer.Answer) → Answer
+onSource (Given n) f = ofTable (f n)
+onSource (NotGiven r) f = Refused r
+
+-- Lent bytes: a refusal of the symbol or of the record leaves them as they are.
+abbrev pub bytesOn : Source → List ℕ → (ℕ → List ℕ) → List ℕ
+bytesOn (Given n) lent f = f n
+bytesOn (NotGiven r) lent f = lent
+
+-- ---- on a symbol
+-- What is asked of the order and the table of an accepted symbol; or its refusal.
+abbrev pub ofSymbol : SymbolOrder → Source
+ofSymbol (symbol-order.Is n) = Given n
+ofSymbol (symbol-order.Refused r) = NotGiven (Symbol r)
+
+abbrev pub onSymbol : List ℕ → (ℕ → List ℕ → group-answer.Answer) → Answer
+onSymbol text f = onSource (ofSymbol (orderOf text)) (λ n. f n (symbolCells text))
+
+abbrev pub bytesOnSymbol : List ℕ → List ℕ → (ℕ → List ℕ → List ℕ) → List ℕ
+bytesOnSymbol text lent f = bytesOn (ofSymbol (orderOf text)) lent (λ n. f n (symbolCells text))
+
+-- ---- on a record
+-- What is asked of the order and the table of a record that is read; or its refusal.
+abbrev pub ofRecord : RecordOrder → Source
+ofRecord (record-order.Is n) = Given n
+ofRecord (record-order.Refused r) = NotGiven (Record r)
+
+abbrev pub onRecord : List ℕ → (ℕ → List ℕ → group-answer.Answer) → Answer
+onRecord bytes f = onSource (ofRecord (recordOrder bytes)) (λ n. f n (recordCells bytes))
+
+abbrev pub bytesOnRecord : List ℕ → List ℕ → (ℕ → List ℕ → List ℕ) → List ℕ
+bytesOnRecord bytes lent f = bytesOn (ofRecord (recordOrder bytes)) lent (λ n. f n (recordCells bytes))
