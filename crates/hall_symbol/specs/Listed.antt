@@ -5,8 +5,8 @@ use mathlib.Core.List.{List, [], _∷_, _++_, map, append-assoc}
 use Prim.Native.Nat.{ℕ, zero, suc, _+_, _-_, _<_, _≤_}
 use native.Mathlib.Omega.{arith}
 use native.Mathlib.Numerals.{add-one}
-use lib.ListN.{length, take, getD, set, replicate, length-map}
-use lib.Seq.{take-suc, set-at, length-take-le}
+use lib.ListN.{length, take, getD, set, replicate, length-map, length-set}
+use lib.Seq.{take-suc, take-suc-set, set-at, length-take-le}
 use Rattle.operation.specs.Product.{identityOperation}
 use Rattle.operation.specs.declared.Translation.{Translation}
 use Rattle.operation.specs.declared.Operation.{Operation}
@@ -25,6 +25,14 @@ pub record Pushed (g : Generators) (o : Operation) (h : Generators) : Type 0 whe
   pub count : h .count ≡ g .count + 1
   pub listed : listOf h ≡ listOf g ++ (o ∷ [])
   pub slots : length (h .operations) ≡ 9
+
+pub pushed-slot : (g : Generators) (o : Operation) → length (g .operations) ≡ 9 → g .count < 9 → Pushed g o (record { count = g .count + 1; operations = set (g .operations) (g .count) o })
+pushed-slot g o long few =
+    record {
+      count = refl;
+      listed = rw (add-one (g .count)) (take-suc-set (g .operations) (g .count) o (omega arith));
+      slots = length-set (g .operations) (g .count) o ∙ long;
+    }
 
 -- The generators of the first token.
 pub record Started (inverted : Bool) (g : Generators) : Type 0 where

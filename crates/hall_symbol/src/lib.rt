@@ -127,27 +127,27 @@ fn parse(text: &[u8], from: usize, centering: Centering, leading: Generators) ->
     loop {
         let word = bytes::next_word(text, at);
         let start = word.start;
-        let end = word.end;
-        let rotations = previous.count;
+        at = word.end;
         if text.len() <= start {
-            return at_end(text.len(), rotations, centering, list);
+            return at_end(text.len(), previous.count, centering, list);
         }
         if text[start] == b'(' {
-            return at_shift(text, start, rotations, centering, list);
+            return at_shift(text, start, previous.count, centering, list);
         }
-        if 8 <= rotations {
+        if 8 <= previous.count {
             return refused(Refusal::TooMany(start));
         }
-        let parsed = hall_token::parse_operation(&text[start..end], previous);
+        let parsed = hall_token::parse_operation(&text[start..at], previous);
         match parsed {
             ParsedOperation::Operation(o, fold, axis) => {
-                list = generators::push(list, o);
+                let slot = list.count;
+                list.operations[slot] = o;
+                list.count = slot + 1;
                 previous = Previous {
-                    count: rotations + 1,
+                    count: previous.count + 1,
                     fold,
                     axis,
                 };
-                at = end;
             }
             ParsedOperation::Misspelt => return refused(Refusal::Misspelt(start)),
             ParsedOperation::Primed => return refused(Refusal::Primed(start)),

@@ -1,14 +1,14 @@
 -- The reading from the first token on is the reading from the token reached on, with what has been found; each way out of the loop is a step of the reader.
 use mathlib.Core.Path.{_≡_, sym, _∙_, ap}
 use mathlib.Core.Bool.{true}
-use Prim.Native.Nat.{_-_}
+use Prim.Native.Nat.{_-_, _<_}
 use native.Mathlib.Omega.{arith}
 use lib.ListN.{length, drop, length-map}
 use borrow.Author.Tests.{eq-eqb, ne-eqb}
 use Rattle.hall_token.specs.declared.ParsedOperation.the-variants.{Operation as IsOperation, Misspelt as IsMisspelt, Primed as IsPrimed, Unsettled as IsUnsettled, Digit as IsDigit}
 use Rattle.hall_symbol.specs.Bytes.{opening}
 use Rattle.hall_symbol.specs.Tokens.{tokensFrom}
-use Rattle.hall_symbol.specs.Listed.{listOf}
+use Rattle.hall_symbol.specs.Listed.{listOf, pushed-slot}
 use Rattle.hall_symbol.specs.Reader.{answerOf, operations, noPrevious}
 use Rattle.hall_symbol.specs.Walk.{Reached, reached-word, reached-some, reached-end, reached-shift, reached-ninth, reached-rotation}
 use borrow.Author.Needs.{needs}
@@ -53,21 +53,21 @@ refused-requires c κs = search needs
 
 returns-3 : tie.Need-returns-3 Inv-loop μ-loop
 unfolding opening
-returns-3 c = c .refused .ensures ∙ ap answerOf (sym (reached-ninth (c .before .before .before .before .before .before .loop .inv) (c .before .before .before .before .before .next-word .ensures) (c .before .before .before .before .if1 .left) (ne-eqb _ _ (c .before .before .if2 .left)) (c .before .if3 .taken)))
+returns-3 c = c .refused .ensures ∙ ap answerOf (sym (reached-ninth (c .before .before .before .before .before .before .before .loop .inv) (c .before .before .before .before .before .before .next-word .ensures) (c .before .before .before .before .before .if1 .left) (ne-eqb _ _ (c .before .before .before .if2 .left)) (c .before .if3 .taken)))
 
 sub-parse-operation : tie.Need-sub-parse-operation Inv-loop μ-loop
 sub-parse-operation c =
-    let (after, ordered, reaches) = reached-word (c .before .before .before .before .before .loop .inv) (c .before .before .before .before .next-word .ensures) in
+    let (after, ordered, reaches) = reached-word (c .before .before .before .before .before .before .loop .inv) (c .before .before .before .before .before .next-word .ensures) in
     ordered
 
 part-parse-operation-start : tie.Need-part-parse-operation-start Inv-loop μ-loop
 part-parse-operation-start c =
-    let (after, ordered, reaches) = reached-word (c .before .before .before .before .before .loop .inv) (c .before .before .before .before .next-word .ensures) in
+    let (after, ordered, reaches) = reached-word (c .before .before .before .before .before .before .loop .inv) (c .before .before .before .before .before .next-word .ensures) in
     search needs
 
 part-parse-operation-end : tie.Need-part-parse-operation-end Inv-loop μ-loop
 part-parse-operation-end c =
-    let (after, ordered, reaches) = reached-word (c .before .before .before .before .before .loop .inv) (c .before .before .before .before .next-word .ensures) in
+    let (after, ordered, reaches) = reached-word (c .before .before .before .before .before .before .loop .inv) (c .before .before .before .before .before .next-word .ensures) in
     search needs
 
 parse-operation-requires : tie.Need-parse-operation-requires Inv-loop μ-loop
@@ -76,25 +76,33 @@ parse-operation-requires c κs = search needs
 enum-known-parsed : tie.Need-enum-known-parsed Inv-loop μ-loop
 enum-known-parsed c = search needs
 
-push-requires : tie.Need-push-requires Inv-loop μ-loop
-push-requires c κs = omega arith
+mul-o : tie.Need-mul-o Inv-loop μ-loop
+mul-o c = search needs
 
-add-t25 : tie.Need-add-t25 Inv-loop μ-loop
-add-t25 c = omega arith
+element-set-from-o : tie.Need-element-set-from-o Inv-loop μ-loop
+element-set-from-o c = search needs
+
+add-list : tie.Need-add-list Inv-loop μ-loop
+add-list c = omega arith
+
+add-t26 : tie.Need-add-t26 Inv-loop μ-loop
+add-t26 c = omega arith
 
 loop-less : tie.Need-loop-less Inv-loop μ-loop
 loop-less c =
-    let (after, ordered, reaches) = reached-word (c .before .before .before .before .before .before .before .before .before .before .before .loop .inv) (c .before .before .before .before .before .before .before .before .before .before .next-word .ensures) in
-    let some = reached-some (c .before .before .before .before .before .before .before .before .before .before .before .loop .inv) (c .before .before .before .before .before .before .before .before .before .before .next-word .ensures) (c .before .before .before .before .before .before .before .before .before .if1 .left) in
+    let (after, ordered, reaches) = reached-word (c .before .before .before .before .before .before .before .before .before .before .before .before .loop .inv) (c .before .before .before .before .before .before .before .before .before .before .before .next-word .ensures) in
+    let some = reached-some (c .before .before .before .before .before .before .before .before .before .before .before .before .loop .inv) (c .before .before .before .before .before .before .before .before .before .before .before .next-word .ensures) (c .before .before .before .before .before .before .before .before .before .before .if1 .left) in
     omega arith
 
 loop-again : tie.Need-loop-again Inv-loop μ-loop
 unfolding opening
 loop-again c =
-    let (after, ordered, reaches) = reached-word (c .before .before .before .before .before .before .before .before .before .before .before .loop .inv) (c .before .before .before .before .before .before .before .before .before .before .next-word .ensures) in
-    let pushed = c .push .ensures in
+    let reached = c .before .before .before .before .before .before .before .before .before .before .before .before .loop .inv in
+    let (after, ordered, reaches) = reached-word reached (c .before .before .before .before .before .before .before .before .before .before .before .next-word .ensures) in
     let parsed = c .before .before .parsed .given in
-    let step = reached-rotation (c .before .before .before .before .before .before .before .before .before .before .before .loop .inv) (c .before .before .before .before .before .before .before .before .before .before .next-word .ensures) (c .before .before .before .before .before .before .before .before .before .if1 .left) (ne-eqb _ _ (c .before .before .before .before .before .before .before .if2 .left)) (c .before .before .before .before .before .before .if3 .left) (IsOperation (parsed .0 .0) (parsed .0 .1 .0) (parsed .0 .1 .1 .0)) (sym (parsed .1) ∙ c .before .before .before .before .parse-operation .ensures) in
+    let room : c .before .before .before .before .before .before .before .before .before .before .before .before .loop .previous .count < 8 = c .before .before .before .before .before .before .if3 .left in
+    let pushed = pushed-slot (c .before .before .before .before .before .before .before .before .before .before .before .before .loop .list) (parsed .0 .0) (reached .slots) (omega (arith, reached .short, room)) in
+    let step = reached-rotation reached (c .before .before .before .before .before .before .before .before .before .before .before .next-word .ensures) (c .before .before .before .before .before .before .before .before .before .before .if1 .left) (ne-eqb _ _ (c .before .before .before .before .before .before .before .before .if2 .left)) (c .before .before .before .before .before .before .if3 .left) (IsOperation (parsed .0 .0) (parsed .0 .1 .0) (parsed .0 .1 .1 .0)) (sym (parsed .1) ∙ c .before .before .before .before .parse-operation .ensures) in
     record {
       within = reaches;
       few = omega arith;
@@ -113,7 +121,7 @@ returns-4 : tie.Need-returns-4 Inv-loop μ-loop
 unfolding opening
 returns-4 c =
     c .refused2 .ensures
-    ∙ ap answerOf (sym (reached-rotation (c .before .before .before .before .before .before .before .before .before .before .loop .inv) (c .before .before .before .before .before .before .before .before .before .next-word .ensures) (c .before .before .before .before .before .before .before .before .if1 .left) (ne-eqb _ _ (c .before .before .before .before .before .before .if2 .left)) (c .before .before .before .before .before .if3 .left) IsMisspelt (sym (c .before .enum-told .given .1) ∙ c .before .before .before .parse-operation .ensures)))
+    ∙ ap answerOf (sym (reached-rotation (c .before .before .before .before .before .before .before .before .before .before .before .loop .inv) (c .before .before .before .before .before .before .before .before .before .before .next-word .ensures) (c .before .before .before .before .before .before .before .before .before .if1 .left) (ne-eqb _ _ (c .before .before .before .before .before .before .before .if2 .left)) (c .before .before .before .before .before .if3 .left) IsMisspelt (sym (c .before .enum-told .given .1) ∙ c .before .before .before .parse-operation .ensures)))
 
 enum-told-2 : tie.Need-enum-told-2 Inv-loop μ-loop
 enum-told-2 c = search needs
@@ -125,7 +133,7 @@ returns-5 : tie.Need-returns-5 Inv-loop μ-loop
 unfolding opening
 returns-5 c =
     c .refused3 .ensures
-    ∙ ap answerOf (sym (reached-rotation (c .before .before .before .before .before .before .before .before .before .before .loop .inv) (c .before .before .before .before .before .before .before .before .before .next-word .ensures) (c .before .before .before .before .before .before .before .before .if1 .left) (ne-eqb _ _ (c .before .before .before .before .before .before .if2 .left)) (c .before .before .before .before .before .if3 .left) IsPrimed (sym (c .before .enum-told2 .given .1) ∙ c .before .before .before .parse-operation .ensures)))
+    ∙ ap answerOf (sym (reached-rotation (c .before .before .before .before .before .before .before .before .before .before .before .loop .inv) (c .before .before .before .before .before .before .before .before .before .before .next-word .ensures) (c .before .before .before .before .before .before .before .before .before .if1 .left) (ne-eqb _ _ (c .before .before .before .before .before .before .before .if2 .left)) (c .before .before .before .before .before .if3 .left) IsPrimed (sym (c .before .enum-told2 .given .1) ∙ c .before .before .before .parse-operation .ensures)))
 
 enum-told-3 : tie.Need-enum-told-3 Inv-loop μ-loop
 enum-told-3 c = search needs
@@ -137,7 +145,7 @@ returns-6 : tie.Need-returns-6 Inv-loop μ-loop
 unfolding opening
 returns-6 c =
     c .refused4 .ensures
-    ∙ ap answerOf (sym (reached-rotation (c .before .before .before .before .before .before .before .before .before .before .loop .inv) (c .before .before .before .before .before .before .before .before .before .next-word .ensures) (c .before .before .before .before .before .before .before .before .if1 .left) (ne-eqb _ _ (c .before .before .before .before .before .before .if2 .left)) (c .before .before .before .before .before .if3 .left) IsUnsettled (sym (c .before .enum-told3 .given .1) ∙ c .before .before .before .parse-operation .ensures)))
+    ∙ ap answerOf (sym (reached-rotation (c .before .before .before .before .before .before .before .before .before .before .before .loop .inv) (c .before .before .before .before .before .before .before .before .before .before .next-word .ensures) (c .before .before .before .before .before .before .before .before .before .if1 .left) (ne-eqb _ _ (c .before .before .before .before .before .before .before .if2 .left)) (c .before .before .before .before .before .if3 .left) IsUnsettled (sym (c .before .enum-told3 .given .1) ∙ c .before .before .before .parse-operation .ensures)))
 
 enum-told-4 : tie.Need-enum-told-4 Inv-loop μ-loop
 enum-told-4 c = search needs
@@ -149,7 +157,7 @@ returns-7 : tie.Need-returns-7 Inv-loop μ-loop
 unfolding opening
 returns-7 c =
     c .refused5 .ensures
-    ∙ ap answerOf (sym (reached-rotation (c .before .before .before .before .before .before .before .before .before .before .loop .inv) (c .before .before .before .before .before .before .before .before .before .next-word .ensures) (c .before .before .before .before .before .before .before .before .if1 .left) (ne-eqb _ _ (c .before .before .before .before .before .before .if2 .left)) (c .before .before .before .before .before .if3 .left) IsDigit (sym (c .before .enum-told4 .given .1) ∙ c .before .before .before .parse-operation .ensures)))
+    ∙ ap answerOf (sym (reached-rotation (c .before .before .before .before .before .before .before .before .before .before .before .loop .inv) (c .before .before .before .before .before .before .before .before .before .before .next-word .ensures) (c .before .before .before .before .before .before .before .before .before .if1 .left) (ne-eqb _ _ (c .before .before .before .before .before .before .before .if2 .left)) (c .before .before .before .before .before .if3 .left) IsDigit (sym (c .before .enum-told4 .given .1) ∙ c .before .before .before .parse-operation .ensures)))
 
 pub parse-spec : {M : Type 1} → statement M
 parse-spec =
@@ -172,8 +180,10 @@ parse-spec =
     part-parse-operation-end
     parse-operation-requires
     enum-known-parsed
-    push-requires
-    add-t25
+    mul-o
+    element-set-from-o
+    add-list
+    add-t26
     loop-less
     loop-again
     enum-told

@@ -1,9 +1,8 @@
 -- The slot at the count is set.
-use mathlib.Core.Path.{_≡_, refl, _∙_}
+use mathlib.Core.Path.{_≡_}
 use native.Mathlib.Omega.{arith}
-use native.Mathlib.Numerals.{add-one}
-use lib.ListN.{length, length-map, length-set}
-use lib.Seq.{take-suc-set}
+use lib.ListN.{length, length-map}
+use Rattle.hall_symbol.specs.Listed.{pushed-slot}
 use borrow.Author.Needs.{needs}
 use Rattle.hall_symbol.proofs.generators.push.Statement.{statement}
 use Rattle.hall_symbol.proofs.generators.push.Tie as tie
@@ -19,13 +18,8 @@ add-longer c = search needs
 
 returns : tie.Need-returns
 returns c =
-    let list = c .args .list in
-    let long : length (list .operations) ≡ 9 = simp length-map at (c .good .0 .1 .1 .1 .0 .1 .0 .1) in
-    record {
-      count = refl;
-      listed = rw (add-one (list .count)) (take-suc-set (list .operations) (list .count) (c .args .g) (omega arith));
-      slots = length-set (list .operations) (list .count) (c .args .g) ∙ long;
-    }
+    let long : length (c .args .list .operations) ≡ 9 = simp length-map at (c .good .0 .1 .1 .1 .0 .1 .0 .1) in
+    pushed-slot (c .args .list) (c .args .g) long (omega arith)
 
 pub push-spec : {M : Type 1} → statement M
 push-spec = tie.close (tie.spec mul-g element-set-from-g add-longer returns)
