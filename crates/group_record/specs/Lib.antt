@@ -19,6 +19,7 @@ pub mod SymbolReading
 pub mod Example
 -- What the code does with items.
 pub mod Search
+pub mod Found
 pub mod Parts
 pub mod Selection
 pub mod Writing

@@ -1,6 +1,5 @@
 // Reading a record: the rules of refusals 30 to 35, in order, tried on the bytes as they stand.
 ghost use mathlib.Core.Path.{_≡_};
-ghost use mathlib.Core.List.{map};
 ghost use Prim.Native.Nat.{_+_, _*_, _≤_, _<_};
 ghost use lib.ListN.{length};
 ghost use Rattle.laws.specs.Distinct.{has};
@@ -8,9 +7,10 @@ ghost use Rattle.laws.specs.Lattice.{all, sameTriple};
 ghost use Rattle.laws.specs.Sorted.{ascending};
 ghost use Rattle.operation.specs.Product.{productOf};
 ghost use Rattle.centering.specs.Lattices.{tripleOf};
-ghost use Rattle.group_record.specs.Reading.{acceptedGroup, refusedGroup, operationOfItem, isItem, itemBefore, areItems, alikeItems, productListed, memberAllowed, isAllowed, readItems, fromEnd, lengthFits, readCounted, readOf};
+ghost use Rattle.group_record.specs.Reading.{operationOfItem, isItem, itemBefore, areItems, alikeItems, productListed, memberAllowed, isAllowed, fromEnd, lengthFits, readCounted, readOf};
 ghost use Rattle.group_record.specs.Record.{itemOf};
 ghost use Rattle.group_record.specs.Search.{itemsOf, itemAt};
+ghost use Rattle.group_record.specs.Found.{nothingFound, laidOut, Stands};
 use super::Reading;
 use super::RecordGroup;
 use super::Refusal;
@@ -25,31 +25,49 @@ use operation::product::Product;
 use operation::product::identity;
 use operation::product::mul;
 
-// The record that ends where the bytes end.
+// What is found at a buffer's end: the answer, and of a record that is accepted the letter, the count and the place of its first item.
+struct Found {
+    answer: Reading,
+    centering: Centering,
+    count: usize,
+    start: usize,
+}
+
+// The record that ends where the bytes end. Its operations are laid out in one place for every answer, so that the code for 48 slots stands once.
 pub fn read_record(bytes: &[u8]) -> RecordGroup
     ensures { λ r. ⌜ r ≡ readOf (now (bytes .entry)) ⌝ }
 {
-    let size = bytes.len();
-    if size < 10 {
-        return refused(Refusal::Short);
-    }
-    if from_end(bytes, 4) != 1 {
-        return refused(Refusal::WrongEdition);
-    }
-    let Letter::Is(c) = Centering::from_byte(from_end(bytes, 5)) else {
-        return refused(Refusal::WrongLetter);
-    };
-    read_counted(bytes, c)
+    let found = find(bytes);
+    let start = found.start;
+    let answer = found.answer;
+    let c = found.centering;
+    laid_out(&bytes[start..], answer, c, found.count)
 }
 
-pub(crate) fn refused(why: Refusal) -> RecordGroup
-    ensures { λ r. ⌜ r ≡ refusedGroup why ⌝ }
+fn find(bytes: &[u8]) -> Found
+    ensures { λ r. ⌜ Stands (now (bytes .entry)) r (readOf (now (bytes .entry))) ⌝ }
 {
-    RecordGroup {
+    let size = bytes.len();
+    if size < 10 {
+        return nothing(Refusal::Short);
+    }
+    if from_end(bytes, 4) != 1 {
+        return nothing(Refusal::WrongEdition);
+    }
+    let Letter::Is(c) = Centering::from_byte(from_end(bytes, 5)) else {
+        return nothing(Refusal::WrongLetter);
+    };
+    find_counted(bytes, c)
+}
+
+fn nothing(why: Refusal) -> Found
+    ensures { λ r. ⌜ r ≡ nothingFound why ⌝ }
+{
+    Found {
         answer: Reading::Refused(why),
         centering: Centering::P,
         count: 0,
-        operations: [identity(); 48],
+        start: 0,
     }
 }
 
@@ -61,18 +79,29 @@ fn from_end(bytes: &[u8], k: usize) -> u8
     bytes[bytes.len() - k]
 }
 
-fn read_counted(bytes: &[u8], c: Centering) -> RecordGroup
+fn find_counted(bytes: &[u8], c: Centering) -> Found
     requires { ⌜ 10 ≤ length (now bytes) ⌝ }
-    ensures { λ r. ⌜ r ≡ readCounted c (fromEnd (now (bytes .entry)) 3) (now (bytes .entry)) ⌝ }
+    ensures { λ r. ⌜ Stands (now (bytes .entry)) r (readCounted c (fromEnd (now (bytes .entry)) 3) (now (bytes .entry))) ⌝ }
 {
     let size = bytes.len();
     let n = from_end(bytes, 3) as usize;
     let stated = from_end(bytes, 2) as usize * 256 + from_end(bytes, 1) as usize;
     if !length_fits(n, stated, size) {
-        return refused(Refusal::WrongLength);
+        return nothing(Refusal::WrongLength);
     }
     let start = size - (5 * n + 5);
-    read_items(&bytes[start..], c, n)
+    if !are_items(&bytes[start..], c, n) {
+        return nothing(Refusal::WrongItem);
+    }
+    if !is_allowed(&bytes[start..], c, n) {
+        return nothing(Refusal::NotAllowed);
+    }
+    Found {
+        answer: Reading::Accepted,
+        centering: c,
+        count: n,
+        start,
+    }
 }
 
 // 1 to 48 operations, and the stated length right and within the buffer.
@@ -90,19 +119,6 @@ fn length_fits(n: usize, stated: usize, size: usize) -> bool
         return false;
     }
     total <= size
-}
-
-fn read_items(bytes: &[u8], c: Centering, n: usize) -> RecordGroup
-    requires { ⌜ (1 ≤ n) × (n ≤ 48) × (5 * n ≤ length (now bytes)) ⌝ }
-    ensures { λ r. ⌜ r ≡ readItems c (itemsOf n (now (bytes .entry))) ⌝ }
-{
-    if !are_items(bytes, c, n) {
-        return refused(Refusal::WrongItem);
-    }
-    if !is_allowed(bytes, c, n) {
-        return refused(Refusal::NotAllowed);
-    }
-    accepted(bytes, c, n)
 }
 
 fn item_code(bytes: &[u8], i: usize) -> u32
@@ -287,9 +303,9 @@ fn alike(bytes: &[u8], c: Centering, i: usize, code: u32, t: Translation) -> boo
     c.congruent(t, item_translation(bytes, i))
 }
 
-fn accepted(bytes: &[u8], c: Centering, n: usize) -> RecordGroup
+fn laid_out(bytes: &[u8], answer: Reading, c: Centering, n: usize) -> RecordGroup
     requires { ⌜ (n ≤ 48) × (5 * n ≤ length (now bytes)) ⌝ }
-    ensures { λ r. ⌜ r ≡ acceptedGroup c (map operationOfItem (itemsOf n (now (bytes .entry)))) ⌝ }
+    ensures { λ r. ⌜ r ≡ laidOut answer c n (now (bytes .entry)) ⌝ }
 {
     let mut operations = [identity(); 48];
     let mut i = 0usize;
@@ -298,7 +314,7 @@ fn accepted(bytes: &[u8], c: Centering, n: usize) -> RecordGroup
         i += 1;
     }
     RecordGroup {
-        answer: Reading::Accepted,
+        answer,
         centering: c,
         count: n,
         operations,

@@ -1,25 +1,22 @@
 -- The loop's invariant: the first slots hold the operations read so far, the others the identity. The measure is what is left.
-use mathlib.Core.List.{map}
-use Rattle.group_record.specs.declared.Reading.the-variants.{Accepted}
-use lib.ListN.{length-map, length}
 use mathlib.Core.Path.{_≡_, sym, _∙_}
 use Prim.Native.Nat.{_-_, _≤_}
 use native.Mathlib.Omega.{arith}
 use borrow.Author.Needs.{needs}
-use Rattle.group_record.specs.Reading.{acceptedGroup, operationOfItem}
-use Rattle.group_record.specs.Search.{itemsOf, items-count, filledTo, filled-next, filled-start, filled-end}
-use Rattle.group_record.proofs.reader.accepted.Statement.{statement}
-use Rattle.group_record.proofs.reader.accepted.Tie as tie
-use Rattle.group_record.proofs.reader.accepted.Reads as reads
-use Rattle.group_record.proofs.reader.accepted.Lts as lts
+use Rattle.group_record.specs.Found.{laidOut}
+use Rattle.group_record.specs.Search.{filledTo, filled-next, filled-start, filled-end}
+use Rattle.group_record.proofs.reader.laid_out.Statement.{statement}
+use Rattle.group_record.proofs.reader.laid_out.Tie as tie
+use Rattle.group_record.proofs.reader.laid_out.Reads as reads
+use Rattle.group_record.proofs.reader.laid_out.Lts as lts
 use Rattle.group_record.proofs.reader.operation_at.Reads as operation-at-reads
 use Rattle.operation.proofs.product.identity.Reads as identity-reads
 
 abbrev Inv-loop : tie.InvT-loop
-Inv-loop bytes c n operations₀ i₀ operations i = (i ≤ n) × (operations ≡ filledTo n bytes i)
+Inv-loop bytes answer c n operations₀ i₀ operations i = (i ≤ n) × (operations ≡ filledTo n bytes i)
 
 abbrev μ-loop : tie.MeasureT-loop
-μ-loop bytes c n operations₀ i₀ operations i = n - i
+μ-loop bytes answer c n operations₀ i₀ operations i = n - i
 
 identity-requires : tie.Need-identity-requires Inv-loop μ-loop
 identity-requires c κs = search needs
@@ -51,17 +48,15 @@ loop-again c =
     )
 
 returns : tie.Need-returns Inv-loop μ-loop
-unfolding acceptedGroup
+unfolding laidOut
 returns c =
     let a = c .before .before .before .before .args in
     let l = c .before .loop in
-    let items = itemsOf (a .n) (a .bytes .now) in
-    let count : a .n ≡ length (map operationOfItem items) = sym (length-map items operationOfItem ∙ items-count (a .n) (a .bytes .now)) in
     let done = l .inv .1 ∙ filled-end (a .n) (a .bytes .now) (l .i) (omega arith) (omega arith) in
-    λ k. record { answer = Accepted; centering = a .c; count = count k; operations = done k }
+    λ k. record { answer = a .answer; centering = a .c; count = a .n; operations = done k }
 
-pub accepted-spec : {M : Type 1} → statement M
-accepted-spec =
+pub laid-out-spec : {M : Type 1} → statement M
+laid-out-spec =
     tie.close
     (tie.spec
     Inv-loop
