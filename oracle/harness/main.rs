@@ -121,6 +121,8 @@ mod identify {
 /// tables live here.
 mod subgroup {
     mod finite_group;
+    #[cfg(measured)]
+    pub mod measured;
     pub mod tables;
 }
 

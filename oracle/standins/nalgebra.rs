@@ -30,6 +30,10 @@ pub mod products {
     }
 
     pub(crate) fn count_one() {
+        // What is measured is the original's own work.
+        if cfg!(measured) {
+            return;
+        }
         match LEFT.get() {
             None => {}
             Some(0) => std::panic::panic_any(UsedUp),
@@ -64,10 +68,10 @@ pub struct Vector3<T> {
     parts: [T; 3],
 }
 
-/// Kept by rows; nalgebra keeps columns, and nothing that is asked of it here can tell.
+/// Kept by columns, as nalgebra keeps it. Nothing that is asked of it here can tell, but the calls are also measured.
 #[derive(Clone, Copy, PartialEq, Eq, Debug)]
 pub struct Matrix3<T> {
-    rows: [[T; 3]; 3],
+    columns: [[T; 3]; 3],
 }
 
 impl<T> Vector3<T> {
@@ -139,7 +143,7 @@ impl<T> Matrix3<T> {
     #[allow(clippy::too_many_arguments)]
     pub fn new(a: T, b: T, c: T, d: T, e: T, f: T, g: T, h: T, i: T) -> Self {
         Matrix3 {
-            rows: [[a, b, c], [d, e, f], [g, h, i]],
+            columns: [[a, d, g], [b, e, h], [c, f, i]],
         }
     }
 }
@@ -147,53 +151,52 @@ impl<T> Matrix3<T> {
 impl<T: Copy> Matrix3<T> {
     pub fn from_columns(columns: &[Vector3<T>; 3]) -> Self {
         Matrix3 {
-            rows: std::array::from_fn(|i| std::array::from_fn(|j| columns[j].parts[i])),
+            columns: std::array::from_fn(|j| columns[j].parts),
         }
     }
 
     pub fn map<U>(&self, mut change: impl FnMut(T) -> U) -> Matrix3<U> {
         Matrix3 {
-            rows: self.rows.map(|row| row.map(&mut change)),
+            columns: self.columns.map(|column| column.map(&mut change)),
         }
-    }
-
-    fn column(&self, j: usize) -> [T; 3] {
-        self.rows.map(|row| row[j])
     }
 }
 
 impl<T: Entry> Matrix3<T> {
     pub fn identity() -> Self {
         Matrix3 {
-            rows: std::array::from_fn(|i| {
-                std::array::from_fn(|j| if i == j { T::UNIT } else { T::NIL })
+            columns: std::array::from_fn(|j| {
+                std::array::from_fn(|i| if i == j { T::UNIT } else { T::NIL })
             }),
         }
     }
 
     pub fn zeros() -> Self {
         Matrix3 {
-            rows: [[T::NIL; 3]; 3],
+            columns: [[T::NIL; 3]; 3],
         }
     }
 
     pub fn trace(&self) -> T {
-        T::NIL + self.rows[0][0] + self.rows[1][1] + self.rows[2][2]
+        T::NIL + self.columns[0][0] + self.columns[1][1] + self.columns[2][2]
     }
 
     /// Along the first row, as nalgebra does for three rows.
     pub fn determinant(&self) -> T {
-        let [[a, b, c], [d, e, f], [g, h, i]] = self.rows;
+        let [[a, d, g], [b, e, h], [c, f, i]] = self.columns;
         a * (e * i - h * f) - b * (d * i - g * f) + c * (d * h - g * e)
     }
 
     /// This matrix on one column: the shares of its columns, added one after another.
     fn on_column(&self, x: [T; 3]) -> [T; 3] {
         let order = if cfg!(reversed) { [2, 1, 0] } else { [0, 1, 2] };
-        let mut sum = self.column(order[0]).map(|entry| entry * x[order[0]]);
+        let mut sum = [T::NIL; 3];
+        for i in 0..3 {
+            sum[i] = self.columns[order[0]][i] * x[order[0]];
+        }
         for j in [order[1], order[2]] {
             for i in 0..3 {
-                sum[i] = self.rows[i][j] * x[j] + sum[i];
+                sum[i] = self.columns[j][i] * x[j] + sum[i];
             }
         }
         sum
@@ -207,16 +210,22 @@ impl Matrix3<f64> {
     }
 }
 
+/// The numbers of rows and columns, then entry by entry, as nalgebra is believed to do it.
 impl<T: Hash> Hash for Matrix3<T> {
     fn hash<H: Hasher>(&self, state: &mut H) {
-        self.rows.hash(state);
+        (3usize, 3usize).hash(state);
+        for column in &self.columns {
+            for entry in column {
+                entry.hash(state);
+            }
+        }
     }
 }
 
 impl<T> Index<(usize, usize)> for Matrix3<T> {
     type Output = T;
     fn index(&self, (i, j): (usize, usize)) -> &T {
-        &self.rows[i][j]
+        &self.columns[j][i]
     }
 }
 
@@ -237,10 +246,10 @@ impl<T: Entry> Mul for Matrix3<T> {
     type Output = Self;
     fn mul(self, other: Self) -> Self {
         products::count_one();
-        let columns = [0, 1, 2].map(|j| Vector3 {
-            parts: self.on_column(other.column(j)),
-        });
-        Matrix3::from_columns(&columns)
+        let [x, y, z] = other.columns;
+        Matrix3 {
+            columns: [self.on_column(x), self.on_column(y), self.on_column(z)],
+        }
     }
 }
 

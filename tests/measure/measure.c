@@ -1,7 +1,8 @@
 /* Makes the calls that its input names, one a line, and writes a line for each: the answer and the deepest stack. Each call stands between two marks,
    where count.c counts its instructions.
    A line is CALL SOURCE NUMBER SET ELEMENT: the entry's name without "symmetry_", the symbol, record or table in hex (- for an empty one), and what else
-   the entry takes, where NUMBER is a table's order, an operation's index or a record's start, and SET is in hex. */
+   the entry takes, where NUMBER is a table's order, an operation's index or a record's start, and SET is in hex. Beside the entries for C there are the
+   tables by value, of a test library, and where beside.c is linked the calls of other programs. */
 #include <stdint.h>
 #include <stdio.h>
 #include <stdlib.h>
@@ -9,14 +10,17 @@
 #include <ucontext.h>
 #include "../../include/symmetry.h"
 #include "marks.h"
+#include "measure.h"
 
-enum { SOURCE_ROOM = 8192, LIST_ROOM = 8 * 512, RECORD_ROOM = 5 + 5 * 48, STACK_WORDS = 8192 };
+enum { LIST_ROOM = 8 * 512, RECORD_ROOM = 5 + 5 * 48, STACK_WORDS = 8192 };
 
 /* ---- what a call is given, and what it answers ---- */
-static uint8_t source[SOURCE_ROOM], sets[LIST_ROOM], bytes[48], record[RECORD_ROOM];
-static size_t length;
-static uint64_t number, set, element;
-static volatile uint64_t answer;
+uint8_t source[SOURCE_ROOM];
+size_t length;
+uint64_t number;
+volatile uint64_t answer;
+static uint8_t sets[LIST_ROOM], bytes[48], record[RECORD_ROOM];
+static uint64_t set, element;
 
 #define SYMBOL source, length
 #define RECORD source, length
@@ -44,14 +48,31 @@ static volatile uint64_t answer;
 CALLS(FUNCTION)
 static void nothing(void) { answer = 0; }
 
-#define ENTRY(name, ...) { #name, name },
-static const struct entry { const char *name; void (*make)(void); } entries[] = { CALLS(ENTRY) { "nothing", nothing } };
+/* The whole table by value, which answers its order. */
+uint64_t symbol_table_order(const uint8_t *text, size_t length);
+uint64_t record_table_order(const uint8_t *bytes, size_t length);
+static void symbol_value(void) { answer = symbol_table_order(SYMBOL); }
+static void record_value(void) { answer = record_table_order(RECORD); }
+
+#define ENTRY(name, ...) { #name, name, NULL },
+static const struct entry entries[] = {
+    CALLS(ENTRY) { "symbol_value", symbol_value, NULL }, { "record_value", record_value, NULL }, { "nothing", nothing, NULL }, { NULL, NULL, NULL }
+};
+
+static const struct entry *entry_among(const struct entry *some, const char *name) {
+    for (; some->name != NULL; some++)
+        if (strcmp(some->name, name) == 0) return some;
+    return NULL;
+}
 
 static const struct entry *entry_of(const char *name) {
-    for (size_t i = 0; i < sizeof entries / sizeof entries[0]; i++)
-        if (strcmp(entries[i].name, name) == 0) return &entries[i];
-    fprintf(stderr, "no call %s\n", name);
-    exit(1);
+    const struct entry *entry = entry_among(entries, name);
+    if (entry == NULL && others != NULL) entry = entry_among(others, name);
+    if (entry == NULL) {
+        fprintf(stderr, "no call %s\n", name);
+        exit(1);
+    }
+    return entry;
 }
 
 /* ---- instructions ---- */
@@ -122,6 +143,7 @@ int main(void) {
         const struct entry *entry = entry_of(name);
         read_source(hex);
         number = numbers[0], set = numbers[1], element = numbers[2];
+        if (entry->prepare != NULL) entry->prepare();
         make_marked(entry);
         printf("%llu ", (unsigned long long)answer);
         printf("%zu\n", deepest(entry));

@@ -1,10 +1,12 @@
 """Has the C entries called on the recorded symbols, records and tables, and writes what the calls cost, as Markdown.
 
     python3 measure.py FOLDER LIBRARY TOOLS                          every table
+    python3 measure.py FOLDER LIBRARY TOOLS beside                   the first table, with the Rust and gemmi beside the port
     python3 measure.py FOLDER LIBRARY TOOLS profile ENTRY INPUTS     what each function executes in a call
 
-FOLDER holds count.so and measure, made from count.c and measure.c; LIBRARY is the archive of the entries; TOOLS stands before the names of `ld`,
-`size` and `nm` for x86-64. ENTRY is without "symmetry_", and INPUTS is the name of an input, where * stands for anything. measure.sh runs this.
+FOLDER holds count.so and measure, made from count.c and measure.c, for the second form also from beside.c; LIBRARY is the archive of the entries; TOOLS
+stands before the names of `ld`, `size` and `nm` for x86-64. ENTRY is without "symmetry_", and INPUTS is the name of an input, where * stands for anything.
+measure.sh and beside.sh run this.
 """
 
 import fnmatch
@@ -12,18 +14,18 @@ import os
 import shutil
 import subprocess
 import sys
+from collections import defaultdict
 from typing import NamedTuple
 
 RECORDED = os.path.join(os.path.dirname(os.path.abspath(__file__)), "..", "..", "oracle", "recorded")
 DATABASE = 530
 MOST_FUNCTIONS = 20
 
-# Of the Rust and of gemmi 0.5.7, on the same inputs; docs/MEASURES.md says how they were counted.
-OTHERS = {
-    "operations": (41411, 8578), "P 1": (5224, 952), "-P 2ac 2n": (42711, 10718), "-F 4 2 3": (276904, 36275),
-    "table": (2139021, None), "subgroups": (123929915, None), "classes": (5129177, None), "many subgroups": (77900000, None),
-}
-GOALS = {"operations": 5000, "table": 200000, "subgroups": 2400000}
+SYMBOLS = ("P 1", "-P 2ac 2n", "-F 4 2 3")
+CUBIC, MANY = "-P 4 2 3", "C2 ^ 5"
+PROGRAMS = ("rust", "gemmi")
+# The heap of the Rust and of gemmi is warm after the first call, and each call of the Rust has other keys for its hash tables.
+STEADY_CALLS = 8
 
 
 class Call(NamedTuple):
@@ -81,6 +83,15 @@ def of_symbols():
             yield from of_subgroup("record of " + shown(text), "record", bytes.fromhex(record[0]), 0, whole)
 
 
+def of_values():
+    """The tables by value of the database's symbols and of their records, which no entry for C hands out."""
+    for line in recorded("symbols.txt")[:DATABASE]:
+        text, _, _, record = line.split()
+        text = bytes.fromhex(text)
+        yield Call("database " + shown(text), "symbol_value", text)
+        yield Call("record of " + shown(text), "record_value", bytes.fromhex(record))
+
+
 def of_buffer(name, record):
     yield from of_group(name, "record", record)
     yield from (Call(name, "record_" + entry, record) for entry in ("letter", "copy"))
@@ -122,9 +133,23 @@ def of_all_groups():
 
 def all_calls():
     yield from of_symbols()
+    yield from of_values()
     yield from of_buffers()
     yield from of_tables()
     yield from of_all_groups()
+
+
+def of_others(calls):
+    """The calls of the Rust and of gemmi on inputs of the port's; a call that is looked at alone is made once and then again, to be steady."""
+    source = {call.name: call for call in calls if call.entry in ("symbol_order", "table_order")}
+    for program in PROGRAMS:
+        yield from (call._replace(entry=program + "_operations") for call in calls if (call.entry, call.name[:9]) == ("symbol_order", "database "))
+        for text in SYMBOLS:
+            yield from [source["database " + text]._replace(name=text, entry=program + "_operations")] * (1 + STEADY_CALLS)
+    yield from [source["database " + CUBIC]._replace(name=CUBIC, entry="rust_table")] * (1 + STEADY_CALLS)
+    for name, of_table in ((CUBIC, "table of " + CUBIC), (MANY, MANY)):
+        for entry in ("rust_subgroups", "rust_classes"):
+            yield from [source[of_table]._replace(name=name, entry=entry)] * (1 + STEADY_CALLS)
 
 
 # ---- what they cost ----
@@ -185,40 +210,71 @@ def row(*cells):
     print("| " + " | ".join(format(cell, ",.0f") if isinstance(cell, (int, float)) else cell or "" for cell in cells) + " |")
 
 
-def speed(measured):
+def mean(numbers):
+    return sum(numbers) / len(numbers)
+
+
+def of_database(measured, entry):
+    counts = [cost.instructions for call, cost in measured if call.entry == entry and call.name.startswith("database ")]
+    assert len(counts) == DATABASE
+    return mean(counts)
+
+
+def steady(others):
+    """What the calls of the Rust and of gemmi take, by entry and input: those after the first, or the mean over the database."""
+    found = defaultdict(list)
+    for call, cost in others:
+        found[call.entry, call.name].append(cost.instructions)
+    taken = {key: mean(counts[1:]) for key, counts in found.items() if len(counts) == 1 + STEADY_CALLS}
+    taken.update(((entry, "database"), of_database(others, entry)) for entry in ("rust_operations", "gemmi_operations"))
+    return taken
+
+
+def speed(measured, taken=None):
+    """The first table. `taken` has what the Rust and gemmi take, and adds a column for each."""
     cost = {(call.entry, call.name): each for call, each in measured}
 
-    def mean(entry):
-        counts = [each.instructions for call, each in measured if call.entry == entry and call.name.startswith("database ")]
-        assert len(counts) == DATABASE
-        return sum(counts) / DATABASE
+    def line(what, entry, count, beside=(None, None), goal=None):
+        """`beside` is the kind of the others' calls and their input."""
+        kind, name = beside
+        others = [] if taken is None else [taken.get(("%s_%s" % (program, kind), name)) for program in PROGRAMS]
+        row(what, "`%s`" % entry, count, *others, goal)
 
-    def line(what, entry, name, others=None):
-        row(what, "`symmetry_%s`" % entry, cost[entry, name].instructions if name else mean(entry), *OTHERS.get(others, ("", "")), GOALS.get(others))
+    def one(what, entry, name, beside=(None, None), goal=None):
+        line(what, "symmetry_" + entry, cost[entry, name].instructions, beside, goal)
 
-    def lines(what, entry, others):
-        """Of `-P 4 2 3`, given in the three ways."""
-        what += " of `-P 4 2 3` (%d)" % cost["table_" + entry, "table of -P 4 2 3"].answer if entry != "identity" else " of `-P 4 2 3`"
-        line(what + ", from table bytes", "table_" + entry, "table of -P 4 2 3", others if entry != "identity" else None)
-        line("the same, from the symbol", "symbol_" + entry, "database -P 4 2 3", others if entry == "identity" else None)
-        line("the same, from the record", "record_" + entry, "record of -P 4 2 3")
+    def of_table(entry, what, name, other, goal=None):
+        count = cost["table_" + entry, name].answer
+        one("%s (%d), from table bytes" % (what, count), "table_" + entry, name, (entry, other), goal)
 
-    row("one call", "entry", "the port", "the Rust", "gemmi", "goal")
-    print("|---|---|---:|---:|---:|---:|")
-    line("operations, mean over the 530 symbols", "symbol_order", None, "operations")
-    for text in ("P 1", "-P 2ac 2n", "-F 4 2 3"):
-        line("operations of `%s`" % text, "symbol_order", "database " + text, text)
-    line("record, mean over the 530 symbols", "symbol_record", None)
-    lines("table", "identity", "table")
-    lines("subgroups", "subgroups", "subgroups")
-    lines("classes", "classes", "classes")
-    many = cost["table_subgroups", "C2 ^ 5"].answer
-    line("subgroups of the elementary abelian group of order 32 (%d)" % many, "table_subgroups", "C2 ^ 5", "many subgroups")
-    line("its classes (%d)" % cost["table_classes", "C2 ^ 5"].answer, "table_classes", "C2 ^ 5")
+    titles = ["one call", "entry", "the port"] + ([] if taken is None else ["the Rust", "gemmi"]) + ["goal"]
+    row(*titles)
+    print("|---|---|" + "---:|" * (len(titles) - 2))
+    for what, entry, kind, goal in (("operations", "symbol_order", "operations", 5000), ("record", "symbol_record", None, None)):
+        line(what + ", mean over the 530 symbols", "symmetry_" + entry, of_database(measured, entry), (kind, "database"), goal)
+        for text in SYMBOLS:
+            one("%s of `%s`" % (what, text), entry, "database " + text, (kind, text))
+    for source, name, kind, goal in (("symbol", "database " + CUBIC, "table", 200000), ("record", "record of " + CUBIC, None, None)):
+        line("table of `%s` by value, from the %s" % (CUBIC, source), source + "_table_order", cost[source + "_value", name].instructions, (kind, CUBIC), goal)
+    one("the same table checked, from table bytes", "table_identity", "table of " + CUBIC)
+    for entry, goal in (("subgroups", 2400000), ("classes", None)):
+        of_table(entry, "%s of `%s`" % (entry, CUBIC), "table of " + CUBIC, CUBIC, goal)
+        one("the same, from the symbol", "symbol_" + entry, "database " + CUBIC)
+        one("the same, from the record", "record_" + entry, "record of " + CUBIC)
+    for entry in ("subgroups", "classes"):
+        of_table(entry, entry + " of the elementary abelian group of order 32", MANY, MANY)
+
+
+def agreed(measured, others):
+    """That the Rust and gemmi answered the port's counts, so that the same work is measured."""
+    answers = {(call.source, call.number, call.entry.split("_")[1]): cost.answer for call, cost in measured}
+    for call, cost in others:
+        kind = call.entry.split("_")[1]
+        assert cost.answer == answers[call.source, call.number, "order" if kind in ("operations", "table") else kind], call
 
 
 def by_entry(measured, size_of):
-    entries = sorted({call.entry for call, _ in measured})
+    entries = sorted({call.entry for call, _ in measured if not call.entry.endswith("_value")})
     row("entry", "code", "constants", "deepest stack", "together", "longest call", "on")
     print("|---|---:|---:|---:|---:|---:|---|")
     deepest = 0
@@ -233,7 +289,20 @@ def by_entry(measured, size_of):
     row("all entries", code, constants, deepest, code + constants + deepest, "", "")
 
 
+def beside(folder):
+    calls = list(all_calls())
+    wanted = [call for call in calls if call.name.startswith("database ") or call.name in ("record of " + CUBIC, "table of " + CUBIC, MANY)]
+    others = list(of_others(wanted))
+    measured = list(costs(folder, wanted + others))
+    port, rest = measured[:len(wanted)], measured[len(wanted):]
+    agreed(port, rest)
+    print("Executed x86-64 instructions:\n")
+    speed(port, steady(rest))
+
+
 def main(folder, library, tools, *words):
+    if words[:1] == ("beside",):
+        return beside(folder)
     if words:
         return profile(folder, *words[1:])
     calls = list(all_calls())
