@@ -1,9 +1,9 @@
 -- What is answered on the bytes of a table can be packed: elements and orders are at most 48, sets are below 2⁴⁸, and a list of
 -- different sets is no longer than that.
 use mathlib.Core.Path.{_≡_, refl, sym, _∙_, ap, subst}
-use mathlib.Core.Bool.{Bool, true, false, cond, _&&_}
+use mathlib.Core.Bool.{Bool, true, false, cond}
 use mathlib.Core.List.{List, [], _∷_}
-use Prim.Native.Nat.{ℕ, zero, suc, _+_, _/_, _^_, _<_, _≤_}
+use Prim.Native.Nat.{ℕ, zero, suc, _/_, _^_, _<_, _≤_}
 use native.Mathlib.Decide.{ℕ-discrete}
 use native.Mathlib.Omega.{arith}
 use lib.Count.{ones, ones-le}
@@ -13,7 +13,7 @@ use lib.Pow.{pow-lt}
 use borrow.Author.Tests.{ltb-true}
 use Rattle.laws.specs.ListOrder.{earlier}
 use Rattle.laws.specs.Sets.{setOf-below}
-use Rattle.laws.specs.Sorted.{keep, sort, sort-length}
+use Rattle.laws.specs.Sorted.{keep, sort-length}
 use Rattle.finite_group.specs.Answers.{onGroup, listAnswer, orderAnswer, identityAnswer, subgroupsAnswer, classesAnswer, conjugateAnswer, conjugateEntry, normalizerAnswer, normalizerEntry, permutationAnswer, permutationEntry, conjugatesAnswer, conjugatesEntry, numberOf, placeOf}
 use Rattle.subgroup_laws.specs.Bounded.{and-both}
 use Rattle.finite_group.specs.ConjugateLists.{tooShort}

@@ -1,7 +1,7 @@
 -- The tables of symbols and records are those of groups: the check of a table accepts them, and they fit the lent slots.
 use mathlib.Core.Path.{_≡_, refl, sym, _∙_, ap, subst}
 use mathlib.Core.List.{List}
-use Prim.Native.Nat.{ℕ, _*_, _<_, _≤_}
+use Prim.Native.Nat.{ℕ, _*_, _≤_}
 use native.Mathlib.Omega.{arith}
 use lib.ListN.{length, take, length-take}
 use Rattle.symbol_group.specs.Answers.{orderOf}

@@ -3,10 +3,6 @@ use Rattle.calls.specs.TableBounds.{packable-as, packed-as, table-classe
 use borrow.Author.Needs.{needs}
 use Rattle.calls.proofs.table.symmetry_table_classes.Statement.{statement}
 use Rattle.calls.proofs.table.symmetry_table_classes.Tie as tie
-use Rattle.calls.proofs.table.symmetry_table_classes.Reads as reads
-use Rattle.calls.proofs.table.symmetry_table_classes.Lts as lts
-use Rattle.calls.proofs.table.answered.Reads as answered-reads
-use Rattle.finite_group.proofs.conjugacy_classes.Reads as conjugacy-classes-reads
 
 conjugacy-classes-requires : tie.Need-conjugacy-classes-requires
 conjugacy-classes-requires c κs = search needs

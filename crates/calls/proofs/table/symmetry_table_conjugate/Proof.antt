@@ -3,10 +3,6 @@ use Rattle.calls.specs.TableBounds.{packable-as, packed-as, table-conjug
 use borrow.Author.Needs.{needs}
 use Rattle.calls.proofs.table.symmetry_table_conjugate.Statement.{statement}
 use Rattle.calls.proofs.table.symmetry_table_conjugate.Tie as tie
-use Rattle.calls.proofs.table.symmetry_table_conjugate.Reads as reads
-use Rattle.calls.proofs.table.symmetry_table_conjugate.Lts as lts
-use Rattle.calls.proofs.table.answered.Reads as answered-reads
-use Rattle.finite_group.proofs.conjugate.Reads as conjugate-reads
 
 conjugate-requires : tie.Need-conjugate-requires
 conjugate-requires c κs = search needs

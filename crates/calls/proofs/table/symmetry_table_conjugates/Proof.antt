@@ -3,10 +3,6 @@ use Rattle.calls.specs.TableBounds.{packable-as, packed-as, table-conjug
 use borrow.Author.Needs.{needs}
 use Rattle.calls.proofs.table.symmetry_table_conjugates.Statement.{statement}
 use Rattle.calls.proofs.table.symmetry_table_conjugates.Tie as tie
-use Rattle.calls.proofs.table.symmetry_table_conjugates.Reads as reads
-use Rattle.calls.proofs.table.symmetry_table_conjugates.Lts as lts
-use Rattle.calls.proofs.table.answered.Reads as answered-reads
-use Rattle.finite_group.proofs.conjugates.Reads as conjugates-reads
 
 conjugates-requires : tie.Need-conjugates-requires
 conjugates-requires c κs = search needs

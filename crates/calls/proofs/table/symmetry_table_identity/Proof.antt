@@ -3,10 +3,6 @@ use Rattle.calls.specs.TableBounds.{packable-as, packed-as, table-identi
 use borrow.Author.Needs.{needs}
 use Rattle.calls.proofs.table.symmetry_table_identity.Statement.{statement}
 use Rattle.calls.proofs.table.symmetry_table_identity.Tie as tie
-use Rattle.calls.proofs.table.symmetry_table_identity.Reads as reads
-use Rattle.calls.proofs.table.symmetry_table_identity.Lts as lts
-use Rattle.calls.proofs.table.answered.Reads as answered-reads
-use Rattle.finite_group.proofs.identity.Reads as identity-reads
 
 identity-requires : tie.Need-identity-requires
 identity-requires c κs = search needs

@@ -3,10 +3,6 @@ use Rattle.calls.specs.TableBounds.{packable-as, packed-as, table-normal
 use borrow.Author.Needs.{needs}
 use Rattle.calls.proofs.table.symmetry_table_normalizer.Statement.{statement}
 use Rattle.calls.proofs.table.symmetry_table_normalizer.Tie as tie
-use Rattle.calls.proofs.table.symmetry_table_normalizer.Reads as reads
-use Rattle.calls.proofs.table.symmetry_table_normalizer.Lts as lts
-use Rattle.calls.proofs.table.answered.Reads as answered-reads
-use Rattle.finite_group.proofs.normalizer.Reads as normalizer-reads
 
 normalizer-requires : tie.Need-normalizer-requires
 normalizer-requires c κs = search needs

@@ -3,10 +3,6 @@ use Rattle.calls.specs.TableBounds.{packable-as, packed-as, table-order}
 use borrow.Author.Needs.{needs}
 use Rattle.calls.proofs.table.symmetry_table_order.Statement.{statement}
 use Rattle.calls.proofs.table.symmetry_table_order.Tie as tie
-use Rattle.calls.proofs.table.symmetry_table_order.Reads as reads
-use Rattle.calls.proofs.table.symmetry_table_order.Lts as lts
-use Rattle.calls.proofs.table.answered.Reads as answered-reads
-use Rattle.finite_group.proofs.order.Reads as order-reads
 
 order-requires : tie.Need-order-requires
 order-requires c κs = search needs

@@ -3,10 +3,6 @@ use Rattle.calls.specs.TableBounds.{packable-as, packed-as, table-permut
 use borrow.Author.Needs.{needs}
 use Rattle.calls.proofs.table.symmetry_table_permutation.Statement.{statement}
 use Rattle.calls.proofs.table.symmetry_table_permutation.Tie as tie
-use Rattle.calls.proofs.table.symmetry_table_permutation.Reads as reads
-use Rattle.calls.proofs.table.symmetry_table_permutation.Lts as lts
-use Rattle.calls.proofs.table.answered.Reads as answered-reads
-use Rattle.finite_group.proofs.normalizer_action.Reads as normalizer-action-reads
 
 normalizer-action-requires : tie.Need-normalizer-action-requires
 normalizer-action-requires c κs = search needs

@@ -3,10 +3,6 @@ use Rattle.calls.specs.TableBounds.{packable-as, packed-as, table-subgro
 use borrow.Author.Needs.{needs}
 use Rattle.calls.proofs.table.symmetry_table_subgroups.Statement.{statement}
 use Rattle.calls.proofs.table.symmetry_table_subgroups.Tie as tie
-use Rattle.calls.proofs.table.symmetry_table_subgroups.Reads as reads
-use Rattle.calls.proofs.table.symmetry_table_subgroups.Lts as lts
-use Rattle.calls.proofs.table.answered.Reads as answered-reads
-use Rattle.finite_group.proofs.enumerate_subgroups.Reads as enumerate-subgroups-reads
 
 enumerate-subgroups-requires : tie.Need-enumerate-subgroups-requires
 enumerate-subgroups-requires c κs = search needs
