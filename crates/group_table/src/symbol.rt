@@ -76,15 +76,7 @@ fn fill_rows(cells: &mut [u8], g: SymbolGroup)
     let generator = found.generator;
     let mut i = 0usize;
     while i < count {
-        fill_row(
-            cells,
-            &steps,
-            &earlier,
-            &generator,
-            count,
-            generators,
-            i,
-        );
+        fill_row(cells, &steps, &earlier, &generator, count, generators, i);
         i += 1;
     }
 }
