@@ -142,3 +142,28 @@ record-cells-group bytes b n = by-answer (readOf bytes .answer) refl
         let (w, A) = read-allowed bytes g refl b e in
         subst (λ (k : ℕ). GroupTable k (tableOf (g .centering) l) (identityIndex (g .centering) l)) (read-order bytes b e .0 ∙ same) (group-table (g .centering) (w .listing) A)
     by-answer (RecordRefused r) e p = let z : _≡_ {A = ℕ} 0 1 = cc in absurd (omega arith)
+
+-- They are the first n² slots of the table by value, so what is said of motions there holds for the cells alone.
+pub symbol-cells-same : (text : List ℕ) (n : ℕ) → orderOf text ≡ Is n → take (n * n) (symbolTable text .cells) ≡ symbolCells text
+unfolding orderOf symbolTable symbolCells
+symbol-cells-same text n = by-answer (symbolAnswer text .answer)
+  where
+    by-answer : (a : symbol.Answer) → orderBy a (symbolAnswer text .count) ≡ Is n → take (n * n) (symbolTableBy a (symbolAnswer text .centering) (take (symbolAnswer text .count) (symbolAnswer text .operations)) .cells) ≡ symbolCellsBy a (symbolAnswer text .centering) (take (symbolAnswer text .count) (symbolAnswer text .operations))
+    by-answer Group p =
+        let g = symbolAnswer text in
+        let l = take (g .count) (g .operations) in
+        let same : g .count ≡ n = cc in
+        subst (λ (k : ℕ). take (k * k) (cellsOf (g .centering) l) ≡ tableOf (g .centering) l) (symbol-order text g refl ∙ same) (cells-table (g .centering) l)
+    by-answer (Refused r) p = let z : _≡_ {A = ℕ} 0 1 = cc in absurd (omega arith)
+
+pub record-cells-same : (bytes : List ℕ) → Bytes bytes → (n : ℕ) → recordOrder bytes ≡ RecordIs n → take (n * n) (recordTable bytes .cells) ≡ recordCells bytes
+unfolding recordOrder recordTable recordCells
+record-cells-same bytes b n = by-answer (readOf bytes .answer) refl
+  where
+    by-answer : (a : Reading) → readOf bytes .answer ≡ a → recordOrderBy a (readOf bytes .count) ≡ RecordIs n → take (n * n) (recordTableBy a (readOf bytes .centering) (take (readOf bytes .count) (readOf bytes .operations)) .cells) ≡ recordCellsBy a (readOf bytes .centering) (take (readOf bytes .count) (readOf bytes .operations))
+    by-answer Accepted e p =
+        let g = readOf bytes in
+        let l = take (g .count) (g .operations) in
+        let same : g .count ≡ n = cc in
+        subst (λ (k : ℕ). take (k * k) (cellsOf (g .centering) l) ≡ tableOf (g .centering) l) (read-order bytes b e .0 ∙ same) (cells-table (g .centering) l)
+    by-answer (RecordRefused r) e p = let z : _≡_ {A = ℕ} 0 1 = cc in absurd (omega arith)
