@@ -18,7 +18,8 @@ use Rattle.hall_token.specs.declared.Fold.{Fold}
 use Rattle.hall_token.specs.declared.Axis.{Axis}
 use Rattle.hall_token.specs.declared.Previous.{Previous}
 use Rattle.hall_token.specs.declared.ParsedOperation.{ParsedOperation}
-use Rattle.hall_token.specs.declared.ParsedOperation.the-variants.{Operation as IsOperation, Misspelt as IsMisspelt, Primed as IsPrimed, Unsettled as IsUnsettled, Digit as IsDigit}
+use Rattle.hall_token.specs.declared.ParsedOperation.the-variants.{Operation as IsOperation, Refused as IsRefused}
+use Rattle.hall_token.specs.declared.refusal.Refusal as token-refusal
 use Rattle.hall_symbol.specs.Bytes.{whitespace, allowed, opening}
 use Rattle.hall_symbol.specs.Runs.{run, Every, Stops, run-all, run-at, run-below, first-run, every-run}
 use Rattle.hall_symbol.specs.Tokens.{Token, tokenAt, tokensFrom, tokens}
@@ -34,7 +35,7 @@ use Rattle.hall_symbol.specs.declared.lattice.Lattice.the-variants.{Is, 
 use Rattle.hall_symbol.specs.declared.shift.Shift.{Shift}
 use Rattle.hall_symbol.specs.declared.shift.Shift.the-variants.{By, Malformed}
 use Rattle.hall_symbol.specs.declared.refusal.Refusal.{Refusal}
-use Rattle.hall_symbol.specs.declared.refusal.Refusal.the-variants.{TooLong, ForbiddenByte, NoToken, Lattice as BadLattice, Misspelt, Unsettled, Digit, Primed, Shift as BadShift, NoRotation, TooMany}
+use Rattle.hall_symbol.specs.declared.refusal.Refusal.the-variants.{TooLong, ForbiddenByte, NoToken, Lattice as BadLattice, Token as BadToken, Shift as BadShift, NoRotation, TooMany}
 
 -- The byte that a token starts with.
 stops-first : (t after : List ℕ) → 0 < length t → Stops opening t → opening (getD (t ++ after) 0 0) ≡ false
@@ -121,12 +122,12 @@ spells-read text c gs h = begins-read text (h .begins) ∙ go (h .v) (h .ending)
         ∙ rw (shift-read (t ++ after) v spelled))
 
 -- A refused N token gives the reading its refusal.
-token-refused-read : (text : List ℕ) (p : ℕ) (answer : ParsedOperation) (h : TokenRefused text p answer) → readSymbol text ≡ onOperation p answer (λ o f a. operations (length text) (h .next .c) (h .next .found ++ (o ∷ [])) (nextPrevious (h .previous) f a) (tokensFrom (p + length (h .t)) true (h .after)))
-token-refused-read text p answer h =
+token-refused-read : (text : List ℕ) (p : ℕ) (r : token-refusal.Refusal) → TokenRefused text p r → readSymbol text ≡ refusal (BadToken p r)
+token-refused-read text p r h =
     let m = h .next in
     next-read text (h .previous) p (h .t) (h .after) m
     ∙ step-rotation (length text) (m .c) (m .found) (h .previous) _ _ (stops-first (h .t) (h .after) (m .cut .some) (h .rotation)) (h .few)
-    ∙ rw (cut-word (m .s) (m .w) (h .t) (h .after) (m .cut), answers-exact (h .t) (h .previous) answer .1 (h .says))
+    ∙ rw (cut-word (m .s) (m .w) (h .t) (h .after) (m .cut), answers-exact (h .t) (h .previous) (IsRefused r) .1 (h .says))
 
 -- A token that spells no lattice is read as none.
 no-lattice : (t : List ℕ) → ((inverted : Bool) (c : Centering) → t ≡ latticeSpelling inverted c → ⊥) → latticeToken t ≡ Wrong
@@ -161,10 +162,7 @@ refuses-read text (ForbiddenByte p) h =
 refuses-read text NoToken h = fit-read text (h .0) ∙ rw (tokens-none 0 text (h .1))
 refuses-read text (BadLattice p) h =
     fit-read text (h .fit) ∙ rw (tokens-cut 0 text (h .w) (h .t) (h .after) (h .cut), cut-word text (h .w) (h .t) (h .after) (h .cut), no-lattice (h .t) (h .wrong), h .stands) (ap (λ (q : ℕ). refusal (BadLattice q)) (omega arith))
-refuses-read text (Misspelt p) h = token-refused-read text p IsMisspelt h
-refuses-read text (Unsettled p) h = token-refused-read text p IsUnsettled h
-refuses-read text (Digit p) h = token-refused-read text p IsDigit h
-refuses-read text (Primed p) h = token-refused-read text p IsPrimed h
+refuses-read text (BadToken p r) h = token-refused-read text p r h
 refuses-read text (BadShift p) h =
     let m = h .next in
     next-read text (h .previous) p (h .t) (h .after) m
@@ -256,18 +254,11 @@ module _ (text : List ℕ) (c : Centering) (found : List Operation) (previous : 
         go true h = opens here (eqb-true (previous .count) 0 h) o
         go false h = let none = eqb-false (previous .count) 0 h in read (omega (arith, none)) (shiftOf (t ++ after)) refl
 
-    -- What a refused N token says by the rules.
-    refused-says : Stops opening t → previous .count < 8 → (answer : ParsedOperation) → operationToken t previous ≡ answer → TokenRefused text (p + length w) answer
-    refused-says start few answer e =
-        record { previous = previous; t = t; after = after; next = here; rotation = start; few = few; says = answers-exact t previous answer .0 e }
-
     -- At any other token, where what follows an operation is known to be read by the rules.
     rotation-says : Stops opening t → ((o : Operation) (f : Fold) (a : Axis) → Begins text c (found ++ (o ∷ [])) (nextPrevious previous f a) (p + length w + length t) after → Says text (operations (length text) c (found ++ (o ∷ [])) (nextPrevious previous f a) (tokensFrom (p + length w + length t) true after))) → (few : previous .count < 8) (answer : ParsedOperation) → operationToken t previous ≡ answer → Says text (onOperation (p + length w) answer (λ o f a. operations (length text) c (found ++ (o ∷ [])) (nextPrevious previous f a) (tokensFrom (p + length w + length t) true after)))
     rotation-says start later few (IsOperation o f a) e = later o f a (rotation o f a begins cut start few (answers-exact t previous (IsOperation o f a) .0 e))
-    rotation-says start later few IsMisspelt e = refused-says start few IsMisspelt e
-    rotation-says start later few IsPrimed e = refused-says start few IsPrimed e
-    rotation-says start later few IsUnsettled e = refused-says start few IsUnsettled e
-    rotation-says start later few IsDigit e = refused-says start few IsDigit e
+    rotation-says start later few (IsRefused r) e =
+        record { previous = previous; t = t; after = after; next = here; rotation = start; few = few; says = answers-exact t previous (IsRefused r) .0 e }
 
     -- At any token.
     token-says : ((o : Operation) (f : Fold) (a : Axis) → Begins text c (found ++ (o ∷ [])) (nextPrevious previous f a) (p + length w + length t) after → Says text (operations (length text) c (found ++ (o ∷ [])) (nextPrevious previous f a) (tokensFrom (p + length w + length t) true after))) → Says text (operations (length text) c found previous (tokenAt (p + length w) (t ++ after) ∷ tokensFrom (p + length w + length t) true after))

@@ -59,6 +59,14 @@ pub answer-refuses : (text : List ℕ) (r : Refusal) → (answerOf (readSymbol t
 answer-refuses text r =
     ((λ e. refusal-exactly text r .0 (answer-once (readSymbol text) (refusal r) e)), λ h. ap answerOf (refusal-exactly text r .1 h))
 
+-- The refusal alone says as much.
+pub answer-refused : (text : List ℕ) (r : Refusal) → (answerOf (readSymbol text) .answer ≡ Refused r) ↔ Refuses text r
+answer-refused text r = ((λ e. refusal-exactly text r .0 (go (readSymbol text) e)), λ h. ap (λ (s : Reading). answerOf s .answer) (refusal-exactly text r .1 h))
+  where
+    go : (s : Reading) → answerOf s .answer ≡ Refused r → s ≡ refusal r
+    go (symbol c gs) e = let z : _≡_ {A = ℕ} 0 1 = cc in absurd (omega arith)
+    go (refusal q) e = let same : q ≡ r = cc in ap refusal same
+
 -- ---- the count
 leading-few : (inverted : Bool) → length (leading inverted) ≤ 1
 leading-few true = omega arith

@@ -19,3 +19,4 @@ pub mod Spelling
 pub mod Parts
 pub mod Agreement
 pub mod Answers
+pub mod Told

@@ -19,7 +19,7 @@ use Rattle.hall_token.specs.declared.Direction.the-variants.{Z}
 use Rattle.hall_token.specs.declared.Axis.{Axis}
 use Rattle.hall_token.specs.declared.Previous.{Previous}
 use Rattle.hall_token.specs.declared.ParsedOperation.{ParsedOperation}
-use Rattle.hall_token.specs.declared.ParsedOperation.the-variants.{Operation as IsOperation, Misspelt as IsMisspelt, Primed as IsPrimed, Unsettled as IsUnsettled, Digit as IsDigit}
+use Rattle.hall_token.specs.declared.ParsedOperation.the-variants.{Operation as IsOperation, Refused as IsRefused}
 use Rattle.hall_symbol.specs.Bytes.{allowed, opening}
 use Rattle.hall_symbol.specs.Runs.{run}
 use Rattle.hall_symbol.specs.Tokens.{Token, tokens, bytesOf}
@@ -31,7 +31,7 @@ use Rattle.hall_symbol.specs.declared.lattice.Lattice.the-variants.{Is, 
 use Rattle.hall_symbol.specs.declared.shift.Shift.{Shift}
 use Rattle.hall_symbol.specs.declared.shift.Shift.the-variants.{By, Malformed}
 use Rattle.hall_symbol.specs.declared.refusal.Refusal.{Refusal}
-use Rattle.hall_symbol.specs.declared.refusal.Refusal.the-variants.{TooLong, ForbiddenByte, NoToken, Lattice as BadLattice, Misspelt, Unsettled, Digit, Primed, Shift as BadShift, NoRotation, TooMany}
+use Rattle.hall_symbol.specs.declared.refusal.Refusal.the-variants.{TooLong, ForbiddenByte, NoToken, Lattice as BadLattice, Token as BadToken, Shift as BadShift, NoRotation, TooMany}
 use Rattle.hall_symbol.specs.declared.Answer.the-variants.{Symbol, Refused}
 use Rattle.hall_symbol.specs.declared.HallSymbol.{HallSymbol}
 
@@ -52,10 +52,7 @@ nextPrevious previous f a = record { count = previous .count + 1; fold = f; axis
 -- What an N token's own answer says of the symbol, where it stands at place p.
 abbrev pub onOperation : ℕ → ParsedOperation → (Operation → Fold → Axis → Reading) → Reading
 onOperation p (IsOperation o f a) next = next o f a
-onOperation p IsMisspelt next = refusal (Misspelt p)
-onOperation p IsPrimed next = refusal (Primed p)
-onOperation p IsUnsettled next = refusal (Unsettled p)
-onOperation p IsDigit next = refusal (Digit p)
+onOperation p (IsRefused r) next = refusal (BadToken p r)
 
 -- The whole symbol, once its shift is known.
 abbrev pub shiftedSymbol : Centering → List Operation → Translation → Reading

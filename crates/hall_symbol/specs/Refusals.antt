@@ -1,7 +1,8 @@
--- The numbers and places of 01, "Refusal numbers", 1 to 11: the one place where they stand.
+-- The numbers and places of 01, "Refusal numbers", 1 to 11: the one place where they stand, but for those of an N token, which are that room's.
 use Prim.Native.Nat.{ℕ}
+use Rattle.hall_token.specs.Refusals as token
 use Rattle.hall_symbol.specs.declared.refusal.Refusal.{Refusal}
-use Rattle.hall_symbol.specs.declared.refusal.Refusal.the-variants.{TooLong, ForbiddenByte, NoToken, Lattice, Misspelt, Unsettled, Digit, Primed, Shift, NoRotation, TooMany}
+use Rattle.hall_symbol.specs.declared.refusal.Refusal.the-variants.{TooLong, ForbiddenByte, NoToken, Lattice, Token, Shift, NoRotation, TooMany}
 
 -- The number.
 abbrev pub numberOf : Refusal → ℕ
@@ -9,10 +10,7 @@ numberOf TooLong = 1
 numberOf (ForbiddenByte p) = 2
 numberOf NoToken = 3
 numberOf (Lattice p) = 4
-numberOf (Misspelt p) = 5
-numberOf (Unsettled p) = 6
-numberOf (Digit p) = 7
-numberOf (Primed p) = 8
+numberOf (Token p r) = token.numberOf r
 numberOf (Shift p) = 9
 numberOf (NoRotation p) = 10
 numberOf (TooMany p) = 11
@@ -23,10 +21,7 @@ placeOf TooLong = 80
 placeOf (ForbiddenByte p) = p
 placeOf NoToken = 0
 placeOf (Lattice p) = p
-placeOf (Misspelt p) = p
-placeOf (Unsettled p) = p
-placeOf (Digit p) = p
-placeOf (Primed p) = p
+placeOf (Token p r) = p
 placeOf (Shift p) = p
 placeOf (NoRotation p) = p
 placeOf (TooMany p) = p

@@ -14,8 +14,8 @@ use Rattle.hall_token.specs.Answers.{Answers}
 use Rattle.hall_token.specs.declared.Fold.{Fold}
 use Rattle.hall_token.specs.declared.Axis.{Axis}
 use Rattle.hall_token.specs.declared.Previous.{Previous}
-use Rattle.hall_token.specs.declared.ParsedOperation.{ParsedOperation}
-use Rattle.hall_token.specs.declared.ParsedOperation.the-variants.{Operation as IsOperation, Misspelt as IsMisspelt, Primed as IsPrimed, Unsettled as IsUnsettled, Digit as IsDigit}
+use Rattle.hall_token.specs.declared.ParsedOperation.the-variants.{Operation as IsOperation, Refused as IsRefused}
+use Rattle.hall_token.specs.declared.refusal.Refusal as token
 use Rattle.hall_symbol.specs.Bytes.{whitespace, allowed, opening}
 use Rattle.hall_symbol.specs.Runs.{Every, Stops}
 use Rattle.hall_symbol.specs.Cut.{Cut}
@@ -23,7 +23,7 @@ use Rattle.hall_symbol.specs.Shift.{noShift}
 use Rattle.hall_symbol.specs.Generators.{leading, shifted}
 use Rattle.hall_symbol.specs.Reader.{Reading, symbol, refusal, noPrevious, nextPrevious}
 use Rattle.hall_symbol.specs.declared.refusal.Refusal.{Refusal}
-use Rattle.hall_symbol.specs.declared.refusal.Refusal.the-variants.{TooLong, ForbiddenByte, NoToken, Lattice, Misspelt, Unsettled, Digit, Primed, Shift, NoRotation, TooMany}
+use Rattle.hall_symbol.specs.declared.refusal.Refusal.the-variants.{TooLong, ForbiddenByte, NoToken, Lattice, Token, Shift, NoRotation, TooMany}
 
 -- ---- the first token
 -- The letter c, with the byte 45, `-`, before it where the inversion is there.
@@ -129,15 +129,15 @@ pub record Next (text : List ℕ) (previous : Previous) (place : ℕ) (t after :
   pub cut : Cut s w t after
   pub stands : place ≡ p + length w
 
--- 5, 6, 7, 8: the first N token that is no operation stands at the place, and is not the ninth; the answer says what is wrong with it.
-pub record TokenRefused (text : List ℕ) (place : ℕ) (answer : ParsedOperation) : Type 0 where
+-- 5, 6, 7, 8: the first N token that is no operation stands at the place, and is not the ninth; its own refusal says what is wrong with it.
+pub record TokenRefused (text : List ℕ) (place : ℕ) (r : token.Refusal) : Type 0 where
   pub previous : Previous
   pub t : List ℕ
   pub after : List ℕ
   pub next : Next text previous place t after
   pub rotation : Stops opening t
   pub few : previous .count < 8
-  pub says : Answers t previous answer
+  pub says : Answers t previous (IsRefused r)
 
 -- 9: a shift stands at the place, behind an N token, and is spelt like none.
 pub record ShiftMalformed (text : List ℕ) (place : ℕ) : Type 0 where
@@ -169,10 +169,7 @@ Refuses text TooLong = 80 < length text
 Refuses text (ForbiddenByte p) = FirstForbidden text p
 Refuses text NoToken = Fit text × Every whitespace text
 Refuses text (Lattice p) = LatticeWrong text p
-Refuses text (Misspelt p) = TokenRefused text p IsMisspelt
-Refuses text (Unsettled p) = TokenRefused text p IsUnsettled
-Refuses text (Digit p) = TokenRefused text p IsDigit
-Refuses text (Primed p) = TokenRefused text p IsPrimed
+Refuses text (Token p r) = TokenRefused text p r
 Refuses text (Shift p) = ShiftMalformed text p
 Refuses text (NoRotation p) = RotationMissing text p
 Refuses text (TooMany p) = NinthRotation text p

@@ -149,10 +149,7 @@ fn parse(text: &[u8], from: usize, centering: Centering, leading: Generators) ->
                     axis,
                 };
             }
-            ParsedOperation::Misspelt => return refused(Refusal::Misspelt(start)),
-            ParsedOperation::Primed => return refused(Refusal::Primed(start)),
-            ParsedOperation::Unsettled => return refused(Refusal::Unsettled(start)),
-            ParsedOperation::Digit => return refused(Refusal::Digit(start)),
+            ParsedOperation::Refused(refusal) => return refused(Refusal::Token(start, refusal)),
         }
     }
 }

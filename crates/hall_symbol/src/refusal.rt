@@ -1,4 +1,5 @@
-// Why a text is no Hall symbol: the refusals 1 to 11 of 01, each with its place where the text decides it.
+// Why a text is no Hall symbol: the refusals 1 to 11 of 01, each with its place where the text decides it. An N token's refusal is held as that
+// room gives it, with the place where the token starts.
 ghost use mathlib.Core.Path.{_≡_};
 ghost use Rattle.hall_symbol.specs.Refusals.{numberOf, placeOf};
 
@@ -7,10 +8,7 @@ pub enum Refusal {
     ForbiddenByte(usize),
     NoToken,
     Lattice(usize),
-    Misspelt(usize),
-    Unsettled(usize),
-    Digit(usize),
-    Primed(usize),
+    Token(usize, hall_token::refusal::Refusal),
     Shift(usize),
     NoRotation(usize),
     TooMany(usize),
@@ -25,10 +23,7 @@ impl Refusal {
             Refusal::ForbiddenByte(_) => 2,
             Refusal::NoToken => 3,
             Refusal::Lattice(_) => 4,
-            Refusal::Misspelt(_) => 5,
-            Refusal::Unsettled(_) => 6,
-            Refusal::Digit(_) => 7,
-            Refusal::Primed(_) => 8,
+            Refusal::Token(_, refusal) => refusal.number(),
             Refusal::Shift(_) => 9,
             Refusal::NoRotation(_) => 10,
             Refusal::TooMany(_) => 11,
@@ -43,10 +38,7 @@ impl Refusal {
             Refusal::ForbiddenByte(place) => place,
             Refusal::NoToken => 0,
             Refusal::Lattice(place) => place,
-            Refusal::Misspelt(place) => place,
-            Refusal::Unsettled(place) => place,
-            Refusal::Digit(place) => place,
-            Refusal::Primed(place) => place,
+            Refusal::Token(place, _) => place,
             Refusal::Shift(place) => place,
             Refusal::NoRotation(place) => place,
             Refusal::TooMany(place) => place,

@@ -27,7 +27,9 @@ use Rattle.hall_token.specs.declared.Turn.{Turn}
 use Rattle.hall_token.specs.declared.Turn.the-variants.{Matrix, NoMatrix}
 use Rattle.hall_token.specs.declared.Moved.the-variants.{By, WrongDigit}
 use Rattle.hall_token.specs.declared.ParsedOperation.{ParsedOperation}
-use Rattle.hall_token.specs.declared.ParsedOperation.the-variants.{Operation, Misspelt, Primed, Unsettled, Digit}
+use Rattle.hall_token.specs.declared.ParsedOperation.the-variants.{Operation, Refused}
+use Rattle.hall_token.specs.declared.refusal.Refusal.{Refusal}
+use Rattle.hall_token.specs.declared.refusal.Refusal.the-variants.{Misspelt, Primed, Unsettled, Digit}
 use Rattle.hall_token.specs.Bytes.{runBytes, runByteOf, valueAt, passes, valueAt-passes, foldNumber}
 use Rattle.hall_token.specs.Runs.{every, noPrime, noScrew, every-member, member-every, Fails, every-fails, prime-byte, prime-here, no-prime-here}
 use Rattle.hall_token.specs.Axes.{plain, axisOf}
@@ -35,7 +37,8 @@ use Rattle.hall_token.specs.AxisRules.{Settles, settles-exact}
 use Rattle.hall_token.specs.Matrices.{turnOf, signed}
 use Rattle.hall_token.specs.Turns.{turn-rule, signed-digits}
 use Rattle.hall_token.specs.Translations.{plainZ, screwRight, frontRight, digitsRight, translationOf, movedBy}
-use Rattle.hall_token.specs.Reader.{refusalNumber, Parts, parts, no-parts, readToken, movedThen, turnThen, axisThen, operationOfParts, operationToken}
+use Rattle.hall_token.specs.Reader.{Parts, parts, no-parts, readToken, movedThen, turnThen, axisThen, operationOfParts, operationToken}
+use Rattle.hall_token.specs.Refusals.{numberOf, number-once}
 use Rattle.hall_token.specs.Spelling.{Spells, read-exact}
 
 -- ---- the answers
@@ -96,13 +99,17 @@ pub record IsOperation (token : List ℕ) (p : Previous) (o : operation.Operatio
   pub is-axis : a ≡ turning .about
   pub is-operation : o ≡ record { rotation = signed (spelling .negative) (turning .rotation); translation = translationOf (spelling .fold) (spelling .run) }
 
--- What holds of a token where an answer is right.
+-- What holds of a token where a refusal is right.
+abbrev pub Refuses : List ℕ → Previous → Refusal → Type 0
+Refuses token p Misspelt = IsMisspelt token
+Refuses token p Primed = IsPrimed token
+Refuses token p Unsettled = IsUnsettled token p
+Refuses token p Digit = HasWrongDigit token p
+
+-- The same of an answer.
 abbrev pub Answers : List ℕ → Previous → ParsedOperation → Type 0
 Answers token p (Operation o f a) = IsOperation token p o f a
-Answers token p Misspelt = IsMisspelt token
-Answers token p Primed = IsPrimed token
-Answers token p Unsettled = IsUnsettled token p
-Answers token p Digit = HasWrongDigit token p
+Answers token p (Refused r) = Refuses token p r
 
 -- ---- primes
 
@@ -296,7 +303,7 @@ answer-holds token p = go (readToken token) refl
         s : Spelling token
         s = record { negative = n; fold = f; mark = m; letter = l; run = run; spells = read-exact token n f m l run .0 h }
 
-        prime : (t : Bool) → every noPrime run ≡ t → Answers token p (cond t (axisThen n f run (axisOf f m l p)) Primed)
+        prime : (t : Bool) → every noPrime run ≡ t → Answers token p (cond t (axisThen n f run (axisOf f m l p)) (Refused Primed))
         prime true e = axis-holds token p s (λ i. prime-there run i e)
         prime false e = (s, some-prime run e)
     go no-parts h = λ s.
@@ -306,15 +313,15 @@ answer-holds token p = go (readToken token) refl
 
 -- ---- what holds is the reader's answer
 
-spelt-answer : (token : List ℕ) (p : Previous) (s : Spelling token) → operationToken token p ≡ cond (every noPrime (s .run)) (axisThen (s .negative) (s .fold) (s .run) (axisOf (s .fold) (s .mark) (s .letter) p)) Primed
+spelt-answer : (token : List ℕ) (p : Previous) (s : Spelling token) → operationToken token p ≡ cond (every noPrime (s .run)) (axisThen (s .negative) (s .fold) (s .run) (axisOf (s .fold) (s .mark) (s .letter) p)) (Refused Primed)
 unfolding operationToken operationOfParts
 spelt-answer token p s =
     ap (λ (w : Parts). operationOfParts w p) (read-exact token (s .negative) (s .fold) (s .mark) (s .letter) (s .run) .1 (s .spells))
 
-primed-answer : (token : List ℕ) (p : Previous) (s : Spelling token) → HasPrime s → operationToken token p ≡ Primed
+primed-answer : (token : List ℕ) (p : Previous) (s : Spelling token) → HasPrime s → operationToken token p ≡ Refused Primed
 primed-answer token p s h = spelt-answer token p s ∙ go (every noPrime (s .run)) refl
   where
-    go : (t : Bool) → every noPrime (s .run) ≡ t → cond t (axisThen (s .negative) (s .fold) (s .run) (axisOf (s .fold) (s .mark) (s .letter) p)) Primed ≡ Primed
+    go : (t : Bool) → every noPrime (s .run) ≡ t → cond t (axisThen (s .negative) (s .fold) (s .run) (axisOf (s .fold) (s .mark) (s .letter) p)) (Refused Primed) ≡ Refused Primed
     go true e = absurd (prime-there (s .run) h e)
     go false e = refl
 
@@ -328,23 +335,23 @@ turning-answer token p s u t =
     ∙ ap (axisThen (s .negative) (s .fold) (s .run)) (settles-exact (s .fold) (s .mark) (s .letter) p (t .about) .1 (t .settled))
     ∙ ap (turnThen (s .negative) (s .fold) (t .about) (s .run)) (t .listed)
 
-unsettled-answer : (token : List ℕ) (p : Previous) (s : Spelling token) → ¬ (HasPrime s) → ¬ (Turning s p) → operationToken token p ≡ Unsettled
+unsettled-answer : (token : List ℕ) (p : Previous) (s : Spelling token) → ¬ (HasPrime s) → ¬ (Turning s p) → operationToken token p ≡ Refused Unsettled
 unfolding axisThen turnThen
 unsettled-answer token p s u n = unprimed-answer token p s u ∙ go (axisOf (s .fold) (s .mark) (s .letter) p) refl
   where
-    turn : (a : Axis) → axisOf (s .fold) (s .mark) (s .letter) p ≡ Settled a → (r : Turn) → turnOf (s .fold) a ≡ r → turnThen (s .negative) (s .fold) a (s .run) r ≡ Unsettled
+    turn : (a : Axis) → axisOf (s .fold) (s .mark) (s .letter) p ≡ Settled a → (r : Turn) → turnOf (s .fold) a ≡ r → turnThen (s .negative) (s .fold) a (s .run) r ≡ Refused Unsettled
     turn a e (Matrix r) h = absurd (n (record { about = a; rotation = r; settled = settles-exact (s .fold) (s .mark) (s .letter) p a .0 e; listed = h }))
     turn a e NoMatrix h = refl
 
-    go : (a : SettledAxis) → axisOf (s .fold) (s .mark) (s .letter) p ≡ a → axisThen (s .negative) (s .fold) (s .run) a ≡ Unsettled
+    go : (a : SettledAxis) → axisOf (s .fold) (s .mark) (s .letter) p ≡ a → axisThen (s .negative) (s .fold) (s .run) a ≡ Refused Unsettled
     go (Settled a) h = turn a h (turnOf (s .fold) a) refl
     go Open h = refl
 
-digit-answer : (token : List ℕ) (p : Previous) (s : Spelling token) → ¬ (HasPrime s) → (t : Turning s p) → DigitWrong (s .fold) (t .about) (s .run) → operationToken token p ≡ Digit
+digit-answer : (token : List ℕ) (p : Previous) (s : Spelling token) → ¬ (HasPrime s) → (t : Turning s p) → DigitWrong (s .fold) (t .about) (s .run) → operationToken token p ≡ Refused Digit
 unfolding movedThen movedBy
 digit-answer token p s u t w = turning-answer token p s u t ∙ go (digitsRight (s .fold) (t .about) (s .run)) refl
   where
-    go : (b : Bool) → digitsRight (s .fold) (t .about) (s .run) ≡ b → movedThen (s .negative) (s .fold) (t .about) (t .rotation) (cond b (By (translationOf (s .fold) (s .run))) WrongDigit) ≡ Digit
+    go : (b : Bool) → digitsRight (s .fold) (t .about) (s .run) ≡ b → movedThen (s .negative) (s .fold) (t .about) (t .rotation) (cond b (By (translationOf (s .fold) (s .run))) WrongDigit) ≡ Refused Digit
     go true h = absurd (none-wrong (s .fold) (t .about) (s .run) h w)
     go false h = refl
 
@@ -356,20 +363,20 @@ moved-answer token p s u t w = turning-answer token p s u t ∙ go (digitsRight 
     go true h = refl
     go false h = absurd (w (some-wrong (s .fold) (t .about) (s .run) h))
 
-misspelt-answer : (token : List ℕ) (p : Previous) → IsMisspelt token → operationToken token p ≡ Misspelt
+misspelt-answer : (token : List ℕ) (p : Previous) → IsMisspelt token → operationToken token p ≡ Refused Misspelt
 unfolding operationToken operationOfParts
 misspelt-answer token p n = go (readToken token) refl
   where
-    go : (w : Parts) → readToken token ≡ w → operationOfParts w p ≡ Misspelt
+    go : (w : Parts) → readToken token ≡ w → operationOfParts w p ≡ Refused Misspelt
     go (parts k f m l run) h = absurd (n (record { negative = k; fold = f; mark = m; letter = l; run = run; spells = read-exact token k f m l run .0 h }))
     go no-parts h = refl
 
 holds-answer : (token : List ℕ) (p : Previous) (r : ParsedOperation) → Answers token p r → operationToken token p ≡ r
 holds-answer token p (Operation o f a) h = rw (h .is-fold, h .is-axis, h .is-operation) (moved-answer token p (h .spelling) (h .unprimed) (h .turning) (h .digits))
-holds-answer token p Misspelt h = misspelt-answer token p h
-holds-answer token p Primed h = primed-answer token p (h .0) (h .1)
-holds-answer token p Unsettled h = unsettled-answer token p (h .0) (h .1) (h .2)
-holds-answer token p Digit h = digit-answer token p (h .0) (h .1) (h .2) (h .3)
+holds-answer token p (Refused Misspelt) h = misspelt-answer token p h
+holds-answer token p (Refused Primed) h = primed-answer token p (h .0) (h .1)
+holds-answer token p (Refused Unsettled) h = unsettled-answer token p (h .0) (h .1) (h .2)
+holds-answer token p (Refused Digit) h = digit-answer token p (h .0) (h .1) (h .2) (h .3)
 
 -- ---- the two are one
 
@@ -386,45 +393,29 @@ no-other-answer token p r s h k = sym (holds-answer token p r h) ∙ holds-answe
 
 -- ---- by 01's numbers
 
--- A refusal is told by its number.
-same-number : (r s : ParsedOperation) → 0 < refusalNumber s → refusalNumber r ≡ refusalNumber s → r ≡ s
-same-number r (Operation o f a) h e = absurd (omega arith)
-same-number (Operation o f a) Misspelt h e = absurd (omega arith)
-same-number Misspelt Misspelt h e = refl
-same-number Primed Misspelt h e = absurd (omega arith)
-same-number Unsettled Misspelt h e = absurd (omega arith)
-same-number Digit Misspelt h e = absurd (omega arith)
-same-number (Operation o f a) Primed h e = absurd (omega arith)
-same-number Misspelt Primed h e = absurd (omega arith)
-same-number Primed Primed h e = refl
-same-number Unsettled Primed h e = absurd (omega arith)
-same-number Digit Primed h e = absurd (omega arith)
-same-number (Operation o f a) Unsettled h e = absurd (omega arith)
-same-number Misspelt Unsettled h e = absurd (omega arith)
-same-number Primed Unsettled h e = absurd (omega arith)
-same-number Unsettled Unsettled h e = refl
-same-number Digit Unsettled h e = absurd (omega arith)
-same-number (Operation o f a) Digit h e = absurd (omega arith)
-same-number Misspelt Digit h e = absurd (omega arith)
-same-number Primed Digit h e = absurd (omega arith)
-same-number Unsettled Digit h e = absurd (omega arith)
-same-number Digit Digit h e = refl
+-- An answer is a refusal with this number.
+abbrev pub Tells : ParsedOperation → ℕ → Type 0
+Tells answer n = (r : Refusal) × (answer ≡ Refused r) × (numberOf r ≡ n)
 
-refused-exact : (token : List ℕ) (p : Previous) (s : ParsedOperation) → 0 < refusalNumber s → (refusalNumber (operationToken token p) ≡ refusalNumber s) ↔ Answers token p s
-refused-exact token p s h =
-    (λ e. answers-exact token p s .0 (same-number (operationToken token p) s h e), λ a. ap refusalNumber (answers-exact token p s .1 a))
+tells-exactly : (token : List ℕ) (p : Previous) (r : Refusal) → Tells (operationToken token p) (numberOf r) ↔ Refuses token p r
+tells-exactly token p r = (
+  (λ (s, e, n). answers-exact token p (Refused r) .0 (e ∙ ap Refused (number-once s r n))),
+  λ h. (r, answers-exact token p (Refused r) .1 h, refl),
+)
 
-pub refused-misspelt : (token : List ℕ) (p : Previous) → (refusalNumber (operationToken token p) ≡ 5) ↔ IsMisspelt token
-refused-misspelt token p = refused-exact token p Misspelt (omega arith)
+pub five-exactly : (token : List ℕ) (p : Previous) → Tells (operationToken token p) 5 ↔ IsMisspelt token
+five-exactly token p = tells-exactly token p Misspelt
 
-pub refused-unsettled : (token : List ℕ) (p : Previous) → (refusalNumber (operationToken token p) ≡ 6) ↔ IsUnsettled token p
-refused-unsettled token p = refused-exact token p Unsettled (omega arith)
+pub six-exactly : (token : List ℕ) (p : Previous) → Tells (operationToken token p) 6 ↔ IsUnsettled token p
+six-exactly token p = tells-exactly token p Unsettled
 
-pub refused-digit : (token : List ℕ) (p : Previous) → (refusalNumber (operationToken token p) ≡ 7) ↔ HasWrongDigit token p
-refused-digit token p = refused-exact token p Digit (omega arith)
+pub seven-exactly : (token : List ℕ) (p : Previous) → Tells (operationToken token p) 7 ↔ HasWrongDigit token p
+seven-exactly token p = tells-exactly token p Digit
 
-pub refused-primed : (token : List ℕ) (p : Previous) → (refusalNumber (operationToken token p) ≡ 8) ↔ IsPrimed token
-refused-primed token p = refused-exact token p Primed (omega arith)
+pub eight-exactly : (token : List ℕ) (p : Previous) → Tells (operationToken token p) 8 ↔ IsPrimed token
+eight-exactly token p = tells-exactly token p Primed
+
+-- ---- what is read
 
 -- What is read is an operation: entries in −1..1, and its translation in twelfths is reduced.
 pub record Reduced (o : operation.Operation) : Type 0 where

@@ -9,6 +9,7 @@ pub mod Turns
 pub mod Packed
 pub mod Translations
 pub mod Sums
+pub mod Refusals
 pub mod Reader
 pub mod Stages
 pub mod Spelling

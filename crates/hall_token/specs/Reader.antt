@@ -20,20 +20,13 @@ use Rattle.hall_token.specs.declared.Turn.the-variants.{Matrix, NoMatrix
 use Rattle.hall_token.specs.declared.Moved.{Moved}
 use Rattle.hall_token.specs.declared.Moved.the-variants.{By, WrongDigit}
 use Rattle.hall_token.specs.declared.ParsedOperation.{ParsedOperation}
-use Rattle.hall_token.specs.declared.ParsedOperation.the-variants.{Operation, Misspelt, Primed, Unsettled, Digit}
+use Rattle.hall_token.specs.declared.ParsedOperation.the-variants.{Operation, Refused}
+use Rattle.hall_token.specs.declared.refusal.Refusal.the-variants.{Misspelt, Primed, Unsettled, Digit}
 use Rattle.hall_token.specs.Bytes.{foldOf, markOf, letterOf}
 use Rattle.hall_token.specs.Axes.{axisOf}
 use Rattle.hall_token.specs.Matrices.{turnOf, signed}
 use Rattle.hall_token.specs.Runs.{mayStand, noPrime, every}
 use Rattle.hall_token.specs.Translations.{movedBy}
-
--- 01's number for each case; an operation is no refusal and has 0.
-abbrev pub refusalNumber : ParsedOperation → ℕ
-refusalNumber (Operation o f a) = 0
-refusalNumber Misspelt = 5
-refusalNumber Unsettled = 6
-refusalNumber Digit = 7
-refusalNumber Primed = 8
 
 -- ---- the parts of a token, from the left
 
@@ -83,22 +76,22 @@ readToken (b ∷ bs) = cond (eqb b 45) (readFold true bs) (readFold false (b ∷
 -- With a matrix: refused 7 for a wrong digit, or the operation with its fold and axis.
 unfoldable pub movedThen : Bool → Fold → Axis → Rotation → Moved → ParsedOperation
 movedThen n f a r (By t) = Operation (record { rotation = signed n r; translation = t }) f a
-movedThen n f a r WrongDigit = Digit
+movedThen n f a r WrongDigit = Refused Digit
 
 -- With an axis: refused 6 if the fold has no matrix about it.
 unfoldable pub turnThen : Bool → Fold → Axis → List ℕ → Turn → ParsedOperation
 turnThen n f a run (Matrix r) = movedThen n f a r (movedBy f a run)
-turnThen n f a run NoMatrix = Unsettled
+turnThen n f a run NoMatrix = Refused Unsettled
 
 -- Refused 6 if the axis is not settled.
 unfoldable pub axisThen : Bool → Fold → List ℕ → SettledAxis → ParsedOperation
 axisThen n f run (Settled a) = turnThen n f a run (turnOf f a)
-axisThen n f run Open = Unsettled
+axisThen n f run Open = Refused Unsettled
 
 -- Misspelt tokens are refused 5 before all, then primed ones 8.
 unfoldable pub operationOfParts : Parts → Previous → ParsedOperation
-operationOfParts (parts n f m l run) p = cond (every noPrime run) (axisThen n f run (axisOf f m l p)) Primed
-operationOfParts no-parts p = Misspelt
+operationOfParts (parts n f m l run) p = cond (every noPrime run) (axisThen n f run (axisOf f m l p)) (Refused Primed)
+operationOfParts no-parts p = Refused Misspelt
 
 -- The answer to one N token, given what stands to its left.
 unfoldable pub operationToken : List ℕ → Previous → ParsedOperation

@@ -9,6 +9,7 @@ ghost use Rattle.hall_token.specs.Reader.{operationToken, operationOfPar
 mod axes;
 mod bytes;
 mod matrices;
+pub mod refusal;
 mod translations;
 
 use axes::axis_of;
@@ -19,6 +20,7 @@ use matrices::rotation_about;
 use matrices::with_sign;
 use operation::Rotation;
 use operation::Translation;
+use refusal::Refusal;
 use translations::spelt;
 use translations::translation_of;
 use translations::unprimed;
@@ -58,13 +60,10 @@ pub struct Previous {
     pub axis: Axis,
 }
 
-// An operation with its fold and axis, or one of the refusals 5, 8, 6, 7 of 01 in the order in which they go.
+// An operation with its fold and axis, or what is wrong with the token.
 pub enum ParsedOperation {
     Operation(operation::Operation, Fold, Axis),
-    Misspelt,
-    Primed,
-    Unsettled,
-    Digit,
+    Refused(Refusal),
 }
 
 // The fold that a byte spells, if it spells one.
@@ -116,7 +115,7 @@ pub fn parse_operation(token: &[u8], previous: Previous) -> ParsedOperation
     ensures { λ r. ⌜ r ≡ operationToken (now (token .entry)) previous ⌝ }
 {
     if token.len() == 0 {
-        return ParsedOperation::Misspelt;
+        return ParsedOperation::Refused(Refusal::Misspelt);
     }
     if token[0] == b'-' {
         return after_sign(&token[1..], true, previous);
@@ -128,10 +127,10 @@ fn after_sign(token: &[u8], negative: bool, previous: Previous) -> ParsedOperati
     ensures { λ r. ⌜ r ≡ operationOfParts (readFold negative (now (token .entry))) previous ⌝ }
 {
     if token.len() == 0 {
-        return ParsedOperation::Misspelt;
+        return ParsedOperation::Refused(Refusal::Misspelt);
     }
     let FoldByte::Is(fold) = fold_of(token[0]) else {
-        return ParsedOperation::Misspelt;
+        return ParsedOperation::Refused(Refusal::Misspelt);
     };
     after_fold(&token[1..], negative, fold, previous)
 }
@@ -181,19 +180,19 @@ fn after_letter(
     ensures { λ r. ⌜ r ≡ operationOfParts (readRun negative fold mark letter (now (run .entry))) previous ⌝ }
 {
     if !spelt(run) {
-        return ParsedOperation::Misspelt;
+        return ParsedOperation::Refused(Refusal::Misspelt);
     }
     if !unprimed(run) {
-        return ParsedOperation::Primed;
+        return ParsedOperation::Refused(Refusal::Primed);
     }
     let SettledAxis::Settled(axis) = axis_of(fold, mark, letter, previous) else {
-        return ParsedOperation::Unsettled;
+        return ParsedOperation::Refused(Refusal::Unsettled);
     };
     let Turn::Matrix(turn) = rotation_about(fold, axis) else {
-        return ParsedOperation::Unsettled;
+        return ParsedOperation::Refused(Refusal::Unsettled);
     };
     let Moved::By(translation) = translation_of(fold, axis, run) else {
-        return ParsedOperation::Digit;
+        return ParsedOperation::Refused(Refusal::Digit);
     };
     let rotation = with_sign(negative, turn);
     ParsedOperation::Operation(

@@ -5,7 +5,7 @@ use Prim.Native.Nat.{_-_, _<_}
 use native.Mathlib.Omega.{arith}
 use lib.ListN.{length, drop, length-map}
 use borrow.Author.Tests.{eq-eqb, ne-eqb}
-use Rattle.hall_token.specs.declared.ParsedOperation.the-variants.{Operation as IsOperation, Misspelt as IsMisspelt, Primed as IsPrimed, Unsettled as IsUnsettled, Digit as IsDigit}
+use Rattle.hall_token.specs.declared.ParsedOperation.the-variants.{Operation as IsOperation, Refused as IsRefused}
 use Rattle.hall_symbol.specs.Bytes.{opening}
 use Rattle.hall_symbol.specs.Tokens.{tokensFrom}
 use Rattle.hall_symbol.specs.Listed.{listOf, pushed-slot}
@@ -85,8 +85,8 @@ element-set-from-o c = search needs
 add-list : tie.Need-add-list Inv-loop μ-loop
 add-list c = omega arith
 
-add-t26 : tie.Need-add-t26 Inv-loop μ-loop
-add-t26 c = omega arith
+add-t27 : tie.Need-add-t27 Inv-loop μ-loop
+add-t27 c = omega arith
 
 loop-less : tie.Need-loop-less Inv-loop μ-loop
 loop-less c =
@@ -111,8 +111,8 @@ loop-again c =
       same = step ∙ rw (pushed .listed);
     }
 
-enum-told : tie.Need-enum-told Inv-loop μ-loop
-enum-told c = search needs
+enum-known-parsed-2 : tie.Need-enum-known-parsed-2 Inv-loop μ-loop
+enum-known-parsed-2 c = search needs
 
 refused-requires-2 : tie.Need-refused-requires-2 Inv-loop μ-loop
 refused-requires-2 c κs = search needs
@@ -121,43 +121,7 @@ returns-4 : tie.Need-returns-4 Inv-loop μ-loop
 unfolding opening
 returns-4 c =
     c .refused2 .ensures
-    ∙ ap answerOf (sym (reached-rotation (c .before .before .before .before .before .before .before .before .before .before .before .loop .inv) (c .before .before .before .before .before .before .before .before .before .before .next-word .ensures) (c .before .before .before .before .before .before .before .before .before .if1 .left) (ne-eqb _ _ (c .before .before .before .before .before .before .before .if2 .left)) (c .before .before .before .before .before .if3 .left) IsMisspelt (sym (c .before .enum-told .given .1) ∙ c .before .before .before .parse-operation .ensures)))
-
-enum-told-2 : tie.Need-enum-told-2 Inv-loop μ-loop
-enum-told-2 c = search needs
-
-refused-requires-3 : tie.Need-refused-requires-3 Inv-loop μ-loop
-refused-requires-3 c κs = search needs
-
-returns-5 : tie.Need-returns-5 Inv-loop μ-loop
-unfolding opening
-returns-5 c =
-    c .refused3 .ensures
-    ∙ ap answerOf (sym (reached-rotation (c .before .before .before .before .before .before .before .before .before .before .before .loop .inv) (c .before .before .before .before .before .before .before .before .before .before .next-word .ensures) (c .before .before .before .before .before .before .before .before .before .if1 .left) (ne-eqb _ _ (c .before .before .before .before .before .before .before .if2 .left)) (c .before .before .before .before .before .if3 .left) IsPrimed (sym (c .before .enum-told2 .given .1) ∙ c .before .before .before .parse-operation .ensures)))
-
-enum-told-3 : tie.Need-enum-told-3 Inv-loop μ-loop
-enum-told-3 c = search needs
-
-refused-requires-4 : tie.Need-refused-requires-4 Inv-loop μ-loop
-refused-requires-4 c κs = search needs
-
-returns-6 : tie.Need-returns-6 Inv-loop μ-loop
-unfolding opening
-returns-6 c =
-    c .refused4 .ensures
-    ∙ ap answerOf (sym (reached-rotation (c .before .before .before .before .before .before .before .before .before .before .before .loop .inv) (c .before .before .before .before .before .before .before .before .before .before .next-word .ensures) (c .before .before .before .before .before .before .before .before .before .if1 .left) (ne-eqb _ _ (c .before .before .before .before .before .before .before .if2 .left)) (c .before .before .before .before .before .if3 .left) IsUnsettled (sym (c .before .enum-told3 .given .1) ∙ c .before .before .before .parse-operation .ensures)))
-
-enum-told-4 : tie.Need-enum-told-4 Inv-loop μ-loop
-enum-told-4 c = search needs
-
-refused-requires-5 : tie.Need-refused-requires-5 Inv-loop μ-loop
-refused-requires-5 c κs = search needs
-
-returns-7 : tie.Need-returns-7 Inv-loop μ-loop
-unfolding opening
-returns-7 c =
-    c .refused5 .ensures
-    ∙ ap answerOf (sym (reached-rotation (c .before .before .before .before .before .before .before .before .before .before .before .loop .inv) (c .before .before .before .before .before .before .before .before .before .before .next-word .ensures) (c .before .before .before .before .before .before .before .before .before .if1 .left) (ne-eqb _ _ (c .before .before .before .before .before .before .before .if2 .left)) (c .before .before .before .before .before .if3 .left) IsDigit (sym (c .before .enum-told4 .given .1) ∙ c .before .before .before .parse-operation .ensures)))
+    ∙ ap answerOf (sym (reached-rotation (c .before .before .before .before .before .before .before .before .before .before .before .before .loop .inv) (c .before .before .before .before .before .before .before .before .before .before .before .next-word .ensures) (c .before .before .before .before .before .before .before .before .before .before .if1 .left) (ne-eqb _ _ (c .before .before .before .before .before .before .before .before .if2 .left)) (c .before .before .before .before .before .before .if3 .left) (IsRefused _) (sym (c .before .before .parsed2 .given .1) ∙ c .before .before .before .before .parse-operation .ensures)))
 
 pub parse-spec : {M : Type 1} → statement M
 parse-spec =
@@ -183,18 +147,9 @@ parse-spec =
     mul-o
     element-set-from-o
     add-list
-    add-t26
+    add-t27
     loop-less
     loop-again
-    enum-told
+    enum-known-parsed-2
     refused-requires-2
-    returns-4
-    enum-told-2
-    refused-requires-3
-    returns-5
-    enum-told-3
-    refused-requires-4
-    returns-6
-    enum-told-4
-    refused-requires-5
-    returns-7)
+    returns-4)
