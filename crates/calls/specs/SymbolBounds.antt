@@ -1,11 +1,11 @@
 -- What is answered for a symbol's text can be packed: orders are at most 48, operations have entries in −1..1 and coordinates below 12, and places are at most 80.
-use mathlib.Core.Path.{_≡_, refl, _∙_, ap}
+use mathlib.Core.Path.{_≡_, refl}
 use mathlib.Core.Bool.{Bool, true, false, cond}
-use mathlib.Core.List.{List, _++_, List·Memᴰ as Mem}
+use mathlib.Core.List.{List, List·Memᴰ as Mem}
 use Prim.Native.Nat.{ℕ, _+_, _-_, _<_, _≤_}
 use native.Mathlib.Omega.{arith}
 use lib.Dec.{ltb}
-use lib.ListN.{length, getD, replicate, length-append, List·getD-append}
+use lib.ListN.{length, getD, replicate, List·getD-append}
 use borrow.Author.Tests.{ltb-true}
 use Rattle.operation.specs.Entries.{digits-entries}
 use Rattle.operation.specs.Meaning.{matrixOf}
@@ -13,14 +13,13 @@ use Rattle.operation.specs.Product.{identityOperation}
 use Rattle.operation.specs.declared.Operation.{Operation}
 use Rattle.centering.specs.declared.Centering.{Centering}
 use Rattle.hall_token.specs.Answers.{Reduced}
-use Rattle.hall_token.specs.declared.Previous.{Previous}
-use Rattle.hall_symbol.specs.Spelling.{Begins, lattice, rotation, Next, Refuses, ends, opens}
-use Rattle.hall_symbol.specs.Answers.{begins-place, symbol-count}
+use Rattle.hall_symbol.specs.Spelling.{Refuses}
+use Rattle.hall_symbol.specs.Answers.{symbol-count}
+use Rattle.hall_symbol.specs.Told.{number-range, place-within}
 use Rattle.hall_symbol.specs.Agreement.{symbol-exactly}
 use Rattle.hall_symbol.specs.Reader.{Reading, symbol, refusal, readSymbol}
 use Rattle.hall_symbol.specs.Refusals as text
 use Rattle.hall_symbol.specs.declared.refusal.Refusal as text-refusal
-use Rattle.hall_symbol.specs.declared.refusal.Refusal.the-variants.{TooLong, ForbiddenByte, NoToken, Lattice as NoLattice, Misspelt, Unsettled, Digit, Primed, Shift, NoRotation, TooMany}
 use Rattle.space_group.specs.Acceptance.{SmallGenerators, accepted-list, member-at}
 use Rattle.space_group.specs.Generated.{Outcome, group, refused, outcomeOf}
 use Rattle.space_group.specs.Members.{translation-below, rotation-generated}
@@ -41,42 +40,11 @@ use Rattle.calls.specs.Answers.{letterBy, letterAnswer}
 use Rattle.calls.specs.Packing.{Told, near, Within, Low, AnyLetter}
 
 -- ---- places
--- A text that begins well has at most 80 bytes.
-begins-fit : (bytes : List ℕ) {c : Centering} {found : List Operation} {previous : Previous} {p : ℕ} {s : List ℕ} → Begins bytes c found previous p s → length bytes ≤ 80
-begins-fit bytes (lattice inverted c fit cut) = fit .0
-begins-fit bytes (rotation o f a begins cut start few says) = begins-fit bytes begins
-
--- The next token stands within them.
-next-place : (bytes : List ℕ) {previous : Previous} {place : ℕ} {t after : List ℕ} → Next bytes previous place t after → place ≤ 80
-next-place bytes {place = place} {t} {after} N =
-    let (before, split, long) = begins-place bytes (N .begins) in
-    let fit = begins-fit bytes (N .begins) in
-    let whole = ap length split ∙ length-append before (N .s) in
-    let rest = ap length (N .cut .text) ∙ length-append (N .w) (t ++ after) in
-    let stands = N .stands in
-    omega arith
-
--- 1 to 11: by the rule of each.
+-- 1 to 11: numbers and places of a text are small.
 text-told : (bytes : List ℕ) (r : text-refusal.Refusal) → Refuses bytes r → Told (text.numberOf r) (text.placeOf r)
-text-told bytes TooLong h = near (omega arith) (omega arith) (omega arith)
-text-told bytes (ForbiddenByte p) h =
-    let short = h .short in
-    let within = h .within in
-    near (omega arith) (omega arith) (omega arith)
-text-told bytes NoToken h = near (omega arith) (omega arith) (omega arith)
-text-told bytes (NoLattice p) h =
-    let whole = ap length (h .cut .text) ∙ length-append (h .w) (h .t ++ h .after) in
-    let fit = h .fit .0 in
-    let stands = h .stands in
-    near (omega arith) (omega arith) (omega arith)
-text-told bytes (Misspelt p) h = near (omega arith) (omega arith) (next-place bytes (h .next))
-text-told bytes (Unsettled p) h = near (omega arith) (omega arith) (next-place bytes (h .next))
-text-told bytes (Digit p) h = near (omega arith) (omega arith) (next-place bytes (h .next))
-text-told bytes (Primed p) h = near (omega arith) (omega arith) (next-place bytes (h .next))
-text-told bytes (Shift p) h = near (omega arith) (omega arith) (next-place bytes (h .next))
-text-told bytes (NoRotation p) (ends begins none blank) = near (omega arith) (omega arith) (begins-fit bytes begins)
-text-told bytes (NoRotation p) (opens next none bracket) = near (omega arith) (omega arith) (next-place bytes next)
-text-told bytes (TooMany p) h = near (omega arith) (omega arith) (next-place bytes (h .next))
+text-told bytes r h =
+    let (some, few) = number-range r in
+    near (omega arith) (omega arith) (place-within bytes r h)
 
 -- 12 at a generator's index, of which there are at most nine; 13 and 14 at 0.
 pub symbol-told : (bytes : List ℕ) (r : Refusal) → symbolAnswer bytes .answer ≡ Refused r → Told (numberOf r) (placeOf r)
