@@ -141,7 +141,7 @@ has-rotation f [] = refl
 has-rotation f (g ∷ l) = rw (has-rotation f l)
 
 -- Motions with different rotations have different rotations.
-distinct-rotations : {l : List SpaceMotion} → Distinct sameRotation l → Distinct sameMatrix (map (λ f. f .rotation) l)
+pub distinct-rotations : {l : List SpaceMotion} → Distinct sameRotation l → Distinct sameMatrix (map (λ f. f .rotation) l)
 distinct-rotations nil = nil
 distinct-rotations (cons {x = f} {l} new d) = cons (λ (t : T (has sameMatrix (f .rotation) (map (λ g. g .rotation) l))). new (rw (has-rotation f l) at t)) (distinct-rotations d)
 
@@ -195,20 +195,20 @@ class-test c f g = has↔Mem sameTriple triple-decides
 
 module _ (c : Centering) (gens : List Operation) (l : List SpaceMotion) (e : listing gens ≡ some l) where
   -- The listed motion with the rotation of a generated one.
-  abbrev listedAt : SpaceMotion → SpaceMotion
+  abbrev pub listedAt : SpaceMotion → SpaceMotion
   listedAt f = getD l (place sameRotation f l) f
 
-  listed-at : (f : SpaceMotion) → Generated gens f → Mem (listedAt f) l × T (sameRotation f (listedAt f))
+  pub listed-at : (f : SpaceMotion) → Generated gens f → Mem (listedAt f) l × T (sameRotation f (listedAt f))
   listed-at f r =
       let h = lists gens l e .complete f r in
       (member-at l (place sameRotation f l) f (place-lt sameRotation f l h), place-same sameRotation f l f h)
 
   -- The step from a listed motion by a generator is generated.
-  step-generated : (f g : SpaceMotion) → Mem f l → Mem g (motions gens) → Generated gens (compose f g)
+  pub step-generated : (f g : SpaceMotion) → Mem f l → Mem g (motions gens) → Generated gens (compose f g)
   step-generated f g m k = step (lists gens l e .sound f m) k
 
   -- The test of all steps.
-  steady : Bool
+  unfoldable pub steady : Bool
   steady = steadyFrom sameRotation (sameVectorClass c) isSmall compose (motions gens) l l
 
   -- It passes exactly if every step from the list comes back to it, modulo L.
@@ -353,10 +353,10 @@ module _ (c : Centering) (gens : List Operation) (small : SmallGenerators gens) 
   pub lattice-exactly : (i : ℕ) → (outcomeOf c gens ≡ refused (Lattice i)) ↔ FirstOff c gens i
   lattice-exactly = course-lattice (course c gens small)
 
-  -- 13: exactly if all do, and the generated rotations are over 48 or have an entry outside −1..1.
+  -- 13: exactly if all do, and not both hold: at most 48 rotations are generated, and all their entries are in −1..1.
   pub rotations-exactly : (outcomeOf c gens ≡ refused Rotations) ↔ (AllKeep c gens × (¬ (FewRotations gens × SmallRotations gens)))
   rotations-exactly = course-rotations (course c gens small)
 
-  -- 14: exactly if all that is well, and some generated motion with identity rotation has its translation outside L.
+  -- 14: exactly if all that is well, and not every generated motion with identity rotation has its translation in L.
   pub translations-exactly : (outcomeOf c gens ≡ refused Translations) ↔ (AllKeep c gens × FewRotations gens × SmallRotations gens × (¬ OneTranslation c gens))
   translations-exactly = course-translations (course c gens small)

@@ -16,3 +16,5 @@ pub mod Members
 pub mod Steps
 pub mod WordOrder
 pub mod SetOfMotions
+-- What the refusals show:
+pub mod Witnesses
