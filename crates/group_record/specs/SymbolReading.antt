@@ -13,6 +13,7 @@ use Rattle.laws.specs.Motion.{SpaceMotion}
 use Rattle.operation.specs.Meaning.{motionOf}
 use Rattle.operation.specs.Product.{identityOperation}
 use Rattle.operation.specs.declared.Operation.{Operation}
+use Rattle.symbol_group.specs.AcceptedTexts.{AcceptedText, accepted-text}
 use Rattle.symbol_group.specs.Answers.{symbolAnswer}
 use Rattle.symbol_group.specs.declared.Answer.{Answer}
 use Rattle.symbol_group.specs.declared.Answer.the-variants.{Group, Refused}
@@ -24,7 +25,7 @@ use Rattle.group_record.specs.ReadingTests.{both-true}
 use Rattle.group_record.specs.RoundTrips.{reads-back, record-length}
 use Rattle.group_record.specs.Copying.{roomFor, placedIn, all-placed}
 use Rattle.group_record.specs.SymbolRecords.{textRecord, writtenBy, symbolRecordOf, placedBy, symbolBufferOf}
-use Rattle.group_record.specs.AcceptedSymbols.{AcceptedText, accepted-text, accepted-listing, accepted-allowed}
+use Rattle.group_record.specs.AcceptedSymbols.{accepted-listing, accepted-allowed}
 use Rattle.group_record.specs.SymbolSets.{InSetOf, record-of-list, set-of-list}
 use Rattle.group_record.specs.declared.Reading.the-variants.{Accepted}
 use Rattle.group_record.specs.declared.RecordGroup.{RecordGroup}

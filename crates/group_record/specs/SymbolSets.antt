@@ -12,13 +12,14 @@ use Rattle.hall_symbol.specs.Reader.{symbol}
 use Rattle.hall_symbol.specs.Spelling.{Spells}
 use Rattle.hall_symbol.specs.Agreement.{symbol-exactly}
 use Rattle.space_group.specs.SetOfMotions as generated
+use Rattle.symbol_group.specs.AcceptedTexts.{AcceptedText, accepted-text}
 use Rattle.symbol_group.specs.Answers.{symbolAnswer}
 use Rattle.symbol_group.specs.declared.Answer.the-variants.{Group}
 use Rattle.group_record.specs.Record.{recordOf}
 use Rattle.group_record.specs.Groups.{Alike, InSet}
 use Rattle.group_record.specs.OneRecord.{one-record}
 use Rattle.group_record.specs.SymbolRecords.{textRecord}
-use Rattle.group_record.specs.AcceptedSymbols.{AcceptedText, accepted-text, accepted-listing, accepted-identity}
+use Rattle.group_record.specs.AcceptedSymbols.{accepted-listing, accepted-identity}
 
 -- The set of motions of a text: it spells a symbol, and the motion is a finite product of the symbol's generators and translations by L.
 abbrev pub InSetOf : List ℕ → SpaceMotion → Type 0

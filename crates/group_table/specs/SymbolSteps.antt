@@ -12,17 +12,14 @@ use Rattle.operation.specs.Meaning.{motionOf}
 use Rattle.operation.specs.Product.{identityOperation}
 use Rattle.operation.specs.declared.Operation.{Operation}
 use Rattle.centering.specs.declared.Centering.{Centering}
-use Rattle.hall_symbol.specs.Reader.{Reading, symbol, refusal, readSymbol}
-use Rattle.hall_symbol.specs.Agreement.{symbol-exactly}
 use Rattle.hall_symbol.specs.Answers.{symbol-count}
-use Rattle.space_group.specs.Generated.{Outcome, group, refused, outcomeOf}
 use Rattle.space_group.specs.Traversal.{padded}
 use Rattle.space_group.specs.Resuming.{padded-at}
-use Rattle.space_group.specs.Acceptance.{Accepted, accepted-list}
+use Rattle.space_group.specs.Acceptance.{Accepted}
 use Rattle.space_group.specs.Members.{identity-first, at-most-48}
 use Rattle.space_group.specs.Steps.{steps-length, step-right}
-use Rattle.symbol_group.specs.Answers.{outcomeAnswer, readingAnswer, symbolAnswer, orderBy, orderOf}
-use Rattle.symbol_group.specs.Exactly.{symbol-small}
+use Rattle.symbol_group.specs.AcceptedTexts.{accepted-text}
+use Rattle.symbol_group.specs.Answers.{symbolAnswer, orderBy, orderOf}
 use Rattle.symbol_group.specs.Slots.{symbol-slots}
 use Rattle.symbol_group.specs.declared.Answer as decided
 use Rattle.symbol_group.specs.declared.Answer.the-variants.{Group as Given, Refused as NotGiven}
@@ -128,28 +125,16 @@ pub record TableBySteps (g : SymbolGroup) : Type 0 where
   pub traversed : Traversed (g .count) (g .generators) (g .steps)
   pub goes : GoesBy (g .count) (g .generators) (g .steps) (tableOf (g .centering) (take (g .count) (g .operations)))
 
-module _ (text : List ℕ) where
-  -- So it is of generators that make a group,
-  outcome-steps : (c : Centering) (gens : List Operation) → readSymbol text ≡ symbol c gens → (o : Outcome) → outcomeOf c gens ≡ o → outcomeAnswer c (length gens) o .answer ≡ Given → TableBySteps (outcomeAnswer c (length gens) o)
-  outcome-steps c gens e (group operations steps) p a =
-      let spells = symbol-exactly text c gens .0 e in
-      let A = accepted-list c gens (symbol-small text c gens spells) operations steps p in
-      record {
-        traversed = accepted-traversed c gens operations steps A (symbol-count text c gens spells .1);
-        goes = rw (take-at operations (replicate (48 - length operations) identityOperation) (length operations) refl) (accepted-goes-by c gens operations steps A);
-      }
-  outcome-steps c gens e (refused r) p a = let z : _≡_ {A = ℕ} 0 1 = cc in absurd (omega arith)
-
-  -- and of a text that is read as such generators.
-  reading-steps : (s : Reading) → readSymbol text ≡ s → readingAnswer s .answer ≡ Given → TableBySteps (readingAnswer s)
-  reading-steps (symbol c gens) e a = outcome-steps c gens e (outcomeOf c gens) refl a
-  reading-steps (refusal r) e a = let z : _≡_ {A = ℕ} 0 1 = cc in absurd (omega arith)
-
 module _ (text : List ℕ) (g : SymbolGroup) (e : g ≡ symbolAnswer text) where
   -- A symbol that is accepted has its table from its steps.
   pub symbol-steps : g .answer ≡ Given → TableBySteps g
-  unfolding symbolAnswer
-  symbol-steps a = rw e (reading-steps text (readSymbol text) refl (sym (ap (λ (h : SymbolGroup). h .answer) e) ∙ a))
+  symbol-steps a =
+      let T = accepted-text text (sym (ap (λ (h : SymbolGroup). h .answer) e) ∙ a) in
+      let l = T .operations in
+      rw (e ∙ T .answered) (record {
+        traversed = accepted-traversed (T .letter) (T .generators) l (T .steps) (T .accepted) (symbol-count text (T .letter) (T .generators) (T .spells) .1);
+        goes = rw (take-at l (replicate (48 - length l) identityOperation) (length l) refl) (accepted-goes-by (T .letter) (T .generators) l (T .steps) (T .accepted));
+      })
 
   -- As many operations are listed as are counted.
   pub symbol-order : length (take (g .count) (g .operations)) ≡ g .count

@@ -10,6 +10,7 @@ use Rattle.operation.specs.Meaning.{motionOf}
 use Rattle.operation.specs.declared.Operation.{Operation}
 use Rattle.centering.specs.declared.Centering.{Centering}
 use Rattle.space_group.specs.Members.{identity-first}
+use Rattle.symbol_group.specs.AcceptedTexts.{accepted-text}
 use Rattle.symbol_group.specs.Answers.{symbolAnswer, orderBy, orderOf}
 use Rattle.symbol_group.specs.declared.Answer as symbol
 use Rattle.symbol_group.specs.declared.Answer.the-variants.{Group, Refused}
@@ -17,7 +18,7 @@ use Rattle.symbol_group.specs.declared.SymbolOrder.the-variants.{Is}
 use Rattle.group_record.specs.Groups.{InSet, Allowed, Listing}
 use Rattle.group_record.specs.Reading.{readOf}
 use Rattle.group_record.specs.Acceptance.{Bytes}
-use Rattle.group_record.specs.AcceptedSymbols.{accepted-text, accepted-listing, accepted-allowed}
+use Rattle.group_record.specs.AcceptedSymbols.{accepted-listing, accepted-allowed}
 use Rattle.group_record.specs.SymbolSets.{InSetOf, set-of-list}
 use Rattle.group_record.specs.declared.Reading.{Reading}
 use Rattle.group_record.specs.declared.Reading.the-variants.{Accepted, Refused as RecordRefused}

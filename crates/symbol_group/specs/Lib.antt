@@ -3,4 +3,5 @@ pub mod Refusals
 pub mod Answers
 pub mod Slots
 pub mod Exactly
+pub mod AcceptedTexts
 pub mod SymbolsToTry
