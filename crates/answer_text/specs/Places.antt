@@ -7,7 +7,7 @@ use Rattle.hall_symbol.specs.Answers.{symbol-count}
 use Rattle.hall_symbol.specs.Told.{number-range, place-within}
 use Rattle.space_group.specs.declared.refusal.Refusal.the-variants.{Lattice as OffLattice, Rotations, Translations}
 use Rattle.symbol_group.specs.Answers.{symbolAnswer}
-use Rattle.symbol_group.specs.Exactly.{text-exactly, twelve-exactly}
+use Rattle.symbol_group.specs.Exactly.{text-exactly, lattice-exactly}
 use Rattle.symbol_group.specs.Refusals.{numberOf, placeOf}
 use Rattle.symbol_group.specs.declared.refusal.Refusal.{Refusal}
 use Rattle.symbol_group.specs.declared.refusal.Refusal.the-variants.{Text, Group as NoGroup}
@@ -18,7 +18,7 @@ module _ (bytes : List ℕ) where
   pub place-small : (r : Refusal) → symbolAnswer bytes .answer ≡ Refused r → placeOf r ≤ 80
   place-small (Text r) e = place-within bytes r (text-exactly bytes r .0 e)
   place-small (NoGroup (OffLattice i)) e =
-      let (c, gens, spells, off) = twelve-exactly bytes i .0 e in
+      let (c, gens, spells, off) = lattice-exactly bytes i .0 e in
       let (some, few) = symbol-count bytes c gens spells in
       omega (arith, off .within)
   place-small (NoGroup Rotations) e = omega arith

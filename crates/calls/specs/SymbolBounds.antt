@@ -25,7 +25,7 @@ use Rattle.space_group.specs.Generated.{Outcome, group, refused, outcomeOf}
 use Rattle.space_group.specs.Members.{translation-below, rotation-generated}
 use Rattle.space_group.specs.declared.refusal.Refusal.the-variants.{Lattice, Rotations, Translations}
 use Rattle.symbol_group.specs.Answers.{outcomeAnswer, readingAnswer, symbolAnswer, orderBy, orderOf, orderAnswer, operationBy, operationAt, operationAnswer}
-use Rattle.symbol_group.specs.Exactly.{symbol-small, text-exactly, twelve-exactly}
+use Rattle.symbol_group.specs.Exactly.{symbol-small, text-exactly, lattice-exactly}
 use Rattle.symbol_group.specs.Slots.{symbol-slots}
 use Rattle.symbol_group.specs.Refusals.{numberOf, placeOf}
 use Rattle.symbol_group.specs.declared.Answer.{Answer}
@@ -50,7 +50,7 @@ text-told bytes r h =
 pub symbol-told : (bytes : List ℕ) (r : Refusal) → symbolAnswer bytes .answer ≡ Refused r → Told (numberOf r) (placeOf r)
 symbol-told bytes (Text r) e = text-told bytes r (text-exactly bytes r .0 e)
 symbol-told bytes (NoGroup (Lattice i)) e =
-    let (c, gens, spells, off) = twelve-exactly bytes i .0 e in
+    let (c, gens, spells, off) = lattice-exactly bytes i .0 e in
     let (low, high) = symbol-count bytes c gens spells in
     let within = off .within in
     near (omega arith) (omega arith) (omega arith)

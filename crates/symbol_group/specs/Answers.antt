@@ -3,7 +3,7 @@ use mathlib.Core.Bool.{cond}
 use mathlib.Core.List.{List}
 use Prim.Native.Nat.{ℕ}
 use lib.Dec.{ltb}
-use lib.ListN.{length, getD, replicate}
+use lib.ListN.{length, getD, replicate, take}
 use Rattle.operation.specs.Answer as answer
 use Rattle.operation.specs.Doubles.{doublesOf}
 use Rattle.operation.specs.Product.{identityOperation}
@@ -85,7 +85,14 @@ unfoldable pub translationAt : List ℕ → ℕ → SymbolTranslation
 translationAt text i = translationBy (operationAt text i)
 
 -- ---- in numbers
--- Each answer with what was asked for, or with the refusal's number and place.
+-- Each answer with what was asked for, or with the refusal's number and place. Of the group: its operations in list order.
+abbrev pub operationsBy : Answer → List Operation → answer.Answer (List Operation) answer.Nothing
+operationsBy Group operations = answer.given operations
+operationsBy (Refused r) operations = answer.refused (numberOf r) (placeOf r) tt
+
+abbrev pub operationsAnswer : SymbolGroup → answer.Answer (List Operation) answer.Nothing
+operationsAnswer g = operationsBy (g .answer) (take (g .count) (g .operations))
+
 abbrev pub orderAnswer : SymbolOrder → answer.Answer ℕ answer.Nothing
 orderAnswer (Is n) = answer.given n
 orderAnswer (OrderRefused r) = answer.refused (numberOf r) (placeOf r) tt

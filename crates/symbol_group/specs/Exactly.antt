@@ -14,11 +14,11 @@ use Rattle.hall_symbol.specs.Agreement.{symbol-exactly, refusal-exactly}
 use Rattle.hall_symbol.specs.Answers.{AllReduced, symbol-reduced}
 use Rattle.hall_symbol.specs.declared.refusal.Refusal as text
 use Rattle.space_group.specs.Generated.{AllKeep, FewRotations, SmallRotations, OneTranslation, Outcome, group, refused, outcomeOf}
-use Rattle.space_group.specs.Acceptance.{SmallGenerators, FirstOff, accepted-exactly, lattice-exactly, rotations-exactly, translations-exactly}
+use Rattle.space_group.specs.Acceptance.{SmallGenerators, FirstOff, accepted-exactly}
+use Rattle.space_group.specs.Acceptance as acceptance
 use Rattle.space_group.specs.declared.refusal.Refusal as generators
 use Rattle.space_group.specs.declared.refusal.Refusal.the-variants.{Lattice, Rotations, Translations}
 use Rattle.symbol_group.specs.Answers.{outcomeAnswer, readingAnswer, symbolAnswer}
-use Rattle.symbol_group.specs.declared.refusal.Refusal.{Refusal}
 use Rattle.symbol_group.specs.declared.refusal.Refusal.the-variants.{Text, Group as NoGroup}
 use Rattle.symbol_group.specs.declared.Answer.the-variants.{Group, Refused}
 
@@ -88,7 +88,7 @@ module _ (bytes : List ℕ) where
   text-exactly r = ((λ e. refusal-exactly bytes r .0 (reading-is-text (readSymbol bytes) r .0 e)), λ h. reading-is-text (readSymbol bytes) r .1 (refusal-exactly bytes r .1 h))
 
   -- 12 to 14 by the outcome of its generators.
-  generators-refused : (r : generators.Refusal) → (symbolAnswer bytes .answer ≡ Refused (NoGroup r)) ↔ ((c : Centering) × (gens : List Operation) × Spells bytes c gens × (outcomeOf c gens ≡ refused r))
+  pub generators-refused : (r : generators.Refusal) → (symbolAnswer bytes .answer ≡ Refused (NoGroup r)) ↔ ((c : Centering) × (gens : List Operation) × Spells bytes c gens × (outcomeOf c gens ≡ refused r))
   unfolding symbolAnswer
   generators-refused r = (
     (λ e. let (c, gens, p, h) = reading-is-refused (readSymbol bytes) r .0 e in (c, gens, symbol-exactly bytes c gens .0 p, h)),
@@ -96,22 +96,22 @@ module _ (bytes : List ℕ) where
   )
 
   -- 12: exactly if the text spells a symbol and generator i is the first that does not map L onto L.
-  pub twelve-exactly : (i : ℕ) → (symbolAnswer bytes .answer ≡ Refused (NoGroup (Lattice i))) ↔ ((c : Centering) × (gens : List Operation) × Spells bytes c gens × FirstOff c gens i)
-  twelve-exactly i = (
-    (λ e. let (c, gens, s, h) = generators-refused (Lattice i) .0 e in (c, gens, s, lattice-exactly c gens (symbol-small bytes c gens s) i .0 h)),
-    λ (c, gens, s, h). generators-refused (Lattice i) .1 (c, gens, s, lattice-exactly c gens (symbol-small bytes c gens s) i .1 h),
+  pub lattice-exactly : (i : ℕ) → (symbolAnswer bytes .answer ≡ Refused (NoGroup (Lattice i))) ↔ ((c : Centering) × (gens : List Operation) × Spells bytes c gens × FirstOff c gens i)
+  lattice-exactly i = (
+    (λ e. let (c, gens, s, h) = generators-refused (Lattice i) .0 e in (c, gens, s, acceptance.lattice-exactly c gens (symbol-small bytes c gens s) i .0 h)),
+    λ (c, gens, s, h). generators-refused (Lattice i) .1 (c, gens, s, acceptance.lattice-exactly c gens (symbol-small bytes c gens s) i .1 h),
   )
 
-  -- 13: exactly if all generators do, and the generated rotations are over 48 or have an entry outside −1..1.
-  pub thirteen-exactly : (symbolAnswer bytes .answer ≡ Refused (NoGroup Rotations)) ↔ ((c : Centering) × (gens : List Operation) × Spells bytes c gens × (AllKeep c gens × (¬ (FewRotations gens × SmallRotations gens))))
-  thirteen-exactly = (
-    (λ e. let (c, gens, s, h) = generators-refused Rotations .0 e in (c, gens, s, rotations-exactly c gens (symbol-small bytes c gens s) .0 h)),
-    λ (c, gens, s, h). generators-refused Rotations .1 (c, gens, s, rotations-exactly c gens (symbol-small bytes c gens s) .1 h),
+  -- 13: exactly if all generators do, and not both hold: at most 48 rotations are generated, and all their entries are in −1..1.
+  pub rotations-exactly : (symbolAnswer bytes .answer ≡ Refused (NoGroup Rotations)) ↔ ((c : Centering) × (gens : List Operation) × Spells bytes c gens × (AllKeep c gens × (¬ (FewRotations gens × SmallRotations gens))))
+  rotations-exactly = (
+    (λ e. let (c, gens, s, h) = generators-refused Rotations .0 e in (c, gens, s, acceptance.rotations-exactly c gens (symbol-small bytes c gens s) .0 h)),
+    λ (c, gens, s, h). generators-refused Rotations .1 (c, gens, s, acceptance.rotations-exactly c gens (symbol-small bytes c gens s) .1 h),
   )
 
-  -- 14: exactly if all that is well, and a generated motion with identity rotation has its translation outside L.
-  pub fourteen-exactly : (symbolAnswer bytes .answer ≡ Refused (NoGroup Translations)) ↔ ((c : Centering) × (gens : List Operation) × Spells bytes c gens × (AllKeep c gens × FewRotations gens × SmallRotations gens × (¬ OneTranslation c gens)))
-  fourteen-exactly = (
-    (λ e. let (c, gens, s, h) = generators-refused Translations .0 e in (c, gens, s, translations-exactly c gens (symbol-small bytes c gens s) .0 h)),
-    λ (c, gens, s, h). generators-refused Translations .1 (c, gens, s, translations-exactly c gens (symbol-small bytes c gens s) .1 h),
+  -- 14: exactly if all that is well, and not every generated motion with identity rotation has its translation in L.
+  pub translations-exactly : (symbolAnswer bytes .answer ≡ Refused (NoGroup Translations)) ↔ ((c : Centering) × (gens : List Operation) × Spells bytes c gens × (AllKeep c gens × FewRotations gens × SmallRotations gens × (¬ OneTranslation c gens)))
+  translations-exactly = (
+    (λ e. let (c, gens, s, h) = generators-refused Translations .0 e in (c, gens, s, acceptance.translations-exactly c gens (symbol-small bytes c gens s) .0 h)),
+    λ (c, gens, s, h). generators-refused Translations .1 (c, gens, s, acceptance.translations-exactly c gens (symbol-small bytes c gens s) .1 h),
   )

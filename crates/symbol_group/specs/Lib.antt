@@ -4,4 +4,6 @@ pub mod Answers
 pub mod Slots
 pub mod Exactly
 pub mod AcceptedTexts
+pub mod TextNumbers
+pub mod Told
 pub mod SymbolsToTry

@@ -4,7 +4,6 @@ use mathlib.Core.List.{List, [], _∷_, map}
 use Prim.Native.Nat.{ℕ}
 use Prim.Native.String.{String}
 use Prim.Native.Char.{code}
-use lib.ListN.{take}
 use lib.IntN.{one}
 use Rattle.laws.specs.Integer.{nought, _⊖_}
 use Rattle.laws.specs.Matrix.{times, act, plus, opposite, unit, origin, determinant}
@@ -39,10 +38,7 @@ use Rattle.space_group.specs.Generated.{firstOff, listing, isSmall, sameVectorC
 use Rattle.operation.specs.Answer.{Answer, given, refused, Nothing}
 use Rattle.operation.specs.Code.{codeOf}
 use Rattle.operation.specs.declared.Operation.{Operation}
-use Rattle.symbol_group.specs.Refusals.{numberOf, placeOf}
-use Rattle.symbol_group.specs.Answers.{symbolAnswer}
-use Rattle.symbol_group.specs.declared.Answer.the-variants as answer
-use Rattle.symbol_group.specs.declared.Answer as group
+use Rattle.symbol_group.specs.Answers.{symbolAnswer, operationsAnswer}
 
 -- A quoted text as bytes.
 abbrev bytes : String → List ℕ
@@ -59,13 +55,13 @@ pub record Shown : Type 0 where
 abbrev shown : Operation → Shown
 shown o = record { turn = codeOf (o .rotation); x = o .translation .x; y = o .translation .y; z = o .translation .z }
 
--- The operations of a symbol in list order, or its refusal's number and place.
-abbrev toldBy : group.Answer → List Operation → Answer (List Shown) Nothing
-toldBy answer.Group operations = given (map shown operations)
-toldBy (answer.Refused r) operations = refused (numberOf r) (placeOf r) tt
+abbrev shownBy : Answer (List Operation) Nothing → Answer (List Shown) Nothing
+shownBy (given operations) = given (map shown operations)
+shownBy (refused number place none) = refused number place none
 
+-- The operations of a symbol in list order, or its refusal's number and place.
 unfoldable pub told : String → Answer (List Shown) Nothing
-told s = let g = symbolAnswer (bytes s) in toldBy (g .answer) (take (g .count) (g .operations))
+told s = shownBy (operationsAnswer (symbolAnswer (bytes s)))
 
 -- Rotations by their codes: the identity, the inversion, a third of a turn about z, and two thirds.
 abbrev unmoved : ℕ
