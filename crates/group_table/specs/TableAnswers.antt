@@ -1,7 +1,8 @@
 -- What the answers say: a table is given for every accepted symbol and for every record that is read, it is that of a group, and it is the table of their sets of motions.
 use mathlib.Core.Path.{_≡_, refl, _∙_, subst}
+use mathlib.Core.Logic.{_↔_}
 use mathlib.Core.List.{List, map}
-use Prim.Native.Nat.{ℕ, _*_, _-_}
+use Prim.Native.Nat.{ℕ, _*_, _-_, _<_}
 use native.Mathlib.Omega.{arith}
 use lib.ListN.{length, take, replicate}
 use lib.Seq.{take-at}
@@ -24,32 +25,37 @@ use Rattle.group_record.specs.declared.Reading.{Reading}
 use Rattle.group_record.specs.declared.Reading.the-variants.{Accepted, Refused as RecordRefused}
 use Rattle.subgroup_laws.specs.Table.{product, GroupTable}
 use Rattle.group_table.specs.Tables.{tableOf, cellsOf, symbolTableBy, symbolTable, symbolCellsBy, symbolCells, recordTableBy, recordTable, recordOrderBy, recordOrder, recordCellsBy, recordCells}
-use Rattle.group_table.specs.TableLaws.{table-length}
-use Rattle.group_table.specs.TableMotions.{BelongsTo, one-index, product-belongs}
+use Rattle.group_table.specs.TableLaws.{motionAt, table-length}
+use Rattle.group_table.specs.TableMotions.{BelongsTo, belongs-inside, listed-belongs, one-index, product-belongs}
 use Rattle.group_table.specs.TableGroups.{identityIndex, identity-at, group-table}
 use Rattle.group_table.specs.ReadTables.{read-allowed, read-order}
 use Rattle.group_table.specs.SymbolSteps.{symbol-order}
 use Rattle.group_table.specs.declared.RecordOrder.the-variants.{Is as RecordIs}
 
--- n² cells are the table of a set of motions by a list of operations: that of a group, each motion of the set belongs to exactly one index, and products
--- go with the table.
+-- n² cells are the table of a set of motions by a list of operations: that of a group, each motion of the set belongs to exactly one index, every index
+-- holds motions, all of the set, and products go with the table.
 pub record TableOfMotions (Inside : SpaceMotion → Type 0) (c : Centering) (l : List Operation) (n : ℕ) (cells : List ℕ) : Type 0 where
   pub order : n ≡ length l
   pub group : GroupTable n cells (identityIndex c l)
   pub belongs : (f : SpaceMotion) → Inside f → (i : ℕ) × BelongsTo c l f i × ((k : ℕ) → BelongsTo c l f k → i ≡ k)
+  pub holds : (i : ℕ) → i < n → (f : SpaceMotion) × BelongsTo c l f i
+  pub inside : (f : SpaceMotion) (i : ℕ) → BelongsTo c l f i → Inside f
   pub products : (f g : SpaceMotion) (i j : ℕ) → BelongsTo c l f i → BelongsTo c l g j → BelongsTo c l (compose f g) (product n cells i j)
 
 -- The first n² slots hold the table.
 cells-table : (c : Centering) (l : List Operation) → take (length l * length l) (cellsOf c l) ≡ tableOf c l
 cells-table c l = take-at (tableOf c l) (replicate (2304 - length (tableOf c l)) 0) (length l * length l) (table-length c l)
 
--- The table of allowed operations is that of any set of motions within theirs.
-motions-table : (Inside : SpaceMotion → Type 0) (c : Centering) (l : List Operation) → Listing l → Allowed c (map motionOf l) → ((f : SpaceMotion) → Inside f → InSet c (map motionOf l) f) → TableOfMotions Inside c l (length l) (take (length l * length l) (cellsOf c l))
-motions-table Inside c l L A inside =
+-- The table of allowed operations is that of their set of motions.
+motions-table : (Inside : SpaceMotion → Type 0) (c : Centering) (l : List Operation) → Listing l → Allowed c (map motionOf l)
+    → ((f : SpaceMotion) → Inside f ↔ InSet c (map motionOf l) f) → TableOfMotions Inside c l (length l) (take (length l * length l) (cellsOf c l))
+motions-table Inside c l L A same =
     rw (cells-table c l) (record {
       order = refl;
       group = group-table c L A;
-      belongs = λ f m. one-index c L f (inside f m);
+      belongs = λ f m. one-index c L f (same f .0 m);
+      holds = λ i h. (motionAt c l i, listed-belongs c l i h);
+      inside = λ f i b. same f .1 (belongs-inside c l f i b);
       products = product-belongs c L A;
     })
 
@@ -70,7 +76,7 @@ record-motions bytes b e =
     let g = readOf bytes in
     let l = take (g .count) (g .operations) in
     let (w, A) = read-allowed bytes g refl b e in
-    rw e (motions-table (InSet (g .centering) (map motionOf l)) (g .centering) l (w .listing) A (λ f m. m))
+    rw e (motions-table (InSet (g .centering) (map motionOf l)) (g .centering) l (w .listing) A (λ f. ((λ m. m), λ m. m)))
 
 -- ---- symbols
 -- A symbol has a table exactly if it is accepted; if not, the answer is why.
@@ -100,8 +106,8 @@ module _ (text : List ℕ) (e : symbolAnswer text .answer ≡ Group) where
       let T = accepted-text text e in rw (T .same-letter, T .same-operations) (accepted-allowed (T .letter) (T .generators) (T .operations) (T .steps) (T .accepted))
 
   -- The text's set of motions is theirs with L added.
-  symbol-inside : (f : SpaceMotion) → InSetOf text f → InSet letter (map motionOf operations) f
-  symbol-inside f m = let T = accepted-text text e in rw (T .same-letter, T .same-operations) (set-of-list text T f .0 m)
+  symbol-inside : (f : SpaceMotion) → InSetOf text f ↔ InSet letter (map motionOf operations) f
+  symbol-inside f = let T = accepted-text text e in rw (T .same-letter, T .same-operations) (set-of-list text T f)
 
   -- The table of an accepted symbol is that of its set of motions: all finite products of generators and translations by L.
   pub symbol-motions : TableOfMotions (InSetOf text) letter operations (symbolTable text .order) (take (symbolTable text .order * symbolTable text .order) (symbolTable text .cells))
