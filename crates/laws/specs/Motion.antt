@@ -1,7 +1,8 @@
 -- Motions (R, t) with the product (R,t)(S,u) = (RS, Ru + t), for any monoid that acts on any monoid, and the motions of space:
 -- R a 3×3 integer matrix, t an integer vector.
 use mathlib.Core.Path.{_≡_, refl, sym, _∙_, ap}
-use lib.IntN.{ℤ}
+use lib.IntN.{ℤ, one}
+use Rattle.laws.specs.Integer.{ring, nought}
 use Rattle.laws.specs.Matrix.{Matrix, Vector, times, act, plus, opposite, unit, origin, times-assoc, unit-times, times-unit, act-times, act-unit, act-plus, act-origin, plus-assoc, origin-plus, plus-origin, Unimodular, inverse, times-inverse, inverse-times}
 
 pub record Motion (R W : Type 0) : Type 0 where
@@ -76,3 +77,34 @@ identity-compose = product-idl times plus act unit origin matrices-act
 
 pub compose-identity : (f : SpaceMotion) → compose f identity ≡ f
 compose-identity = product-idr times plus act unit origin matrices-act
+
+-- ---- what a motion does to a point
+-- Rv + t: the point is turned, then moved by the translation.
+unfoldable pub image : SpaceMotion → Vector → Vector
+image f v = plus (act (f .rotation) v) (f .translation)
+
+-- The right factor moves first: (fg)(v) = f(g(v)). The opposite product does not.
+pub image-compose : (f g : SpaceMotion) (v : Vector) → image (compose f g) v ≡ image f (image g v)
+unfolding image product
+image-compose f g v = simp (act-times, act-plus, plus-assoc)
+
+pub image-identity : (v : Vector) → image identity v ≡ v
+unfolding image
+image-identity v = simp (act-unit, plus-origin)
+
+-- The origin goes to the translation, and the ends of the three axes go to the columns of the matrix, moved by it.
+pub image-origin : (f : SpaceMotion) → image f origin ≡ f .translation
+unfolding image
+image-origin f = simp (act-origin, origin-plus)
+
+pub image-x : (f : SpaceMotion) → image f (record { x = one; y = nought; z = nought }) ≡ plus (record { x = f .rotation .xx; y = f .rotation .yx; z = f .rotation .zx }) (f .translation)
+unfolding image act plus
+image-x f = simp ring
+
+pub image-y : (f : SpaceMotion) → image f (record { x = nought; y = one; z = nought }) ≡ plus (record { x = f .rotation .xy; y = f .rotation .yy; z = f .rotation .zy }) (f .translation)
+unfolding image act plus
+image-y f = simp ring
+
+pub image-z : (f : SpaceMotion) → image f (record { x = nought; y = nought; z = one }) ≡ plus (record { x = f .rotation .xz; y = f .rotation .yz; z = f .rotation .zz }) (f .translation)
+unfolding image act plus
+image-z f = simp ring
