@@ -3,12 +3,11 @@ use mathlib.Core.Path.{_≡_, refl, sym, _∙_, ap}
 use mathlib.Core.Logic.{_⊎_, inl, inr, _↔_}
 use mathlib.Core.Bool.{Bool, true, false, _&&_, _||_, not, true≢false}
 use mathlib.Core.List.{List, [], _∷_, map, List·Memᴰ as Mem, List·Memᴰ·head as here, List·Memᴰ·tail as there, List·Memᴰ·cases-cons as cases, Memᴰ·cast as mem-cast}
-use Prim.Native.Nat.{ℕ, _≤_}
 use lib.Dec.{T, T-not, eqb, eqb→eq}
 use Rattle.laws.specs.Matrix.{Vector, plus, opposite}
 use Rattle.laws.specs.Residue.{Triple, Reduced, reduced, lifted, reduced-lifted}
 use Rattle.laws.specs.Distinct.{has, has→Mem, Mem→has, or-cases, equality-equivalence}
-use Rattle.laws.specs.Lattice.{Points, InLattice, Congruent, sameTriple, triple-decides, rank, smallest, smallest-reduced, smallest-congruent, smallest-least, smallest-unique, smallest-classes, all, all-member, member-all, both}
+use Rattle.laws.specs.Lattice.{Points, InLattice, Congruent, sameTriple, triple-decides, Before, smallest, smallest-reduced, smallest-congruent, smallest-least, smallest-unique, smallest-classes, all, all-member, member-all, both}
 use Rattle.operation.specs.Meaning.{vectorOf}
 use Rattle.operation.specs.declared.Translation.{Translation}
 use Rattle.centering.specs.Letters.{letters, byteOf, pointsOf, letterOf, letterAmong}
@@ -44,11 +43,11 @@ pub congruent-lattice : (c : Centering) (s t : Translation) → (congruentOf c s
 unfolding congruentOf
 congruent-lattice c s t = point-test c (reduced (plus (vectorOf s) (opposite (vectorOf t))))
 
--- `smallest` is in the class, below 12, and no other such triple comes before it; only one triple is so.
+-- `smallest` is below 12 and in the class, and no triple below 12 of the class comes before it, compared x first; only one triple is so.
 pub record Smallest (c : Centering) (t s : Translation) : Type 0 where
   pub below : Reduced (tripleOf s)
   pub class : Congruent (pointsOf c) (vectorOf s) (vectorOf t)
-  pub least : (u : Translation) → Reduced (tripleOf u) → Congruent (pointsOf c) (vectorOf u) (vectorOf t) → rank (tripleOf s) ≤ rank (tripleOf u)
+  pub least : (u : Translation) → Reduced (tripleOf u) → Congruent (pointsOf c) (vectorOf u) (vectorOf t) → ¬ Before (tripleOf u) (tripleOf s)
 
 pub smallest-is : (c : Centering) (t s : Translation) → Smallest c t s ↔ (s ≡ smallestOf c t)
 unfolding smallestOf vectorOf

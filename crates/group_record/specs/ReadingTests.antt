@@ -11,9 +11,9 @@ use borrow.Author.Tests.{ltb-true, lt-ltb, eqb-true, eq-eqb}
 use lib.ListN.{length, length-map}
 use Rattle.laws.specs.Matrix.{Vector, opposite}
 use Rattle.laws.specs.Motion.{SpaceMotion, compose, identity}
-use Rattle.laws.specs.Residue.{reduced, _⊕_, reduced-plus}
+use Rattle.laws.specs.Residue.{Triple, reduced, _⊕_, reduced-plus}
 use Rattle.laws.specs.Distinct.{has, has-member, or-left, or-right}
-use Rattle.laws.specs.Lattice.{Congruent, congruent-reflexive, rank, all, all-member, member-all, sameTriple, triple-decides, belowTwelve, same-test, and-right}
+use Rattle.laws.specs.Lattice.{Congruent, congruent-reflexive, zeroTriple, Before, by-x, by-y, by-z, all, all-member, member-all, sameTriple, triple-decides, belowTwelve, same-test, and-right}
 use Rattle.laws.specs.LatticeMaps.{MapsOnto, onto-unimodular}
 use Rattle.laws.specs.Sorted.{Sorted, sorted-nil, sorted-cons, key-strict, key-decides, ascending-sorted, sorted-ascending, head-first, tail-sorted, sorted-map}
 use Rattle.operation.specs.Code.{codeOf, rotationOf, rotation-digits, code-rotation, code-lt}
@@ -219,13 +219,17 @@ identity-entries = digits-entries (identityOperation .rotation) .0 digits
     digits = omega arith
 
 pub origin-smallest : (c : Centering) → smallestOf c (identityOperation .translation) ≡ identityOperation .translation
-unfolding rank
 origin-smallest c =
     sym (smallest-is c (identityOperation .translation) (identityOperation .translation) .0 (record {
       below = omega arith;
       class = congruent-reflexive (pointsOf c) (points c) (vectorOf (identityOperation .translation));
-      least = λ u h m. omega arith;
+      least = λ u h m. none-before (tripleOf u);
     }))
+  where
+    none-before : (t : Triple) → ¬ Before t zeroTriple
+    none-before t (by-x p) = omega arith
+    none-before t (by-y p q) = omega arith
+    none-before t (by-z p q r) = omega arith
 
 identity-test : (c : Centering) (l : List Operation) → Form c l → (has (alikeItems c) (itemOf identityOperation) (map itemOf l) ≡ true) ↔ Mem identityOperation l
 identity-test c l F = (

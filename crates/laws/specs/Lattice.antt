@@ -249,14 +249,18 @@ module _ (l : List Triple) (L : Points l) where
       let (p, m, e) = smallest-is t in
       mem-cast (ap (λ s. reduced (plus (lifted s) (opposite (lifted t)))) e ∙ difference-reduced t (t ⊕ p) ∙ moved-less t p (L .below m)) m
 
-  -- and no triple below 12 of the class comes before it.
-  pub smallest-least : (t u : Triple) → Reduced u → Congruent l (lifted u) (lifted t) → rank (smallest l t) ≤ rank u
+  smallest-rank : (t u : Triple) → Reduced u → Congruent l (lifted u) (lifted t) → rank (smallest l t) ≤ rank u
   unfolding smallest
-  smallest-least t u h m =
+  smallest-rank t u h m =
       let (p, k, e) = least-rank-is t in
       let there : t ⊕ reduced (plus (lifted u) (opposite (lifted t))) ≡ u = ap (λ s. t ⊕ s) (difference-reduced t u ∙ ap (λ s. s ⊕ minus (reduced (lifted t))) (reduced-lifted u h)) ∙ moved-there t u h in
       let r : rank (unrank (leastRank l t)) ≡ leastRank l t = ap (λ n. rank (unrank n)) e ∙ ap rank (unrank-rank (t ⊕ p) (⊕-reduced t p)) ∙ sym e in
       rw (r, ← there) (least-rank-le l t m)
+
+  -- and no triple below 12 of the class comes before it.
+  pub smallest-least : (t u : Triple) → Reduced u → Congruent l (lifted u) (lifted t) → ¬ Before u (smallest l t)
+  smallest-least t u h m b =
+      absurd (omega (arith, smallest-rank t u h m, before-rank u (smallest l t) h (smallest-reduced t) .0 b))
 
   -- Two triples are in one class exactly if their smallest triples are equal.
   pub smallest-classes : (t u : Triple) → Congruent l (lifted t) (lifted u) ↔ (smallest l t ≡ smallest l u)
@@ -264,7 +268,7 @@ module _ (l : List Triple) (L : Points l) where
     where
       below : (t u : Triple) → Congruent l (lifted t) (lifted u) → rank (smallest l t) ≤ rank (smallest l u)
       below t u c =
-          smallest-least t (smallest l u) (smallest-reduced u)
+          smallest-rank t (smallest l u) (smallest-reduced u)
           (congruent-transitive l L (lifted (smallest l u)) (lifted u) (lifted t) (smallest-congruent u) (congruent-symmetric l L (lifted t) (lifted u) c))
 
       forth : (t u : Triple) → Congruent l (lifted t) (lifted u) → smallest l t ≡ smallest l u
@@ -278,11 +282,12 @@ module _ (l : List Triple) (L : Points l) where
           (congruent-symmetric l L (lifted (smallest l t)) (lifted t) (smallest-congruent t))
           (rw e (smallest-congruent u))
 
-  -- Only one triple is below 12, in the class, and before no other such triple.
-  pub smallest-unique : (t s : Triple) → Reduced s → Congruent l (lifted s) (lifted t) → ((u : Triple) → Reduced u → Congruent l (lifted u) (lifted t) → rank s ≤ rank u) → s ≡ smallest l t
-  smallest-unique t s h c least =
-      rank-injective s (smallest l t) h (smallest-reduced t)
-      (omega (arith, smallest-least t s h c, least (smallest l t) (smallest-reduced t) (smallest-congruent t)))
+  -- Only one triple is below 12 and in the class, with no triple below 12 of the class before it.
+  pub smallest-unique : (t s : Triple) → Reduced s → Congruent l (lifted s) (lifted t) → ((u : Triple) → Reduced u → Congruent l (lifted u) (lifted t) → ¬ Before u s) → s ≡ smallest l t
+  smallest-unique t s h c least = elim (decLt (rank (smallest l t)) (rank s)) [
+    | yes r ↦ absurd (least (smallest l t) (smallest-reduced t) (smallest-congruent t) (before-rank (smallest l t) s (smallest-reduced t) h .1 r))
+    | no r ↦ rank-injective s (smallest l t) h (smallest-reduced t) (omega (arith, smallest-rank t s h c))
+  ]
 
 -- ---- a list of points filled up with (0,0,0), which changes nothing: code tests a fixed number of points
 unfoldable pub filled : ℕ → List Triple → List Triple
