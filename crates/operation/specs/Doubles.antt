@@ -1,6 +1,7 @@
 -- A translation as three doubles, each the single division k / 12, and the way back, which takes the twelve bit patterns alone.
 -- At the end: the patterns are those of the quotients, and the two ways undo each other.
 use mathlib.Core.Path.{_≡_, refl, sym, _∙_, ap}
+use mathlib.Core.Logic.{_↔_}
 use mathlib.Core.Bool.{Bool, true, false, cond}
 use mathlib.Core.List.{List, [], _∷_, map}
 use Prim.Native.Nat.{ℕ, zero, suc, _+_, _<_}
@@ -169,6 +170,20 @@ back-and-there d t f e =
     let hy = ltb-true (numberOf (d .y)) 12 (on .1) in
     let hz = ltb-true (numberOf (d .z)) 12 (on .2) in
     rw (← on .3) (rw (quotient-of-number (d .x) (f .0) hx, quotient-of-number (d .y) (f .1) hy, quotient-of-number (d .z) (f .2) hz) (refl, hx, hy, hz))
+
+-- One of the twelve bit patterns: those of 0/12, 1/12, .., 11/12.
+abbrev pub OnGrid : Float → Type 0
+OnGrid v = (k : ℕ) × (k < 12) × (toBits binary64 v ≡ toBits binary64 (quotient k))
+
+-- The test of a component says whether it has one of them.
+pub on-grid : (v : Float) → (isOnGrid v ≡ true) ↔ OnGrid v
+unfolding numberOf patterns
+on-grid v = (
+  (λ e.
+      let h = ltb-true (numberOf v) 12 e in
+      (numberOf v, h, sym (place-found patterns (toBits binary64 v) h) ∙ pattern-at (numberOf v) h)),
+  λ (k, h, e). let same : numberOf v ≡ k = ap (placeIn patterns) e ∙ number-of-quotient k h in lt-ltb (numberOf v) 12 (omega arith),
+)
 
 -- ---- what is off the grid
 -- The bits of −0, of 1, of the smallest subnormal, of the infinities and of a NaN.

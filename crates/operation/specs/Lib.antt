@@ -11,7 +11,9 @@ pub mod Composed
 pub mod Code
 pub mod Answer
 pub mod RotationType
+pub mod UnknownType
 pub mod Below
 pub mod DigitDeterminant
 pub mod Turns
 pub mod Doubles
+pub mod OffGrid
