@@ -23,7 +23,7 @@ fn number(refusal: Refusal) -> u8
 {
     match refusal {
         Refusal::Symbol(why) => why.number(),
-        Refusal::Record(why) => super::record::number(why),
+        Refusal::Record(why) => why.number(),
         Refusal::Group(why) => super::table::number(why),
     }
 }

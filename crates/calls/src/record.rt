@@ -3,8 +3,7 @@ ghost use mathlib.Core.Path.{_≡_};
 ghost use Prim.Native.Nat.{_+_, _*_};
 ghost use Rattle.centering.specs.Letters.{byteOf};
 ghost use Rattle.group_record.specs.Copying.{copyAnswer, copiedOf, bufferOf};
-ghost use Rattle.group_record.specs.Reading.{refusalNumber, readOf};
-ghost use Rattle.calls.specs.Answers.{recordLetter, recordOrder};
+ghost use Rattle.group_record.specs.Reading.{refusalNumber, recordLetter, recordOrder, readOf};
 ghost use Rattle.calls.specs.Packing.{topByte, packed, mapped};
 use super::packing::refused;
 use group_record::Copied;
@@ -52,19 +51,5 @@ pub extern "C" fn symmetry_record_copy(bytes: &[u8], out: &mut [u8], start: u64)
 fn refused_record(why: Refusal) -> u64
     ensures { λ r. ⌜ r ≡ refusalNumber why * topByte + 0 ⌝ }
 {
-    refused(number(why), 0)
-}
-
-pub(crate) fn number(why: Refusal) -> u8
-    ensures { λ r. ⌜ r ≡ refusalNumber why ⌝ }
-{
-    match why {
-        Refusal::NoRoom => 20,
-        Refusal::Short => 30,
-        Refusal::WrongEdition => 31,
-        Refusal::WrongLetter => 32,
-        Refusal::WrongLength => 33,
-        Refusal::WrongItem => 34,
-        Refusal::NotAllowed => 35,
-    }
+    refused(why.number(), 0)
 }

@@ -16,6 +16,7 @@ pub mod RoundTrips
 pub mod AcceptedSymbols
 pub mod SymbolSets
 pub mod SymbolReading
+pub mod RefusalNumbers
 pub mod Example
 -- What the code does with items.
 pub mod Search

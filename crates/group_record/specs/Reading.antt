@@ -51,6 +51,21 @@ readingAnswer (Refused r) c l = refused (refusalNumber r) 0 tt
 abbrev pub groupAnswer : RecordGroup → Answer (Centering × List Operation) Nothing
 groupAnswer g = readingAnswer (g .answer) (g .centering) (take (g .count) (g .operations))
 
+-- What it says of the order and of the letter alone.
+abbrev pub orderBy : Reading → ℕ → Answer ℕ Nothing
+orderBy Accepted n = given n
+orderBy (Refused r) n = refused (refusalNumber r) 0 tt
+
+abbrev pub recordOrder : RecordGroup → Answer ℕ Nothing
+recordOrder g = orderBy (g .answer) (g .count)
+
+abbrev pub letterBy : Reading → Centering → Answer Centering Nothing
+letterBy Accepted c = given c
+letterBy (Refused r) c = refused (refusalNumber r) 0 tt
+
+abbrev pub recordLetter : RecordGroup → Answer Centering Nothing
+recordLetter g = letterBy (g .answer) (g .centering)
+
 -- Operations as 48 slots.
 unfoldable pub slots : List Operation → List Operation
 slots l = l ++ replicate (48 - length l) identityOperation

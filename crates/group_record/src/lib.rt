@@ -4,6 +4,8 @@ pub mod reader;
 pub mod symbol;
 mod writer;
 
+ghost use mathlib.Core.Path.{_≡_};
+ghost use Rattle.group_record.specs.Reading.{refusalNumber};
 use centering::Centering;
 use operation::Operation;
 
@@ -16,6 +18,23 @@ pub enum Refusal {
     WrongLength,
     WrongItem,
     NotAllowed,
+}
+
+impl Refusal {
+    // The number of 01; the place is 0.
+    pub fn number(self) -> u8
+        ensures { λ r. ⌜ r ≡ refusalNumber self ⌝ }
+    {
+        match self {
+            Refusal::NoRoom => 20,
+            Refusal::Short => 30,
+            Refusal::WrongEdition => 31,
+            Refusal::WrongLetter => 32,
+            Refusal::WrongLength => 33,
+            Refusal::WrongItem => 34,
+            Refusal::NotAllowed => 35,
+        }
+    }
 }
 
 pub enum Reading {

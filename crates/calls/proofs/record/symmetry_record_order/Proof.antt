@@ -1,7 +1,5 @@
--- By what was read; a record that is read lists as many operations as it counts.
+-- By what was read.
 use mathlib.Core.Path.{_∙_}
-use native.Mathlib.Omega.{arith}
-use Rattle.calls.specs.RecordBounds.{order-read}
 use borrow.Author.Needs.{needs}
 use Rattle.calls.proofs.record.symmetry_record_order.Statement.{statement}
 use Rattle.calls.proofs.record.symmetry_record_order.Tie as tie
@@ -19,8 +17,7 @@ refused-record-requires : tie.Need-refused-record-requires
 refused-record-requires c κs = search needs
 
 returns : tie.Need-returns
-returns c =
-    order-read _ (λ i. omega (arith, c .before .before .before .shared-slice-known .given i)) _ (c .before .before .read-record .ensures) (c .enum-told .given .1)
+returns c = rw (← (c .before .before .read-record .ensures), c .enum-told .given .1)
 
 returns-2 : tie.Need-returns-2
 returns-2 c = c .refused-record .ensures ∙ rw (← (c .before .before .before .before .read-record .ensures), c .before .before .answer .given .1)
