@@ -33,3 +33,8 @@ pub mod Permutations
 -- What the lists hold.
 pub mod ListedSubgroups
 pub mod ListedConjugates
+-- The Rust's own procedures, and that their lists are ours.
+pub mod RustProcedures
+pub mod SameSubgroups
+pub mod SameConjugates
+pub mod SameClasses

@@ -37,13 +37,13 @@ module _ (n : ℕ) (_·_ : ℕ → ℕ → ℕ) (e : ℕ) where
 
 module _ (n : ℕ) (_·_ : ℕ → ℕ → ℕ) (e : ℕ) (G : Group n _·_ e) where
   -- what passes the test of a first set is first
-  first-passes : (s : ℕ) → isFirst n _·_ e s ≡ true → (g : ℕ) → g < n → ¬ Precedes (conjugateOf n _·_ e s g) s
+  pub first-passes : (s : ℕ) → isFirst n _·_ e s ≡ true → (g : ℕ) → g < n → ¬ Precedes (conjugateOf n _·_ e s g) s
   unfolding isFirst
   first-passes s t g h p =
       true≢false (sym (precedes-earlier n _ s (conjugate-below n _·_ e G s g) p) ∙ not-true _ (every-passes _ n t g h))
 
   -- and what is first passes
-  passes-first : (s : ℕ) → ((g : ℕ) → g < n → ¬ Precedes (conjugateOf n _·_ e s g) s) → isFirst n _·_ e s ≡ true
+  pub passes-first : (s : ℕ) → ((g : ℕ) → g < n → ¬ Precedes (conjugateOf n _·_ e s g) s) → isFirst n _·_ e s ≡ true
   unfolding isFirst
   passes-first s f = passes-every _ n (λ g h. ap not (not-passing _ (λ t. f g h (earlier-precedes n _ s t))))
 
