@@ -52,6 +52,12 @@ module _ (n : ℕ) (_·_ : ℕ → ℕ → ℕ) (e : ℕ) where
     unfolding subgroupsOf
     only-subgroups s m = chosen-passes n _·_ e G false s (listed-passes n (chosen n _·_ e false) s m .1) .subgroup
 
+    -- each subgroup is listed
+    pub subgroup-listed : (s : ℕ) → Subgroup n _·_ e s → Mem s (subgroupsOf n _·_ e)
+    unfolding subgroupsOf
+    subgroup-listed s S = passes-listed n (chosen n _·_ e false) s (S .small)
+        (passes-chosen n _·_ e G false s (record { subgroup = S; first = λ q. absurd (true≢false (sym q)) }))
+
     -- the list is in list order, so nothing is listed twice
     pub subgroups-sorted : Sorted Precedes (subgroupsOf n _·_ e)
     unfolding subgroupsOf

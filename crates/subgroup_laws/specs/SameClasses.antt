@@ -13,9 +13,8 @@ use Rattle.laws.specs.Sorted.{Sorted, head-first, append-sorted-right, append-s
 use Rattle.subgroup_laws.specs.Bounded.{every-fails, not-passing}
 use Rattle.subgroup_laws.specs.Conjugation.{inverse-below, conjugate-subgroup, conjugate-set-back, conjugate-set-twice}
 use Rattle.subgroup_laws.specs.Groups.{Group, inverseOf}
-use Rattle.subgroup_laws.specs.ListedSubgroups.{only-subgroups, subgroups-sorted, representatives, representatives-sorted}
-use Rattle.subgroup_laws.specs.Listing.{passes-listed}
-use Rattle.subgroup_laws.specs.Lists.{chosen, passes-chosen, isFirst, first-passes, passes-first, subgroupsOf, representativesOf}
+use Rattle.subgroup_laws.specs.ListedSubgroups.{only-subgroups, subgroup-listed, subgroups-sorted, representatives, representatives-sorted}
+use Rattle.subgroup_laws.specs.Lists.{isFirst, first-passes, passes-first, subgroupsOf, representativesOf}
 use Rattle.subgroup_laws.specs.RustProcedures.{sameList, keys, witnesses, representativesAmong}
 use Rattle.subgroup_laws.specs.SameConjugates.{witnessed-conjugates}
 use Rattle.subgroup_laws.specs.SameSubgroups.{had, has-it}
@@ -26,12 +25,6 @@ module _ (n : ℕ) (_·_ : ℕ → ℕ → ℕ) (e : ℕ) (G : Group n _·_ e) w
   -- a conjugate is conjugated back
   conjugated-back : (s r g : ℕ) → s < 2 ^ n → g < n → conjugateOf n _·_ e s g ≡ r → conjugateOf n _·_ e r (inverseOf n _·_ e g) ≡ s
   conjugated-back s r g small l q = ap (λ (z : ℕ). conjugateOf n _·_ e z (inverseOf n _·_ e g)) (sym q) ∙ conjugate-set-back n _·_ e G s g small l
-
-  -- a subgroup is in the list
-  in-list : (s : ℕ) → Subgroup n _·_ e s → Mem s (subgroupsOf n _·_ e)
-  unfolding subgroupsOf
-  in-list s S = passes-listed n (chosen n _·_ e false) s (S .small)
-      (passes-chosen n _·_ e G false s (record { subgroup = S; first = λ q. absurd (true≢false (sym q)) }))
 
   -- no conjugate of s had its turn
   abbrev Untouched : List ℕ → ℕ → Type 0
@@ -53,7 +46,7 @@ module _ (n : ℕ) (_·_ : ℕ → ℕ → ℕ) (e : ℕ) (G : Group n _·_ e) w
 
     -- a subgroup that stands before r had its turn
     before-front : (s : ℕ) → Subgroup n _·_ e s → Precedes s r → Mem s front
-    before-front s S p = elim (append-cases front {t = r ∷ back} (subst (λ (l : List ℕ). Mem s l) split (in-list s S))) [
+    before-front s S p = elim (append-cases front {t = r ∷ back} (subst (λ (l : List ℕ). Mem s l) split (subgroup-listed n _·_ e G s S))) [
       | inl m ↦ m
       | inr m ↦ elim (cases m) [
         | inl q ↦ absurd (precedes-irreflexive r (subst (λ (z : ℕ). Precedes z r) q p))
@@ -154,7 +147,7 @@ module _ (n : ℕ) (_·_ : ℕ → ℕ → ℕ) (e : ℕ) (G : Group n _·_ e) w
       representatives n _·_ e G s .1 (record { subgroup = only-subgroups n _·_ e G s k; first = λ q. first-passes n _·_ e G s p }))
       (λ s m.
       let C = representatives n _·_ e G s .0 m in
-      member-kept (isFirst n _·_ e) (subgroupsOf n _·_ e) (in-list s (C .subgroup)) (passes-first n _·_ e G s (C .first refl)))
+      member-kept (isFirst n _·_ e) (subgroupsOf n _·_ e) (subgroup-listed n _·_ e G s (C .subgroup)) (passes-first n _·_ e G s (C .first refl)))
 
   -- The representatives that the Rust takes from its list of subgroups are ours, in our order.
   pub representatives-as-taken : representativesAmong n _·_ e (map (members n) (subgroupsOf n _·_ e)) (map (members n) (subgroupsOf n _·_ e))

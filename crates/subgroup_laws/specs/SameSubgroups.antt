@@ -21,9 +21,8 @@ use Rattle.laws.specs.Sorted.{StrictOrder, Sorted, sorted-nil, sorted-cons, sor
 use Rattle.subgroup_laws.specs.Adjoin.{Extension, singleton-self, singleton-only}
 use Rattle.subgroup_laws.specs.Bounded.{some, passes-some, some-passes, passes-or-fails, and-both, both-and, or-either, or-holds-left, or-holds-right, same-truth}
 use Rattle.subgroup_laws.specs.Groups.{Group}
-use Rattle.subgroup_laws.specs.ListedSubgroups.{only-subgroups, subgroups-sorted}
-use Rattle.subgroup_laws.specs.Listing.{passes-listed}
-use Rattle.subgroup_laws.specs.Lists.{chosen, passes-chosen, subgroupsOf}
+use Rattle.subgroup_laws.specs.ListedSubgroups.{only-subgroups, subgroup-listed, subgroups-sorted}
+use Rattle.subgroup_laws.specs.Lists.{subgroupsOf}
 use Rattle.subgroup_laws.specs.RustProcedures.{sameList, isProduct, round, rounds, firstMarked, generatedSubgroup, Progress, tried, triedBelow, Searched, ended, taken, EnumeratedSubgroups}
 use Rattle.subgroup_laws.specs.Search.{Settled, Complete, own-extension, listed-itself, complete-listed}
 use Rattle.subgroup_laws.specs.SubgroupLaws.{closed-set}
@@ -497,9 +496,7 @@ module _ (n : ℕ) (_·_ : ℕ → ℕ → ℕ) (e : ℕ) (G : Group n _·_ e) w
 
   -- the lists of subgroups are in it
   lists-hold : (s : ℕ) → Subgroup n _·_ e s → Mem (members n s) subgroupLists
-  unfolding subgroupsOf
-  lists-hold s S = mem-map (members n) (passes-listed n (chosen n _·_ e false) s (S .small)
-      (passes-chosen n _·_ e G false s (record { subgroup = S; first = λ q. absurd (true≢false (sym q)) })))
+  lists-hold s S = mem-map (members n) (subgroup-listed n _·_ e G s S)
 
   -- and no others
   lists-known : (x : List ℕ) → Mem x subgroupLists → Known x
