@@ -6,6 +6,7 @@ pub mod Groups
 pub mod GroupLaws
 pub mod Table
 pub mod TableLaws
+pub mod Rows
 -- Sets of elements: subgroups, images, conjugates.
 pub mod Subsets
 pub mod SubgroupLaws
@@ -21,6 +22,7 @@ pub mod Generators
 pub mod Adjoin
 -- Lists of sets in lent slots, and the list order.
 pub mod Slots
+pub mod SlotBytes
 pub mod Listing
 pub mod Lists
 -- The search for subgroups and for representatives of their classes.
