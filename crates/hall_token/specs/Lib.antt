@@ -5,7 +5,10 @@ pub mod Runs
 pub mod Axes
 pub mod AxisRules
 pub mod Matrices
+pub mod Turning
+pub mod TurnTest
 pub mod Turns
+pub mod OneTurn
 pub mod Packed
 pub mod Translations
 pub mod Sums
