@@ -13,6 +13,7 @@ pub mod Packed
 pub mod Translations
 pub mod Sums
 pub mod Refusals
+pub mod Edges
 pub mod Reader
 pub mod Stages
 pub mod Spelling

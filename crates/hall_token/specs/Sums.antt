@@ -83,13 +83,13 @@ vector-bound run i v u w k = rw (k, w) (vector-small (getD run i 0))
 
 -- ---- the front
 
-no-digit : (v : RunByte) → noScrew v ≡ true → screwDigit v ≡ 0
+pub no-digit : (v : RunByte) → noScrew v ≡ true → screwDigit v ≡ 0
 no-digit (Screw s) h = absurd (true≢false (sym h))
 no-digit (Letter t) h = refl
 no-digit Prime h = refl
 no-digit Foreign h = refl
 
-no-rise : (f : Fold) → 12 * 0 / foldNumber f ≡ 0
+pub no-rise : (f : Fold) → 12 * 0 / foldNumber f ≡ 0
 no-rise One = refl
 no-rise Two = refl
 no-rise Three = refl
