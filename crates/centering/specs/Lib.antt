@@ -4,3 +4,4 @@ pub mod Lattices
 pub mod LatticeLaws
 pub mod PointSearch
 pub mod Keeps
+pub mod Reflections
