@@ -1,8 +1,9 @@
--- Bytes fed one by one, of which the first 81 of a line are kept: the lines that are handed over are those of the text, and their texts the output.
+-- Bytes fed one by one, of which the first 81 of a line are kept: the lines that are handed over are those of the text, however it is cut into pieces,
+-- and their texts the output.
 use mathlib.Core.Path.{_≡_, refl, sym, _∙_, ap, ap₂}
 use mathlib.Core.Bool.{Bool, true, false, cond}
-use mathlib.Core.List.{List, [], _∷_, _++_, map}
-use Prim.Native.Nat.{ℕ}
+use mathlib.Core.List.{List, [], _∷_, _++_, map, append-assoc}
+use Prim.Native.Nat.{ℕ, suc, _≤_, _<_}
 use native.Mathlib.Omega.{arith}
 use lib.Dec.{eqb, ltb}
 use lib.ListN.{length, take}
@@ -36,6 +37,16 @@ handedOver kept (b ∷ bytes) = let more = handedOver (keptAfter kept b) bytes i
 -- All that the program hands over for a text: at the end of the text, a last line that holds a byte.
 unfoldable pub allHandedOver : List ℕ → List (List ℕ)
 allHandedOver text = handedOver [] text ++ lastLine (keptBehind [] text)
+
+-- The same for a text that comes in pieces: what is handed over on each, and the last line behind them.
+unfoldable pub overPieces : List ℕ → List (List ℕ) → List (List ℕ)
+overPieces kept [] = lastLine kept
+overPieces kept (piece ∷ pieces) = handedOver kept piece ++ overPieces (keptBehind kept piece) pieces
+
+-- How many bytes of a piece are taken at a time: those up to its first byte 10, with it, or all.
+unfoldable pub takenOf : List ℕ → ℕ
+takenOf [] = 0
+takenOf (b ∷ piece) = cond (eqb b 10) 1 (suc (takenOf piece))
 
 -- ---- parts of a text, fed one behind the other
 -- What is kept behind two parts.
@@ -98,3 +109,40 @@ texts-first (line ∷ lines) = ap₂ _++_ (first-bytes-decide line) (texts-first
 pub handed-output : (text : List ℕ) → textsOf (allHandedOver text) ≡ outputOf text
 unfolding outputOf
 handed-output text = ap textsOf (handed-lines text) ∙ texts-first (linesOf text)
+
+-- From any point of a line on.
+from-pieces : (kept : List ℕ) (pieces : List (List ℕ)) → overPieces kept pieces ≡ handedOver kept (inARow pieces) ++ lastLine (keptBehind kept (inARow pieces))
+unfolding overPieces inARow handedOver keptBehind
+from-pieces kept [] = refl
+from-pieces kept (piece ∷ pieces) =
+    let rest = inARow pieces in
+    let behind = keptBehind kept piece in
+    ap (λ (l : List (List ℕ)). handedOver kept piece ++ l) (from-pieces behind pieces)
+    ∙ sym (append-assoc (handedOver kept piece) (handedOver behind rest) (lastLine (keptBehind behind rest)))
+    ∙ ap₂ (λ (l : List (List ℕ)) (last : List ℕ). l ++ lastLine last) (handed-parts kept piece rest) (kept-parts kept piece rest)
+
+-- However a text is cut into pieces, the texts of what is handed over are its output.
+pub pieces-output : (pieces : List (List ℕ)) → textsOf (overPieces [] pieces) ≡ outputOf (inARow pieces)
+unfolding allHandedOver
+pieces-output pieces = ap textsOf (from-pieces [] pieces) ∙ handed-output (inARow pieces)
+
+-- ---- what is taken of a piece
+-- No more than there is,
+pub taken-within : (piece : List ℕ) → takenOf piece ≤ length piece
+unfolding takenOf
+taken-within [] = omega arith
+taken-within (b ∷ piece) = by-byte (eqb b 10) refl (taken-within piece)
+  where
+    by-byte : (t : Bool) → eqb b 10 ≡ t → takenOf piece ≤ length piece → takenOf (b ∷ piece) ≤ length (b ∷ piece)
+    by-byte true e more = rw e (omega arith)
+    by-byte false e more = rw e (omega arith)
+
+-- and some of what there is: so a piece is taken whole in the end.
+pub taken-some : (piece : List ℕ) → 0 < length piece → 0 < takenOf piece
+unfolding takenOf
+taken-some [] h = h
+taken-some (b ∷ piece) h = by-byte (eqb b 10) refl
+  where
+    by-byte : (t : Bool) → eqb b 10 ≡ t → 0 < takenOf (b ∷ piece)
+    by-byte true e = rw e (omega arith)
+    by-byte false e = rw e (omega arith)

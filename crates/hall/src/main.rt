@@ -1,17 +1,65 @@
-// The program: reads Hall symbols from standard input, one a line, and writes for each its operations or its refusal.
+// The program: reads Hall symbols from standard input, one a line, and writes for each its operations or its refusal. What is written and when is decided
+// by functions with contracts; here they are called between reading and writing, of which no contract can speak.
+mod answers;
 mod lines;
 
-ghost use Rattle.hall.specs.Keeping.{Sound};
+ghost use mathlib.Core.Path.{_≡_};
+ghost use mathlib.Core.Bool.{true};
+ghost use Rattle.hall.specs.Feeding.{keptBehind};
+ghost use Rattle.hall.specs.Keeping.{held, Sound};
+ghost use Rattle.hall.specs.Answers.{Writable};
+use answer_text::AnswerText;
+use answers::answer_next;
+use answers::last_text;
+use libc::STDERR_FILENO;
 use libc::STDIN_FILENO;
+use libc::STDOUT_FILENO;
 use lines::Line;
 use lines::empty;
-use lines::take_bytes;
-use lines::write_answer;
 
 // The line that is being read, and whether there may be more to read.
 struct Step {
     line: Line,
     more: bool,
+}
+
+// Answers whether all of it was written.
+fn write_text(answer: AnswerText) -> bool
+    requires { ⌜ Writable answer ⌝ }
+{
+    let size = answer.length;
+    let text = answer.bytes;
+    if io::write_all(STDOUT_FILENO, &text[..size]) {
+        return true;
+    }
+    io::write_all(STDERR_FILENO, b"hall: the output cannot be written\n");
+    false
+}
+
+// Where nothing can be written any more, nothing more is read.
+fn answer_piece(line: Line, piece: &[u8]) -> Step
+    requires { ⌜ Sound line ⌝ }
+    ensures { λ r. ⌜ Sound (r .line) × (r .more ≡ true → held (r .line) ≡ keptBehind (held line) (now (piece .entry))) ⌝ }
+{
+    let mut kept = line;
+    let mut from = 0usize;
+    while from < piece.len() {
+        let answered = answer_next(kept, &piece[from..]);
+        let text = answered.text;
+        let taken = answered.taken;
+        kept = answered.line;
+        if !write_text(text) {
+            return Step {
+                line: empty(),
+                more: false,
+            };
+        }
+        from += taken;
+    }
+    Step {
+        line: kept,
+        more: true,
+    }
 }
 
 fn read_some(line: Line) -> Step
@@ -24,11 +72,7 @@ fn read_some(line: Line) -> Step
     if n == 0 {
         return Step { line, more: false };
     }
-    let next = take_bytes(line, &buffer[..n]);
-    Step {
-        line: next,
-        more: true,
-    }
+    answer_piece(line, &buffer[..n])
 }
 
 // Reads and answers to the end; what is left is a last line that byte 10 does not end. A proved loop has to end, and nothing says that the input does: so it
@@ -52,8 +96,5 @@ fn read_all() -> Line
 }
 
 fn main() {
-    let last = read_all();
-    if 0 < last.length {
-        write_answer(last);
-    }
+    write_text(last_text(read_all()));
 }

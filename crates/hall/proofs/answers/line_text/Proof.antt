@@ -1,0 +1,27 @@
+-- The bytes in use are lent.
+use mathlib.Core.Path.{sym}
+use native.Mathlib.Omega.{arith}
+use lib.Seq.{length-take-le}
+use borrow.Author.Needs.{needs}
+use Rattle.hall.proofs.answers.line_text.Statement.{statement}
+use Rattle.hall.proofs.answers.line_text.Tie as tie
+use Rattle.hall.proofs.answers.line_text.Reads as reads
+use Rattle.hall.proofs.answers.line_text.Lts as lts
+use Rattle.answer_text.proofs.answer_text.Reads as answer-text-reads
+
+array-share-prefix-bytes : tie.Need-array-share-prefix-bytes
+array-share-prefix-bytes c = search needs
+
+slice-aggregate-answer-text : tie.Need-slice-aggregate-answer-text
+slice-aggregate-answer-text c =
+    let s = c .before .before in
+    sym (length-take-le (s .args .line .length) (s .args .line .bytes) (omega (arith, s .pre .few, s .pre .places)))
+
+answer-text-requires : tie.Need-answer-text-requires
+answer-text-requires c κs = search needs
+
+returns : tie.Need-returns
+returns c = search needs
+
+pub line-text-spec : {M : Type 1} → statement M
+line-text-spec = tie.close (tie.spec array-share-prefix-bytes slice-aggregate-answer-text answer-text-requires returns)
