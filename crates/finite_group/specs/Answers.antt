@@ -5,6 +5,7 @@ use Prim.Native.Nat.{ℕ, _/_}
 use lib.Count.{ones}
 use lib.Dec.{eqb, ltb}
 use lib.ListN.{length, drop, replicate}
+use Rattle.operation.specs.Answer as answer
 use Rattle.subgroup_laws.specs.Conjugates.{conjugatesOf, conjugatorsOf}
 use Rattle.subgroup_laws.specs.Lists.{subgroupsOf, representativesOf}
 use Rattle.subgroup_laws.specs.Permutations.{permutationOf}
@@ -35,6 +36,11 @@ numberOf Normalizer = 29
 -- their place is 0
 unfoldable pub placeOf : Refusal → ℕ
 placeOf r = 0
+
+-- what an answer on a table says
+abbrev pub tableAnswer : Answer → answer.Answer ℕ answer.Nothing
+tableAnswer (Value v) = answer.given v
+tableAnswer (Refused r) = answer.refused (numberOf r) (placeOf r) tt
 
 -- on the group of a table, or its refusal
 abbrev pub onGroup : Checked → (ℕ → Answer) → Answer

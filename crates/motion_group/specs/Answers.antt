@@ -1,6 +1,7 @@
 -- What is asked of the group of a symbol or a record: its refusal, or what `finite_group` answers on the cells of its table.
 use mathlib.Core.List.{List}
 use Prim.Native.Nat.{ℕ}
+use Rattle.operation.specs.Answer as answer
 use Rattle.symbol_group.specs.Answers.{orderOf}
 use Rattle.symbol_group.specs.Refusals as symbol
 use Rattle.symbol_group.specs.declared.SymbolOrder.{SymbolOrder}
@@ -30,6 +31,11 @@ abbrev pub placeOf : Refusal → ℕ
 placeOf (Symbol r) = symbol.placeOf r
 placeOf (Record r) = 0
 placeOf (Group r) = group.placeOf r
+
+-- What an answer on the group of a symbol or a record says.
+abbrev pub motionAnswer : Answer → answer.Answer ℕ answer.Nothing
+motionAnswer (Value v) = answer.given v
+motionAnswer (Refused r) = answer.refused (numberOf r) (placeOf r) tt
 
 -- ---- on the order of a group, or a refusal
 -- What is answered on a table, as an answer of this room.
