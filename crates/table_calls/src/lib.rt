@@ -1,5 +1,6 @@
 // The tables of symbols and records by value for C, cell by cell: a test library, so that tests/tables.c can print them for other programs.
 ghost use mathlib.Core.Path.{_≡_};
+ghost use lib.ListN.{length};
 ghost use Rattle.group_table.specs.Tables.{symbolTable, recordTable};
 ghost use Rattle.table_calls.specs.Cells.{cellAt};
 use group_table::record::from_record;
@@ -19,10 +20,7 @@ pub extern "C" fn symbol_table_cell(text: &[u8], place: usize) -> u64
 {
     let table = from_symbol(text);
     let cells = table.cells;
-    if 2304 <= place {
-        return 0;
-    }
-    cells[place] as u64
+    cell_at(&cells, place)
 }
 
 #[no_mangle]
@@ -39,6 +37,14 @@ pub extern "C" fn record_table_cell(bytes: &[u8], place: usize) -> u64
 {
     let table = from_record(bytes);
     let cells = table.cells;
+    cell_at(&cells, place)
+}
+
+// The cell at a place, and 0 where there is no slot.
+fn cell_at(cells: &[u8], place: usize) -> u64
+    requires { ⌜ length (now cells) ≡ 2304 ⌝ }
+    ensures { λ r. ⌜ r ≡ cellAt (now (cells .entry)) place ⌝ }
+{
     if 2304 <= place {
         return 0;
     }
