@@ -1,0 +1,3 @@
+-- What is answered on the groups of symbols and records, number by number.
+pub mod Sources
+pub mod Once

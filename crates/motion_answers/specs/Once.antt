@@ -1,0 +1,66 @@
+-- Number, place and value determine an answer on the group of a symbol or a record, if they do in the rooms of texts and of records: the numbers of the
+-- three rooms are apart.
+use mathlib.Core.Path.{_≡_, sym, ap}
+use mathlib.Core.Logic.{_⊎_, inl, inr}
+use Prim.Native.Nat.{ℕ, _<_, _≤_}
+use native.Mathlib.Omega.{arith}
+use Rattle.symbol_group.specs.Refusals as symbol
+use Rattle.symbol_group.specs.declared.refusal.Refusal as symbol-refusal
+use Rattle.group_record.specs.Reading.{refusalNumber}
+use Rattle.group_record.specs.declared.Refusal as record-refusal
+use Rattle.finite_group.specs.Answers as group
+use Rattle.finite_group.specs.declared.Refusal as group-refusal
+use Rattle.finite_group.specs.declared.Refusal.the-variants as group-refusals
+use Rattle.table_answers.specs.Once.{number-once}
+use Rattle.motion_group.specs.Answers.{numberOf, placeOf, motionAnswer}
+use Rattle.motion_group.specs.declared.Answer.{Answer}
+use Rattle.motion_group.specs.declared.Answer.the-variants.{Value, Refused}
+use Rattle.motion_group.specs.declared.Refusal.{Refusal}
+use Rattle.motion_group.specs.declared.Refusal.the-variants.{Symbol, Record, Group}
+
+-- the numbers of tables
+group-number : (r : group-refusal.Refusal) → (21 ≤ group.numberOf r) × (group.numberOf r ≤ 29)
+unfolding group.numberOf
+group-number group-refusals.Order = (omega arith, omega arith)
+group-number group-refusals.Cells = (omega arith, omega arith)
+group-number group-refusals.Identity = (omega arith, omega arith)
+group-number group-refusals.Inverse = (omega arith, omega arith)
+group-number group-refusals.Associativity = (omega arith, omega arith)
+group-number group-refusals.Slots = (omega arith, omega arith)
+group-number group-refusals.Subgroup = (omega arith, omega arith)
+group-number group-refusals.Element = (omega arith, omega arith)
+group-number group-refusals.Normalizer = (omega arith, omega arith)
+
+-- the numbers of records are none of the others
+below-records : (j k : ℕ) → j < 20 → (k ≡ 20) ⊎ (30 ≤ k) → j ≡ k → ⊥
+below-records j k low (inl same) e = omega arith
+below-records j k low (inr high) e = omega arith
+
+between-records : (j k : ℕ) → 21 ≤ j → j ≤ 29 → (k ≡ 20) ⊎ (30 ≤ k) → j ≡ k → ⊥
+between-records j k low high (inl same) e = omega arith
+between-records j k low high (inr past) e = omega arith
+
+module _
+    (symbol-low : (r : symbol-refusal.Refusal) → symbol.numberOf r < 20)
+    (symbol-once : (r s : symbol-refusal.Refusal) → symbol.numberOf r ≡ symbol.numberOf s → symbol.placeOf r ≡ symbol.placeOf s → r ≡ s)
+    (record-apart : (r : record-refusal.Refusal) → (refusalNumber r ≡ 20) ⊎ (30 ≤ refusalNumber r))
+    (record-once : (r s : record-refusal.Refusal) → refusalNumber r ≡ refusalNumber s → r ≡ s) where
+  refusal-once : (r s : Refusal) → numberOf r ≡ numberOf s → placeOf r ≡ placeOf s → r ≡ s
+  refusal-once (Symbol r) (Symbol s) e p = ap Symbol (symbol-once r s e p)
+  refusal-once (Symbol r) (Record s) e p = absurd (below-records _ _ (symbol-low r) (record-apart s) e)
+  refusal-once (Symbol r) (Group s) e p = absurd (omega (arith, symbol-low r, group-number s))
+  refusal-once (Record r) (Symbol s) e p = absurd (below-records _ _ (symbol-low s) (record-apart r) (sym e))
+  refusal-once (Record r) (Record s) e p = ap Record (record-once r s e)
+  refusal-once (Record r) (Group s) e p = absurd (between-records _ _ (group-number s .0) (group-number s .1) (record-apart r) (sym e))
+  refusal-once (Group r) (Symbol s) e p = absurd (omega (arith, symbol-low s, group-number r))
+  refusal-once (Group r) (Record s) e p = absurd (between-records _ _ (group-number r .0) (group-number r .1) (record-apart s) e)
+  refusal-once (Group r) (Group s) e p = ap Group (number-once r s e)
+
+  pub answer-once : (a b : Answer) → motionAnswer a ≡ motionAnswer b → a ≡ b
+  answer-once (Value v) (Value w) e = let same : v ≡ w = cc in ap Value same
+  answer-once (Value v) (Refused r) e = let z : _≡_ {A = ℕ} 0 1 = cc in absurd (omega arith)
+  answer-once (Refused r) (Value w) e = let z : _≡_ {A = ℕ} 0 1 = cc in absurd (omega arith)
+  answer-once (Refused r) (Refused s) e =
+      let number : numberOf r ≡ numberOf s = cc in
+      let place : placeOf r ≡ placeOf s = cc in
+      ap Refused (refusal-once r s number place)
