@@ -13,8 +13,8 @@ use Rattle.operation.specs.declared.Operation.{Operation}
 use Rattle.centering.specs.Letters.{pointsOf}
 use Rattle.centering.specs.Lattices.{points}
 use Rattle.centering.specs.declared.Centering.{Centering}
-use Rattle.space_group.specs.Acceptance.{Accepted}
-use Rattle.space_group.specs.Members.{identity-first, at-most-48, rotation-generated, rotations-once, member-near, generated-keeps, alike-keeps, product-member}
+use Rattle.space_group_theorems.specs.Acceptance.{Accepted}
+use Rattle.space_group_theorems.specs.Members.{identity-first, at-most-48, rotation-generated, rotations-once, member-near, generated-keeps, alike-keeps, product-member}
 use Rattle.symbol_group.specs.AcceptedTexts.{accepted-text}
 use Rattle.symbol_group.specs.Answers.{symbolAnswer}
 use Rattle.symbol_group.specs.Slots.{symbol-slots}

@@ -11,7 +11,7 @@ use Rattle.centering.specs.declared.Centering.{Centering}
 use Rattle.hall_symbol.specs.Reader.{symbol}
 use Rattle.hall_symbol.specs.Spelling.{Spells}
 use Rattle.hall_symbol.specs.Agreement.{symbol-exactly}
-use Rattle.space_group.specs.SetOfMotions as generated
+use Rattle.space_group_theorems.specs.SetOfMotions as generated
 use Rattle.symbol_group.specs.AcceptedTexts.{AcceptedText, accepted-text}
 use Rattle.symbol_group.specs.Answers.{symbolAnswer}
 use Rattle.symbol_group.specs.declared.Answer.the-variants.{Group}

@@ -19,7 +19,7 @@ use Rattle.operation.specs.declared.Operation.{Operation}
 use Rattle.operation.specs.declared.product.Product.{Product}
 use Rattle.operation.specs.declared.product.Product.the-variants.{Inside, Outside}
 use Rattle.centering.specs.declared.Centering.{Centering}
-use Rattle.space_group.specs.Acceptance.{member-at}
+use Rattle.space_group_theorems.specs.Acceptance.{member-at}
 use Rattle.space_group.specs.Traversal.{turnOf, padded}
 use Rattle.space_group.specs.Places.{place-key}
 use Rattle.space_group.specs.Resuming.{padded-set}

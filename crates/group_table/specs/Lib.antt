@@ -12,4 +12,3 @@ pub mod SymbolSteps
 -- What the tables say of motions.
 pub mod TableMotions
 pub mod TableGroups
-pub mod TableAnswers

@@ -20,9 +20,9 @@ use Rattle.operation.specs.declared.Operation.{Operation}
 use Rattle.centering.specs.declared.Centering.{Centering}
 use Rattle.space_group.specs.Generated.{motions, listing}
 use Rattle.space_group.specs.OperationGrowth.{operation-rotation, identity-operation}
-use Rattle.space_group.specs.Acceptance.{Accepted, lists, member-at, member-index}
-use Rattle.space_group.specs.Members.{member-small}
-use Rattle.space_group.specs.Steps.{step-right}
+use Rattle.space_group_theorems.specs.Acceptance.{Accepted, lists, member-at, member-index}
+use Rattle.space_group_theorems.specs.Members.{member-small}
+use Rattle.space_group_theorems.specs.Steps.{step-right}
 use Rattle.group_record.specs.Groups.{Listing}
 use Rattle.group_table.specs.TableLaws.{motionAt, rotation-index}
 

@@ -15,9 +15,9 @@ use Rattle.centering.specs.declared.Centering.{Centering}
 use Rattle.hall_symbol.specs.Answers.{symbol-count}
 use Rattle.space_group.specs.Traversal.{padded}
 use Rattle.space_group.specs.Resuming.{padded-at}
-use Rattle.space_group.specs.Acceptance.{Accepted}
-use Rattle.space_group.specs.Members.{identity-first, at-most-48}
-use Rattle.space_group.specs.Steps.{steps-length, step-right}
+use Rattle.space_group_theorems.specs.Acceptance.{Accepted}
+use Rattle.space_group_theorems.specs.Members.{identity-first, at-most-48}
+use Rattle.space_group_theorems.specs.Steps.{steps-length, step-right}
 use Rattle.symbol_group.specs.AcceptedTexts.{accepted-text}
 use Rattle.symbol_group.specs.Answers.{symbolAnswer, orderBy, orderOf}
 use Rattle.symbol_group.specs.Slots.{symbol-slots}

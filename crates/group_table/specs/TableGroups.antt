@@ -11,7 +11,7 @@ use Rattle.operation.specs.Meaning.{motionOf}
 use Rattle.operation.specs.Product.{identityOperation}
 use Rattle.operation.specs.declared.Operation.{Operation}
 use Rattle.centering.specs.declared.Centering.{Centering}
-use Rattle.space_group.specs.Acceptance.{member-index}
+use Rattle.space_group_theorems.specs.Acceptance.{member-index}
 use Rattle.group_record.specs.Groups.{Allowed, Listing}
 use Rattle.group_record.specs.ListedForm.{alike-reflexive}
 use Rattle.group_record.specs.GroupLaws.{identity-listed, allowed-group}

@@ -20,7 +20,7 @@ use Rattle.operation.specs.Product.{identityOperation}
 use Rattle.operation.specs.declared.Operation.{Operation}
 use Rattle.centering.specs.declared.Centering.{Centering}
 use Rattle.space_group.specs.Generated.{sameVectorClass}
-use Rattle.space_group.specs.Acceptance.{member-at}
+use Rattle.space_group_theorems.specs.Acceptance.{member-at}
 use Rattle.group_record.specs.Groups.{Alike, InSet, Allowed, Listing, sameCode}
 use Rattle.group_record.specs.ListedForm.{matrix-injective, code-equivalence, alike-reflexive, alike-symmetric, alike-transitive}
 use Rattle.group_table.specs.Tables.{sameModulo, indexOf, rowOf, rowsOf, tableOf}

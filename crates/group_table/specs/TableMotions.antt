@@ -10,7 +10,7 @@ use Rattle.operation.specs.Product.{identityOperation}
 use Rattle.operation.specs.declared.Operation.{Operation}
 use Rattle.centering.specs.Letters.{pointsOf}
 use Rattle.centering.specs.declared.Centering.{Centering}
-use Rattle.space_group.specs.Acceptance.{member-at}
+use Rattle.space_group_theorems.specs.Acceptance.{member-at}
 use Rattle.group_record.specs.Groups.{Alike, InSet, Allowed, Listing}
 use Rattle.group_record.specs.ListedForm.{alike-reflexive, alike-transitive}
 use Rattle.group_record.specs.GroupLaws.{compose-alike}

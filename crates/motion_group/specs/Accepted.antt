@@ -14,7 +14,7 @@ use Rattle.subgroup_laws.specs.Table.{GroupTable}
 use Rattle.subgroup_laws.specs.TableLaws.{square-limit}
 use Rattle.group_table.specs.Overlay.{laid-front}
 use Rattle.group_table.specs.Tables.{symbolCells, recordOrderBy, recordOrder, recordCells, laid}
-use Rattle.group_table.specs.TableAnswers.{symbol-cells-group, record-cells-group}
+use Rattle.group_table_theorems.specs.TableAnswers.{symbol-cells-group, record-cells-group}
 use Rattle.group_table.specs.declared.RecordOrder.{RecordOrder}
 use Rattle.group_table.specs.declared.RecordOrder.the-variants as record-order
 use Rattle.finite_group.specs.Answers.{identityAnswer}

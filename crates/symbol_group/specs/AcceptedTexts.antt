@@ -13,7 +13,7 @@ use Rattle.hall_symbol.specs.Reader.{Reading, symbol, refusal, readSymbol}
 use Rattle.hall_symbol.specs.Spelling.{Spells}
 use Rattle.hall_symbol.specs.Agreement.{symbol-exactly}
 use Rattle.space_group.specs.Generated.{Outcome, group, refused, outcomeOf}
-use Rattle.space_group.specs.Acceptance.{Accepted, accepted-list}
+use Rattle.space_group_theorems.specs.Acceptance.{Accepted, accepted-list}
 use Rattle.symbol_group.specs.Answers.{outcomeAnswer, readingAnswer, symbolAnswer}
 use Rattle.symbol_group.specs.Exactly.{symbol-small}
 use Rattle.symbol_group.specs.declared.Answer.the-variants.{Group}

@@ -14,8 +14,8 @@ use Rattle.hall_symbol.specs.Agreement.{symbol-exactly, refusal-exactly}
 use Rattle.hall_symbol.specs.Answers.{AllReduced, symbol-reduced}
 use Rattle.hall_symbol.specs.declared.refusal.Refusal as text
 use Rattle.space_group.specs.Generated.{AllKeep, FewRotations, SmallRotations, OneTranslation, Outcome, group, refused, outcomeOf}
-use Rattle.space_group.specs.Acceptance.{SmallGenerators, FirstOff, accepted-exactly}
-use Rattle.space_group.specs.Acceptance as acceptance
+use Rattle.space_group_theorems.specs.Acceptance.{SmallGenerators, FirstOff, accepted-exactly}
+use Rattle.space_group_theorems.specs.Acceptance as acceptance
 use Rattle.space_group.specs.declared.refusal.Refusal as generators
 use Rattle.space_group.specs.declared.refusal.Refusal.the-variants.{Lattice, Rotations, Translations}
 use Rattle.symbol_group.specs.Answers.{outcomeAnswer, readingAnswer, symbolAnswer}

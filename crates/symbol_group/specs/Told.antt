@@ -21,10 +21,10 @@ use Rattle.hall_symbol.specs.Told as text
 use Rattle.symbol_group.specs.TextNumbers as text-limit
 use Rattle.hall_symbol.specs.Refusals as text-numbers
 use Rattle.space_group.specs.Generated.{AllKeep, FewRotations, SmallRotations, OneTranslation, Outcome, group, refused, outcomeOf}
-use Rattle.space_group.specs.Acceptance.{FirstOff, Accepted}
+use Rattle.space_group_theorems.specs.Acceptance.{FirstOff, Accepted}
 use Rattle.space_group.specs.Refusals as generator-numbers
 use Rattle.space_group.specs.Told as generators
-use Rattle.space_group.specs.Witnesses.{ManyRotations, LargeRotation, TwoTranslations, rotations-refused, translations-refused}
+use Rattle.space_group_theorems.specs.Witnesses.{ManyRotations, LargeRotation, TwoTranslations, rotations-refused, translations-refused}
 use Rattle.space_group.specs.declared.refusal.Refusal.the-variants.{Lattice, Rotations, Translations}
 use Rattle.symbol_group.specs.Refusals.{numberOf, placeOf}
 use Rattle.symbol_group.specs.Answers.{outcomeAnswer, readingAnswer, symbolAnswer, orderBy, orderOf, operationBy, operationAt, translationBy, translationAt, operationsBy, operationsAnswer, orderAnswer, operationAnswer, translationAnswer}

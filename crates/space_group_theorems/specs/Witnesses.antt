@@ -21,11 +21,11 @@ use Rattle.operation.specs.Product.{operationOf}
 use Rattle.operation.specs.declared.Operation.{Operation}
 use Rattle.centering.specs.Letters.{pointsOf}
 use Rattle.centering.specs.declared.Centering.{Centering}
 use Rattle.space_group.specs.Generated.{motions, Generated, GeneratedRotation, AllKeep, FewRotations, SmallRotations, firstOff, listing, isSmall, sameVectorClass, Outcome, group, refused, onList, onListing, outcomeOf}
 use Rattle.space_group.specs.OperationGrowth.{rotation-congruence}
-use Rattle.space_group.specs.Acceptance.{SmallGenerators, distinct-rotations, lists, class-test, listedAt, listed-at, step-generated, steady, accepted-exactly, accepted-list, rotations-exactly, translations-exactly}
-use Rattle.space_group.specs.Members.{one-class}
+use Rattle.space_group_theorems.specs.Acceptance.{SmallGenerators, distinct-rotations, lists, class-test, listedAt, listed-at, step-generated, steady, accepted-exactly, accepted-list, rotations-exactly, translations-exactly}
+use Rattle.space_group_theorems.specs.Members.{one-class}
 use Rattle.space_group.specs.declared.refusal.Refusal.the-variants.{Lattice, Rotations, Translations}
 
 -- ---- what is shown
 -- Over 48 rotations, all different, all generated.

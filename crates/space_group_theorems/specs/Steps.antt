@@ -18,9 +18,9 @@ use Rattle.operation.specs.declared.Operation.{Operation}
 use Rattle.centering.specs.Letters.{pointsOf}
 use Rattle.centering.specs.Lattices.{points}
 use Rattle.centering.specs.declared.Centering.{Centering}
 use Rattle.space_group.specs.Generated.{motions, Generated, isSmall, sameVectorClass}
-use Rattle.space_group.specs.Acceptance.{Accepted, lists, member-at, motions-keep}
-use Rattle.space_group.specs.Members.{one-class, member-small, operation-alike, generated-keeps, alike-keeps}
+use Rattle.space_group_theorems.specs.Acceptance.{Accepted, lists, member-at, motions-keep}
+use Rattle.space_group_theorems.specs.Members.{one-class, member-small, operation-alike, generated-keeps, alike-keeps}
 
 -- What stands in the image of a list.
 image-at : {A B : Type 0} (f : A → B) (l : List A) (i : ℕ) (d : A) (e : B) → i < length l → getD (map f l) i e ≡ f (getD l i d)

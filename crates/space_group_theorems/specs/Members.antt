@@ -21,10 +21,10 @@ use Rattle.operation.specs.declared.Operation.{Operation}
 use Rattle.centering.specs.Letters.{pointsOf}
 use Rattle.centering.specs.Lattices.{points, tripleOf}
 use Rattle.centering.specs.declared.Centering.{Centering}
 use Rattle.space_group.specs.Generated.{motions, Generated, GeneratedRotation, listing}
 use Rattle.space_group.specs.Traversal.{sameTurn}
 use Rattle.space_group.specs.OperationGrowth.{Small, operation-rotation, operation-translation, same-difference, same-image, identity-operation}
-use Rattle.space_group.specs.Acceptance.{Accepted, lists, motions-keep}
+use Rattle.space_group_theorems.specs.Acceptance.{Accepted, lists, motions-keep}
 
 -- The operation of a motion is alike to it modulo any lattice.
 pub operation-alike : (c : Centering) (f : SpaceMotion) → Small f → Alike (pointsOf c) f (motionOf (operationOf f))

@@ -10,7 +10,7 @@ use Rattle.laws.specs.Motion.{SpaceMotion, compose}
 use Rattle.operation.specs.Meaning.{motionOf}
 use Rattle.operation.specs.declared.Operation.{Operation}
 use Rattle.centering.specs.declared.Centering.{Centering}
-use Rattle.space_group.specs.Members.{identity-first}
+use Rattle.space_group_theorems.specs.Members.{identity-first}
 use Rattle.symbol_group.specs.AcceptedTexts.{accepted-text}
 use Rattle.symbol_group.specs.Answers.{symbolAnswer, orderBy, orderOf}
 use Rattle.symbol_group.specs.declared.Answer as symbol

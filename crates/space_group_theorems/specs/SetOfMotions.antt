@@ -13,9 +13,9 @@ use Rattle.operation.specs.declared.Operation.{Operation}
 use Rattle.centering.specs.Letters.{pointsOf}
 use Rattle.centering.specs.Lattices.{points}
 use Rattle.centering.specs.declared.Centering.{Centering}
 use Rattle.space_group.specs.Generated.{motions, Generated}
-use Rattle.space_group.specs.Acceptance.{Accepted, motions-keep}
-use Rattle.space_group.specs.Members.{member-near, near-member, generated-keeps}
+use Rattle.space_group_theorems.specs.Acceptance.{Accepted, motions-keep}
+use Rattle.space_group_theorems.specs.Members.{member-near, near-member, generated-keeps}
 
 -- The translation by a vector.
 abbrev pub translationBy : Vector → SpaceMotion

@@ -13,10 +13,10 @@ use Rattle.operation.specs.Meaning.{matrixOf}
 use Rattle.operation.specs.Product.{operationOf}
 use Rattle.operation.specs.declared.Operation.{Operation}
 use Rattle.centering.specs.declared.Centering.{Centering}
 use Rattle.space_group.specs.Generated.{motions, listing}
 use Rattle.space_group.specs.OperationGrowth.{rotation-congruence, operation-rotation}
-use Rattle.space_group.specs.Acceptance.{Accepted, lists}
-use Rattle.space_group.specs.Members.{member-motion, member-small}
+use Rattle.space_group_theorems.specs.Acceptance.{Accepted, lists}
+use Rattle.space_group_theorems.specs.Members.{member-motion, member-small}
 
 -- Motions in the order of the least words that lead to their rotations, each rotation once.
 abbrev pub InWordOrder : List Operation → List SpaceMotion → Type 0

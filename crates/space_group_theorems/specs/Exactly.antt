@@ -6,10 +6,10 @@ use Prim.Native.Nat.{ℕ}
 use Rattle.operation.specs.Answer.{given, refused}
 use Rattle.operation.specs.declared.Operation.{Operation}
 use Rattle.centering.specs.declared.Centering.{Centering}
 use Rattle.space_group.specs.Generated.{AllKeep, FewRotations, SmallRotations, OneTranslation}
 use Rattle.space_group.specs.Told.{told, given-told, lattice-told, rotations-told, translations-told}
-use Rattle.space_group.specs.Acceptance.{SmallGenerators, FirstOff, accepted-exactly, lattice-exactly}
-use Rattle.space_group.specs.Witnesses.{ManyRotations, LargeRotation, TwoTranslations, rotations-refused, translations-refused}
+use Rattle.space_group_theorems.specs.Acceptance.{SmallGenerators, FirstOff, accepted-exactly, lattice-exactly}
+use Rattle.space_group_theorems.specs.Witnesses.{ManyRotations, LargeRotation, TwoTranslations, rotations-refused, translations-refused}
 
 module _ (c : Centering) (gens : List Operation) (small : SmallGenerators gens) where
   -- A list is given exactly if 01 accepts the generators.
