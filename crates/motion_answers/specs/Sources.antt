@@ -16,7 +16,7 @@ use Rattle.subgroup_laws.specs.Conjugates.{conjugatesOf, conjugatorsOf}
 use Rattle.subgroup_laws.specs.Lists.{subgroupsOf, representativesOf}
 use Rattle.subgroup_laws.specs.Permutations.{permutationOf}
 use Rattle.subgroup_laws.specs.Table.{product, GroupTable}
-use Rattle.group_table.specs.TableAnswers.{symbol-cells-group}
+use Rattle.group_table_theorems.specs.TableAnswers.{symbol-cells-group}
 use Rattle.group_table.specs.Tables.{symbolCells, recordOrder, recordCells}
 use Rattle.group_table.specs.declared.RecordOrder.the-variants as record-order
 use Rattle.finite_group.specs.Answers.{tableAnswer, identityAnswer, subgroupsAnswer, subgroupsBytes, classesAnswer, classesBytes, conjugateEntry, normalizerEntry, permutationEntry, permutationList, conjugatesEntry, conjugatesList, conjugatorsList}
