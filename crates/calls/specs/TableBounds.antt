@@ -14,7 +14,7 @@ use borrow.Author.Tests.{ltb-true}
 use Rattle.laws.specs.ListOrder.{earlier}
 use Rattle.laws.specs.Sets.{setOf-below}
 use Rattle.laws.specs.Sorted.{keep, sort-length}
-use Rattle.finite_group.specs.Answers.{onGroup, listAnswer, orderAnswer, identityAnswer, subgroupsAnswer, classesAnswer, conjugateAnswer, conjugateEntry, normalizerAnswer, normalizerEntry, permutationAnswer, permutationEntry, conjugatesAnswer, conjugatesEntry, numberOf, placeOf}
+use Rattle.finite_group.specs.Answers.{onGroup, listAnswer, orderAnswer, identityAnswer, subgroupsAnswer, classesAnswer, conjugateAnswer, conjugateEntry, normalizerAnswer, normalizerEntry, permutationAnswer, permutationEntry, conjugatesAnswer, conjugatesEntry, numberOf, placeOf, tableAnswer}
 use Rattle.subgroup_laws.specs.Bounded.{and-both}
 use Rattle.finite_group.specs.ConjugateLists.{tooShort}
 use Rattle.subgroup_laws.specs.Conjugates.{othersOf, isOther, conjugatesOf}
@@ -31,7 +31,6 @@ use Rattle.finite_group.specs.declared.Answer.{Answer}
 use Rattle.finite_group.specs.declared.Answer.the-variants.{Value, Refused}
 use Rattle.finite_group.specs.declared.Refusal.{Refusal}
 use Rattle.finite_group.specs.declared.Refusal.the-variants.{Order, Cells, Identity, Inverse, Associativity, Slots, Subgroup, Element, Normalizer}
-use Rattle.calls.specs.Answers.{tableAnswer}
 use Rattle.calls.specs.Packing.{packed, Told, near, Within, Low}
 
 -- An answer that can be packed.

@@ -1,7 +1,6 @@
 // How an answer on the group of a symbol or a record is handed on.
 ghost use mathlib.Core.Path.{_≡_};
-ghost use Rattle.motion_group.specs.Answers.{numberOf, placeOf};
-ghost use Rattle.calls.specs.Answers.{motionAnswer};
+ghost use Rattle.motion_group.specs.Answers.{numberOf, placeOf, motionAnswer};
 ghost use Rattle.calls.specs.MotionBounds.{Tellable};
 ghost use Rattle.calls.specs.Packing.{packed};
 use super::packing::refused;

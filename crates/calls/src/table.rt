@@ -1,7 +1,6 @@
 // What is asked of the bytes of a table, and how the answer is handed on.
 ghost use mathlib.Core.Path.{_≡_};
-ghost use Rattle.finite_group.specs.Answers.{numberOf, orderAnswer, identityAnswer, subgroupsAnswer, subgroupsBytes, classesAnswer, classesBytes, conjugateEntry, normalizerEntry, permutationEntry, permutationList, conjugatesEntry, conjugatesList, conjugatorsList};
-ghost use Rattle.calls.specs.Answers.{tableAnswer};
+ghost use Rattle.finite_group.specs.Answers.{numberOf, tableAnswer, orderAnswer, identityAnswer, subgroupsAnswer, subgroupsBytes, classesAnswer, classesBytes, conjugateEntry, normalizerEntry, permutationEntry, permutationList, conjugatesEntry, conjugatesList, conjugatorsList};
 ghost use Rattle.calls.specs.Packing.{packed};
 ghost use Rattle.calls.specs.TableBounds.{Packable};
 use super::packing::refused;
