@@ -4,8 +4,6 @@ pub mod TableCheck
 pub mod TableVerdict
 -- Adjoining an element to a subgroup.
 pub mod Growth
--- Putting a set into a list of slots.
-pub mod Insertion
 -- The search for subgroups and for representatives of their classes.
 pub mod Progress
 pub mod SearchLoop

@@ -11,10 +11,10 @@ use Rattle.laws.specs.ListOrder.{Precedes, precedes-irreflexive, precedes-trans
 use Rattle.subgroup_laws.specs.Lists.{Chosen}
 use Rattle.subgroup_laws.specs.Search.{Holding, TooMany, place-before, holding-full, holding-added, holding-present, insert-front, insert-member, insert-here}
 use Rattle.subgroup_laws.specs.Slots.{Place, insertAt}
-use Rattle.finite_group.specs.Insertion.{Inserted, present, full, added}
+use Rattle.element_sets.specs.Insertion.{Inserted, present, full, added}
 use Rattle.finite_group.specs.declared.search.Found.{Found}
 use Rattle.finite_group.specs.declared.search.Found.the-variants.{Count, Full as Overflow}
-use Rattle.finite_group.specs.declared.slots.Insertion.the-variants.{Present, Full, Added}
+use Rattle.element_sets.specs.declared.slots.Insertion.the-variants.{Present, Full, Added}
 
 module _ (n : ℕ) (_·_ : ℕ → ℕ → ℕ) (e : ℕ) (classes : Bool) where
   -- what a step of the search answers: sets were put in before h, and Done holds of the new list; or there are too many

@@ -24,11 +24,11 @@ use Rattle.subgroup_laws.specs.Search.{Holding, holding-slot, Complete, complet
 use Rattle.subgroup_laws.specs.Slots.{packed, packed-left-over, bytesOf, slotAt, written}
 use Rattle.subgroup_laws.specs.SubgroupLaws.{closed-set}
 use Rattle.subgroup_laws.specs.Subsets.{Subgroup, conjugateOf}
-use Rattle.finite_group.specs.Insertion.{Inserted, added}
+use Rattle.element_sets.specs.Insertion.{Inserted, added}
 use Rattle.finite_group.specs.Progress.{Progress, counted, overflow, inserted-present, inserted-full, inserted-added}
 use Rattle.finite_group.specs.declared.search.Found.{Found}
 use Rattle.finite_group.specs.declared.search.Found.the-variants.{Count, Full as Overflow}
-use Rattle.finite_group.specs.declared.slots.Insertion.the-variants.{Present, Full, Added}
+use Rattle.element_sets.specs.declared.slots.Insertion.the-variants.{Present, Full, Added}
 
 -- the sets that are counted have slots
 abbrev pub Room : Found → List ℕ → Type 0

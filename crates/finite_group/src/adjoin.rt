@@ -7,12 +7,12 @@ ghost use Rattle.subgroup_laws.specs.Adjoin.{Forced, Growing};
 ghost use Rattle.subgroup_laws.specs.Subsets.{Subgroup, imageOf};
 ghost use Rattle.subgroup_laws.specs.Table.{product, Cells, GroupTable};
 ghost use Rattle.finite_group.specs.Growth.{Taken, Swept, Adjoined};
-use super::sets::contains;
-use super::sets::lowest;
-use super::sets::with_element;
-use super::sets::within;
-use super::sets::without;
 use super::table::cell;
+use element_sets::sets::contains;
+use element_sets::sets::lowest;
+use element_sets::sets::with_element;
+use element_sets::sets::within;
+use element_sets::sets::without;
 
 // A set that grows, with the representatives that wait to be followed; not ok: an element below the bound would come in.
 pub(crate) struct Growth {

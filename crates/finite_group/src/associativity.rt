@@ -7,12 +7,12 @@ ghost use Rattle.subgroup_laws.specs.GroupLaws.{TwoSidedIdentity};
 ghost use Rattle.subgroup_laws.specs.Groups.{associates};
 ghost use Rattle.subgroup_laws.specs.Table.{product, Cells};
 use super::adjoin::image;
-use super::sets::lowest;
-use super::sets::outside;
-use super::sets::rest_of;
-use super::sets::with_element;
-use super::sets::without;
 use super::table::cell;
+use element_sets::sets::lowest;
+use element_sets::sets::outside;
+use element_sets::sets::rest_of;
+use element_sets::sets::with_element;
+use element_sets::sets::without;
 
 // A set with its products by j on the right, and then on the left.
 fn widen(t: &[u8], n: usize, e: usize, s: u64, j: usize) -> u64

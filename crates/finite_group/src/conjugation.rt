@@ -6,11 +6,11 @@ ghost use Rattle.subgroup_laws.specs.Representatives.{FirstOfAll, Represented};
 ghost use Rattle.subgroup_laws.specs.Subsets.{Subgroup, conjugateOf};
 ghost use Rattle.subgroup_laws.specs.Table.{product, GroupTable};
 use super::adjoin::image;
-use super::sets::earlier_of;
-use super::sets::lowest;
-use super::sets::outside;
-use super::sets::rest_of;
 use super::table::inverse;
+use element_sets::sets::earlier_of;
+use element_sets::sets::lowest;
+use element_sets::sets::outside;
+use element_sets::sets::rest_of;
 
 // The set of the g⁻¹ x g for the members x of s.
 pub(crate) fn conjugate_set(t: &[u8], n: usize, e: usize, s: u64, g: usize) -> u64

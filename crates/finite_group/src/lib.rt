@@ -15,8 +15,6 @@ mod conjugate_list;
 mod conjugation;
 mod permutation;
 mod search;
-mod sets;
-mod slots;
 mod subgroup;
 mod table;
 

@@ -11,11 +11,11 @@ ghost use Rattle.finite_group.specs.Answers.{permutationAnswer, permutat
 use super::Answer;
 use super::Refusal;
 use super::conjugation::conjugate_set;
-use super::sets::contains;
-use super::slots::clear;
 use super::subgroup::is_subgroup;
 use super::table::cell;
 use super::table::inverse;
+use element_sets::sets::contains;
+use element_sets::slots::clear;
 
 // A member's position: how many members are lower.
 fn position(s: u64, y: usize) -> u8

@@ -16,14 +16,14 @@ use super::Refusal;
 use super::adjoin::adjoin;
 use super::adjoin::image;
 use super::conjugation::representative;
-use super::sets::lowest;
-use super::sets::outside;
-use super::sets::rest_of;
-use super::slots::Insertion;
-use super::slots::clear;
-use super::slots::insert;
-use super::slots::set_slot;
-use super::slots::slot;
+use element_sets::sets::lowest;
+use element_sets::sets::outside;
+use element_sets::sets::rest_of;
+use element_sets::slots::Insertion;
+use element_sets::slots::clear;
+use element_sets::slots::insert;
+use element_sets::slots::set_slot;
+use element_sets::slots::slot;
 
 // How many sets were found, or that there are more than slots.
 pub(crate) enum Found {

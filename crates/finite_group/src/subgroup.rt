@@ -10,8 +10,8 @@ ghost use Rattle.finite_group.specs.Answers.{conjugateAnswer, normalizer
 use super::Answer;
 use super::Refusal;
 use super::conjugation::conjugate_set;
-use super::sets::contains;
 use super::table::cell;
+use element_sets::sets::contains;
 
 // Whether s holds x y, if it holds y.
 fn holds_product(t: &[u8], n: usize, s: u64, x: usize, y: usize) -> bool

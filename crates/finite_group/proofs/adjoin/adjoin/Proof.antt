@@ -5,6 +5,7 @@ use mathlib.Core.Bool.{true}
 use Prim.Native.Nat.{ℕ, _+_, _-_, _<_, _^_}
 use native.Mathlib.Omega.{arith}
 use lib.Count.{ones, ones-le}
+use borrow.Author.Needs.{needs}
 use borrow.Author.Tests.{not-true, not-false}
 use Rattle.laws.specs.Sets.{member, member-below, bounded, shifted-one}
 use Rattle.subgroup_laws.specs.Adjoin.{Growing, growing-start}
@@ -39,10 +40,10 @@ loop-holds c =
     rw (shifted-one 64 (a .e) h) (growing-start _ _ _ _ (a .g) (p .0 .group) (p .1) (a .g))
 
 lowest-requires : tie.Need-lowest-requires Inv-loop μ-loop
-lowest-requires c κs = c .loop-test .taken
+lowest-requires c κs = search needs
 
 without-requires : tie.Need-without-requires Inv-loop μ-loop
-without-requires c κs = (c .lowest .ensures .0, c .lowest .ensures .1)
+without-requires c κs = search needs
 
 swept-requires : tie.Need-swept-requires Inv-loop μ-loop
 swept-requires c κs =
@@ -52,8 +53,8 @@ swept-requires c κs =
       p .0,
       p .1,
       p .2,
-      l .inv .forced r (l .inv .waiting-inside r (c .before .lowest .ensures .0)),
-      growing-next _ _ _ _ _ _ (p .0 .group) (p .1) (l .set) (l .waiting) r (c .without .result) (c .without .ensures) (l .inv),
+      l .inv .forced r (l .inv .waiting-inside r (c .before .lowest .ensures (c .before .before .loop-test .taken) .0)),
+      growing-next _ _ _ _ _ _ (p .0 .group) (p .1) (l .set) (l .waiting) r (c .without .result) (c .without .ensures (c .before .lowest .ensures (c .before .before .loop-test .taken) .0)) (l .inv),
     )
 
 returns : tie.Need-returns Inv-loop μ-loop
@@ -63,7 +64,7 @@ loop-less : tie.Need-loop-less Inv-loop μ-loop
 loop-less c =
     let l = c .before .before .before .before .before .before .loop in
     let g = c .before .before .swept .ensures .grown (not-false _ (c .if1 .left)) in
-    let f = fewer _ (l .set) (l .waiting) (c .before .before .before .before .lowest .result) (c .before .before .before .without .result) (l .inv .small) (l .inv .waiting-inside) (c .before .before .before .before .lowest .ensures .0) (c .before .before .before .without .ensures) in
+    let f = fewer _ (l .set) (l .waiting) (c .before .before .before .before .lowest .result) (c .before .before .before .without .result) (l .inv .small) (l .inv .waiting-inside) (c .before .before .before .before .lowest .ensures (c .before .before .before .before .before .loop-test .taken) .0) (c .before .before .before .without .ensures (c .before .before .before .before .lowest .ensures (c .before .before .before .before .before .loop-test .taken) .0)) in
     omega (arith, g .1, f, ones-le _ _ (g .0 .small), ones-le _ _ (l .inv .small))
 
 loop-again : tie.Need-loop-again Inv-loop μ-loop

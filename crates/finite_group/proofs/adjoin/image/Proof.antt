@@ -1,9 +1,10 @@
 -- The invariant: the members still to come, and the values of the others.
 use mathlib.Core.Path.{_≡_, ap, _∙_}
 use mathlib.Core.List.{List}
-use Prim.Native.Nat.{ℕ, _^_}
+use Prim.Native.Nat.{ℕ, _^_, _<_}
 use native.Mathlib.Omega.{arith}
 use lib.Bits.{bitOr}
+use borrow.Author.Needs.{needs}
 use Rattle.laws.specs.Sets.{member-below}
 use Rattle.subgroup_laws.specs.ImageLoop.{Imaging, imaging-start, imaging-step, imaging-end}
 use Rattle.subgroup_laws.specs.Removal.{without-less}
@@ -25,25 +26,25 @@ loop-holds : tie.Need-loop-holds Inv-loop μ-loop
 loop-holds c = imaging-start _ _ _
 
 lowest-requires : tie.Need-lowest-requires Inv-loop μ-loop
-lowest-requires c κs = c .loop-test .taken
+lowest-requires c κs = search needs
 
 cell-requires : tie.Need-cell-requires Inv-loop μ-loop
 cell-requires c κs =
     let l = c .before .before .loop in
     let p = c .before .before .before .before .pre in
-    (p .0, p .2, member-below _ _ _ (p .1) (l .inv .inside _ (c .lowest .ensures .0)))
+    (p .0, p .2, member-below _ _ _ (p .1) (l .inv .inside _ (c .lowest .ensures (c .before .loop-test .taken) .0)))
 
 cell-requires-2 : tie.Need-cell-requires-2 Inv-loop μ-loop
 cell-requires-2 c κs = let p = c .before .before .before .before .before .pre in (p .0, c .cell .ensures .1, p .3)
 
 with-element-requires : tie.Need-with-element-requires Inv-loop μ-loop
-with-element-requires c κs = let h = c .before .before .before .before .before .before .pre .0 .limit in let k = c .cell2 .ensures .1 in omega arith
+with-element-requires c κs = search needs
 
 without-requires : tie.Need-without-requires Inv-loop μ-loop
-without-requires c κs = (c .before .before .before .lowest .ensures .0, c .before .before .before .lowest .ensures .1)
+without-requires c κs = search needs
 
 loop-less : tie.Need-loop-less Inv-loop μ-loop
-loop-less c = without-less _ _ _ (c .without .ensures)
+loop-less c = without-less _ _ _ (c .without .ensures (c .before .before .before .before .lowest .ensures (c .before .before .before .before .before .loop-test .taken) .0))
 
 loop-again : tie.Need-loop-again Inv-loop μ-loop
 loop-again c =
@@ -51,9 +52,10 @@ loop-again c =
     let a = c .before .before .before .before .before .before .before .before .args in
     let y : c .before .before .cell2 .result ≡ value (a .t .now) (a .n) (a .a) (a .b) (c .before .before .before .before .lowest .result) =
     c .before .before .cell2 .ensures .0 ∙ ap (λ (z : ℕ). product (a .n) (a .t .now) z (a .b)) (c .before .before .before .cell .ensures .0) in
+    let small : c .before .before .cell2 .result < 64 = let h = c .before .before .before .before .before .before .before .before .pre .0 .limit in let k = c .before .before .cell2 .ensures .1 in omega arith in
     let found : c .before .with-element .result ≡ bitOr (l .found) (2 ^ value (a .t .now) (a .n) (a .a) (a .b) (c .before .before .before .before .lowest .result)) =
-    c .before .with-element .ensures ∙ ap (λ (z : ℕ). bitOr (l .found) (2 ^ z)) y in
-    rw found (imaging-step _ _ _ (l .left) (l .found) (c .before .before .before .before .lowest .result) (c .without .result) (l .inv) (c .before .before .before .before .lowest .ensures .0) (c .without .ensures) (rw (← y) (c .before .before .cell2 .ensures .1)))
+    c .before .with-element .ensures small ∙ ap (λ (z : ℕ). bitOr (l .found) (2 ^ z)) y in
+    rw found (imaging-step _ _ _ (l .left) (l .found) (c .before .before .before .before .lowest .result) (c .without .result) (l .inv) (c .before .before .before .before .lowest .ensures (c .before .before .before .before .before .loop-test .taken) .0) (c .without .ensures (c .before .before .before .before .lowest .ensures (c .before .before .before .before .before .loop-test .taken) .0)) (rw (← y) (c .before .before .cell2 .ensures .1)))
 
 returns : tie.Need-returns Inv-loop μ-loop
 returns c =

@@ -1,6 +1,7 @@
 -- The invariant: the members of h still to come, and the state of the growth.
 use mathlib.Core.Path.{_≡_}
 use native.Mathlib.Omega.{arith}
+use borrow.Author.Needs.{needs}
 use borrow.Author.Tests.{not-true, not-false}
 use Rattle.laws.specs.Sets.{member-below}
 use Rattle.subgroup_laws.specs.Adjoin.{product-forced, new-forced, old-forced}
@@ -43,12 +44,12 @@ loop-holds c =
     (taken-grown (a .n) times (a .e) (a .h) (a .g) (a .g) (p .0 .group) (p .1) (λ x. x ≡ a .r) (a .k) (a .waiting) (times (a .r) (a .g)) (p .4) F (rw (c .before .before .before .cell .ensures .0) at (c .before .before .taken .ensures)) q)
 
 lowest-requires : tie.Need-lowest-requires Inv-loop μ-loop
-lowest-requires c κs = c .loop-test .taken
+lowest-requires c κs = search needs
 
 cell-requires-2 : tie.Need-cell-requires-2 Inv-loop μ-loop
 cell-requires-2 c κs =
     let p = c .before .before .before .before .before .before .before .before .pre in
-    (p .0 .cells, p .3 .below, member-below _ _ _ (p .1 .small) (c .before .before .loop .inv .inside _ (c .lowest .ensures .0)))
+    (p .0 .cells, p .3 .below, member-below _ _ _ (p .1 .small) (c .before .before .loop .inv .inside _ (c .lowest .ensures (c .before .loop-test .taken) .0)))
 
 taken-requires-2 : tie.Need-taken-requires-2 Inv-loop μ-loop
 taken-requires-2 c κs = let p = c .before .before .before .before .before .before .before .before .before .pre in (p .0 .cells, p .1 .small, p .0 .group .identity-below, c .cell2 .ensures .1, omega arith)
@@ -61,16 +62,16 @@ returns-2 c =
     let x = c .before .before .before .before .lowest .result in
     let times = product (a .n) (a .t .now) in
     let F = product-forced (a .n) times (a .e) (a .h) (a .g) (p .0 .group) (p .1) (a .g) (a .r) x (p .3)
-    (old-forced (a .n) times (a .e) (a .h) (a .g) (p .0 .group) (p .1) (a .g) x (l .inv .inside x (c .before .before .before .before .lowest .ensures .0))) in
+    (old-forced (a .n) times (a .e) (a .h) (a .g) (p .0 .group) (p .1) (a .g) x (l .inv .inside x (c .before .before .before .before .lowest .ensures (c .before .before .before .before .before .loop-test .taken) .0))) in
     let q = not-true _ (c .if2 .taken) in
     swept-barred _ _ _ _ _ _ _ _ q
     (taken-barred (a .n) times (a .e) (a .h) (a .g) (a .g) (p .0 .group) (p .1) (λ x. x ≡ a .r) (l .set) (l .rest) (times (a .r) x) (l .inv .state) F (rw (c .before .before .before .cell2 .ensures .0) at (c .before .before .taken2 .ensures)) q)
 
 without-requires : tie.Need-without-requires Inv-loop μ-loop
-without-requires c κs = (c .before .before .before .before .lowest .ensures .0, c .before .before .before .before .lowest .ensures .1)
+without-requires c κs = search needs
 
 loop-less : tie.Need-loop-less Inv-loop μ-loop
-loop-less c = without-less _ _ _ (c .without .ensures)
+loop-less c = without-less _ _ _ (c .without .ensures (c .before .before .before .before .before .lowest .ensures (c .before .before .before .before .before .before .loop-test .taken) .0))
 
 loop-again : tie.Need-loop-again Inv-loop μ-loop
 loop-again c =
@@ -80,9 +81,9 @@ loop-again c =
     let x = c .before .before .before .before .before .lowest .result in
     let times = product (a .n) (a .t .now) in
     let F = product-forced (a .n) times (a .e) (a .h) (a .g) (p .0 .group) (p .1) (a .g) (a .r) x (p .3)
-    (old-forced (a .n) times (a .e) (a .h) (a .g) (p .0 .group) (p .1) (a .g) x (l .inv .inside x (c .before .before .before .before .before .lowest .ensures .0))) in
+    (old-forced (a .n) times (a .e) (a .h) (a .g) (p .0 .group) (p .1) (a .g) x (l .inv .inside x (c .before .before .before .before .before .lowest .ensures (c .before .before .before .before .before .before .loop-test .taken) .0))) in
     let q = not-false _ (c .before .if2 .left) in
-    sweeping-step (a .n) times (a .e) (a .h) (a .g) (a .g) (a .k) (a .waiting) (a .r) (l .set) (l .rest) (l .left) x (c .without .result) (l .inv) (c .without .ensures)
+    sweeping-step (a .n) times (a .e) (a .h) (a .g) (a .g) (a .k) (a .waiting) (a .r) (l .set) (l .rest) (l .left) x (c .without .result) (l .inv) (c .without .ensures (c .before .before .before .before .before .lowest .ensures (c .before .before .before .before .before .before .loop-test .taken) .0))
     (taken-grown (a .n) times (a .e) (a .h) (a .g) (a .g) (p .0 .group) (p .1) (λ x. x ≡ a .r) (l .set) (l .rest) (times (a .r) x) (l .inv .state) F (rw (c .before .before .before .before .cell2 .ensures .0) at (c .before .before .before .taken2 .ensures)) q)
 
 returns-3 : tie.Need-returns-3 Inv-loop μ-loop

@@ -1,7 +1,8 @@
 -- Three returns, one for each case of `Taken`. The members of the coset below the bound are its remainder by 2 ^ bound.
 use mathlib.Core.Path.{_≡_, refl, sym, _∙_}
 use mathlib.Core.Bool.{true, false}
-use Prim.Native.Nat.{_%_, _^_, _<_}
+use mathlib.Core.List.{List}
+use Prim.Native.Nat.{ℕ, _%_, _^_, _<_, _≤_}
 use native.Mathlib.Omega.{arith}
 use lib.Bits.{bitAnd}
 use lib.Dec.{eqb}
@@ -11,16 +12,20 @@ use borrow.Author.Tests.{not-true, not-false}
 use Rattle.laws.specs.Sets.{shifted-one}
 use Rattle.subgroup_laws.specs.Cosets.{cosetOf}
 use Rattle.subgroup_laws.specs.LowMembers.{within-passes, within-fails}
-use Rattle.subgroup_laws.specs.Table.{product}
+use Rattle.subgroup_laws.specs.Table.{product, Cells}
 use Rattle.finite_group.specs.Growth.{seen, barred, joins}
 use Rattle.finite_group.proofs.adjoin.taken.Statement.{statement}
 use Rattle.finite_group.proofs.adjoin.taken.Tie as tie
+
+-- an element is below 64
+word : {n p bound : ℕ} {t : List ℕ} {A B : Type 0} → Cells n t × A × B × (p < n) × (bound ≤ n) → p < 64
+word c = let h = c .0 .limit in let k = c .3 in omega arith
 
 contains-requires : tie.Need-contains-requires
 contains-requires c κs = search needs
 
 returns : tie.Need-returns
-returns c = seen (sym (c .before .contains .ensures) ∙ c .if1 .taken)
+returns c = seen (sym (c .before .contains .ensures (word (c .before .before .before .pre))) ∙ c .if1 .taken)
 
 image-requires : tie.Need-image-requires
 image-requires c κs = search needs
@@ -56,7 +61,7 @@ returns-3 c =
     let coset = cosetOf (a .n) (product (a .n) (a .t .now)) (a .e) (a .h) (a .p) in
     let test : eqb (bitAnd (coset % 2 ^ a .bound) (a .h)) (coset % 2 ^ a .bound) ≡ true =
     rw (← c .before .before .before .image .ensures, ← shifted-one 64 (a .bound) h) (sym (c .before .before .within .ensures) ∙ not-false _ (c .before .if2 .left)) in
-    rw (c .before .before .before .image .ensures, c .with-element .ensures) (joins (sym (c .before .before .before .before .before .contains .ensures) ∙ c .before .before .before .before .if1 .left) (within-passes (a .bound) coset (a .h) test))
+    rw (c .before .before .before .image .ensures, c .with-element .ensures (word (c .before .before .before .before .before .before .before .pre))) (joins (sym (c .before .before .before .before .before .contains .ensures (word (c .before .before .before .before .before .before .before .pre))) ∙ c .before .before .before .before .if1 .left) (within-passes (a .bound) coset (a .h) test))
 
 pub taken-spec : {M : Type 1} → statement M
 taken-spec =

@@ -14,19 +14,19 @@ abbrev μ-loop : tie.MeasureT-loop
 μ-loop t n e s best₀ left₀ best left = left
 
 rest-of-requires : tie.Need-rest-of-requires Inv-loop μ-loop
-rest-of-requires c κs = let h = c .before .pre .0 .cells .limit in omega arith
+rest-of-requires c κs = search needs
 
 loop-holds : tie.Need-loop-holds Inv-loop μ-loop
-loop-holds c = rw (c .rest-of .ensures) (trying-start _ _ _ (c .before .before .pre .0 .group) _ (c .before .before .pre .1))
+loop-holds c = rw (c .rest-of .ensures (let h = c .before .before .pre .0 .cells .limit in omega arith)) (trying-start _ _ _ (c .before .before .pre .0 .group) _ (c .before .before .pre .1))
 
 lowest-requires : tie.Need-lowest-requires Inv-loop μ-loop
-lowest-requires c κs = c .loop-test .taken
+lowest-requires c κs = search needs
 
 conjugate-set-requires : tie.Need-conjugate-set-requires Inv-loop μ-loop
 conjugate-set-requires c κs =
     let p = c .before .before .before .before .before .pre in
     let l = c .before .before .loop in
-    (p .0, p .1 .small, trying-below _ _ _ (p .0 .group) _ (p .1) (l .left) (l .best) (l .inv) (c .lowest .result) (c .lowest .ensures .0))
+    (p .0, p .1 .small, trying-below _ _ _ (p .0 .group) _ (p .1) (l .left) (l .best) (l .inv) (c .lowest .result) (c .lowest .ensures (c .before .loop-test .taken) .0))
 
 earlier-of-requires : tie.Need-earlier-of-requires Inv-loop μ-loop
 earlier-of-requires c κs = search needs
@@ -35,7 +35,7 @@ image-requires : tie.Need-image-requires Inv-loop μ-loop
 image-requires c κs =
     let p = c .before .before .before .before .before .before .before .pre in
     let l = c .before .before .before .before .loop in
-    (p .0 .cells, p .1 .small, p .0 .group .identity-below, trying-below _ _ _ (p .0 .group) _ (p .1) (l .left) (l .best) (l .inv) (c .before .before .lowest .result) (c .before .before .lowest .ensures .0))
+    (p .0 .cells, p .1 .small, p .0 .group .identity-below, trying-below _ _ _ (p .0 .group) _ (p .1) (l .left) (l .best) (l .inv) (c .before .before .lowest .result) (c .before .before .lowest .ensures (c .before .before .before .loop-test .taken) .0))
 
 outside-requires : tie.Need-outside-requires Inv-loop μ-loop
 outside-requires c κs = search needs
@@ -44,14 +44,14 @@ loop-less : tie.Need-loop-less Inv-loop μ-loop
 loop-less c =
     let p = c .before .before .before .before .before .before .before .before .before .pre in
     let l = c .before .before .before .before .before .before .loop in
-    rw (c .outside .ensures, c .before .image .ensures) (trying-less _ _ _ (p .0 .group) _ (p .1) (l .left) (l .best) (l .inv) (c .before .before .before .before .lowest .result) (c .before .before .before .before .lowest .ensures .0))
+    rw (c .outside .ensures, c .before .image .ensures) (trying-less _ _ _ (p .0 .group) _ (p .1) (l .left) (l .best) (l .inv) (c .before .before .before .before .lowest .result) (c .before .before .before .before .lowest .ensures (c .before .before .before .before .before .loop-test .taken) .0))
 
 loop-again : tie.Need-loop-again Inv-loop μ-loop
 loop-again c =
     let p = c .before .before .before .before .before .before .before .before .before .pre in
     let l = c .before .before .before .before .before .before .loop in
     rw (c .outside .ensures, c .before .image .ensures, c .before .before .earlier-of .ensures, c .before .before .before .conjugate-set .ensures)
-    (trying-next _ _ _ (p .0 .group) _ (p .1) (l .left) (l .best) (l .inv) (c .before .before .before .before .lowest .result) (c .before .before .before .before .lowest .ensures .0) (p .0 .cells .limit))
+    (trying-next _ _ _ (p .0 .group) _ (p .1) (l .left) (l .best) (l .inv) (c .before .before .before .before .lowest .result) (c .before .before .before .before .lowest .ensures (c .before .before .before .before .before .loop-test .taken) .0) (p .0 .cells .limit))
 
 returns : tie.Need-returns Inv-loop μ-loop
 returns c =

@@ -58,7 +58,7 @@ returns-4 c =
     let none : replicate (length (a .list .now)) 0 ++ drop (length (a .list .now)) (a .list .now) ≡ replicate (length (a .list .now)) 0 =
     ap (λ (l : List ℕ). replicate (length (a .list .now)) 0 ++ l) (drop-length (a .list .now)) ∙ append-nil _ in (
       simp (t, lt-ltb _ _ (c .before .before .before .before .before .before .before .if2 .left), ← c .before .before .before .before .before .before .conjugate-set .ensures, eq-eqb _ _ (c .before .before .before .before .before .if3 .left), lt-ltb _ _ (c .before .before .before .before .if4 .taken)),
-      simp (t, lt-ltb _ _ (c .before .before .before .before .before .before .before .if2 .left), ← c .before .before .before .before .before .before .conjugate-set .ensures, eq-eqb _ _ (c .before .before .before .before .before .if3 .left), lt-ltb _ _ (c .before .before .before .before .if4 .taken)) (c .before .before .clear .ensures ∙ none),
+      simp (t, lt-ltb _ _ (c .before .before .before .before .before .before .before .if2 .left), ← c .before .before .before .before .before .before .conjugate-set .ensures, eq-eqb _ _ (c .before .before .before .before .before .if3 .left), lt-ltb _ _ (c .before .before .before .before .if4 .taken)) (c .before .before .clear .ensures (omega arith) ∙ none),
     )
 
 permute-requires : tie.Need-permute-requires

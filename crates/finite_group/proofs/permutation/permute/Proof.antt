@@ -1,10 +1,11 @@
 -- The invariant: the positions of the members below x stand in front, and i counts them.
 use mathlib.Core.Path.{_≡_, refl, sym, ap, ap₂, _∙_}
 use mathlib.Core.List.{List, _++_}
-use Prim.Native.Nat.{ℕ, _≤_, _-_, _+_}
+use Prim.Native.Nat.{ℕ, _≤_, _-_, _+_, _<_}
 use native.Mathlib.Omega.{arith}
 use lib.Count.{onesIn}
 use lib.ListN.{length, set, drop, length-set}
+use borrow.Author.Needs.{needs}
 use borrow.Author.Tests.{not-true, not-false}
 use Rattle.laws.specs.Sets.{members, ones-below}
 use Rattle.subgroup_laws.specs.Conjugation.{inverse-below}
@@ -28,7 +29,7 @@ unfolding onesIn members
 loop-holds c = (omega arith, refl, refl, refl)
 
 contains-requires : tie.Need-contains-requires Inv-loop μ-loop
-contains-requires c κs = let h = c .before .before .before .before .before .pre .0 .cells .limit in omega arith
+contains-requires c κs = search needs
 
 add-x : tie.Need-add-x Inv-loop μ-loop
 add-x c = omega arith
@@ -40,7 +41,8 @@ loop-again : tie.Need-loop-again Inv-loop μ-loop
 loop-again c =
     let l = c .before .before .before .loop in
     let a = c .before .before .before .before .before .before .before .args in
-    let out = sym (c .before .contains .ensures) ∙ not-true _ (c .if1 .taken) in (
+    let small : l .x < 64 = let h = c .before .before .before .before .before .before .before .pre .0 .cells .limit in omega (arith, c .before .before .loop-test .taken) in
+    let out = sym (c .before .contains .ensures small) ∙ not-true _ (c .if1 .taken) in (
       omega arith,
       l .inv .1 ∙ sym (count-out (a .n) (product (a .n) (a .t .now)) (a .e) (a .s) (a .g) (l .x) out),
       l .inv .2,
@@ -63,7 +65,8 @@ slice-write-list c =
     let l = c .before .before .before .before .before .before .loop in
     let a = c .before .before .before .before .before .before .before .before .before .before .args in
     let p = c .before .before .before .before .before .before .before .before .before .before .pre in
-    let m = sym (c .before .before .before .before .contains .ensures) ∙ not-false _ (c .before .before .before .if1 .left) in
+    let small : l .x < 64 = let h = p .0 .cells .limit in omega (arith, c .before .before .before .before .before .loop-test .taken) in
+    let m = sym (c .before .before .before .before .contains .ensures small) ∙ not-false _ (c .before .before .before .if1 .left) in
     let room = count-room (a .n) (product (a .n) (a .t .now)) (a .e) (a .s) (a .g) (l .x) (c .before .before .before .before .before .loop-test .taken) (p .1) m in
     let h = p .3 in
     let i = l .inv .1 in
@@ -75,7 +78,8 @@ add-i c =
     let l = c .before .before .before .before .before .before .loop in
     let a = c .before .before .before .before .before .before .before .before .before .before .args in
     let p = c .before .before .before .before .before .before .before .before .before .before .pre in
-    let m = sym (c .before .before .before .before .contains .ensures) ∙ not-false _ (c .before .before .before .if1 .left) in
+    let small : l .x < 64 = let h = p .0 .cells .limit in omega (arith, c .before .before .before .before .before .loop-test .taken) in
+    let m = sym (c .before .before .before .before .contains .ensures small) ∙ not-false _ (c .before .before .before .if1 .left) in
     let room = count-room (a .n) (product (a .n) (a .t .now)) (a .e) (a .s) (a .g) (l .x) (c .before .before .before .before .before .loop-test .taken) (p .1) m in
     let h = p .3 in
     let i = l .inv .1 in
@@ -94,7 +98,8 @@ loop-again-2 c =
     let a = c .before .before .before .before .before .before .before .before .before .before .args in
     let p = c .before .before .before .before .before .before .before .before .before .before .pre in
     let times = product (a .n) (a .t .now) in
-    let m = sym (c .before .before .before .before .contains .ensures) ∙ not-false _ (c .before .before .before .if1 .left) in
+    let small : l .x < 64 = let h = p .0 .cells .limit in omega (arith, c .before .before .before .before .before .loop-test .taken) in
+    let m = sym (c .before .before .before .before .contains .ensures small) ∙ not-false _ (c .before .before .before .if1 .left) in
     let room = count-room (a .n) times (a .e) (a .s) (a .g) (l .x) (c .before .before .before .before .before .loop-test .taken) (p .1) m in
     let value : c .position .result ≡ positionOf (a .n) times (a .e) (a .s) (a .g) (l .x) =
     c .position .ensures ∙ ap (λ (y : ℕ). onesIn y (a .s)) (c .before .cell2 .ensures .0 ∙ ap (λ (y : ℕ). times y (a .g)) (c .before .before .cell .ensures .0 ∙ ap (λ (y : ℕ). times y (l .x)) (c .before .before .before .before .before .before .before .inverse .ensures))) in

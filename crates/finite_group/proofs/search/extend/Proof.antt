@@ -22,13 +22,13 @@ abbrev μ-loop : tie.MeasureT-loop
 μ-loop sets₀ t n e classes count h c₀ left₀ sets c left = left
 
 rest-of-requires : tie.Need-rest-of-requires Inv-loop μ-loop
-rest-of-requires c κs = let h = c .before .before .pre .0 .cells .limit in omega arith
+rest-of-requires c κs = search needs
 
 loop-holds : tie.Need-loop-holds Inv-loop μ-loop
 loop-holds c =
     let a = c .before .before .before .args in
     let p = c .before .before .before .pre in
-    rw (c .rest-of .ensures)
+    rw (c .rest-of .ensures (let h = p .0 .cells .limit in omega arith))
     (refl, rest-below (a .n) (a .h), rest-apart (a .n) (a .h), extended-start (a .n) (product (a .n) (a .t .now)) (a .e) (a .classes) (p .0 .group) (a .h) (p .1) (a .count) (a .sets .now) (p .2))
 
 lowest-requires : tie.Need-lowest-requires Inv-loop μ-loop
@@ -37,7 +37,7 @@ lowest-requires c κs = search needs
 image-requires : tie.Need-image-requires Inv-loop μ-loop
 image-requires c κs =
     let p = c .before .before .before .before .before .before .pre in
-    (p .0 .cells, p .1 .small, p .0 .group .identity-below, member-below _ _ _ (c .before .before .loop .inv .1) (c .lowest .ensures .0))
+    (p .0 .cells, p .1 .small, p .0 .group .identity-below, member-below _ _ _ (c .before .before .loop .inv .1) (c .lowest .ensures (c .before .loop-test .taken) .0))
 
 outside-requires : tie.Need-outside-requires Inv-loop μ-loop
 outside-requires c κs = search needs
@@ -46,7 +46,7 @@ extend-by-requires : tie.Need-extend-by-requires Inv-loop μ-loop
 extend-by-requires c κs =
     let p = c .before .before .before .before .before .before .before .before .before .pre in
     let l = c .before .before .before .before .before .loop in
-    let i = c .before .before .before .lowest .ensures .0 in
+    let i = c .before .before .before .lowest .ensures (c .before .before .before .before .loop-test .taken) .0 in
     (p .0, p .1, member-below _ _ _ (l .inv .1) i, l .inv .2 _ i, l .inv .3 .room)
 
 enum-known-k : tie.Need-enum-known-k Inv-loop μ-loop
@@ -64,9 +64,10 @@ returns c =
     let p = c .before .before .before .before .before .before .before .before .before .before .before .before .before .before .pre in
     let l = c .before .before .before .before .before .before .before .before .before .before .loop in
     let g = c .before .before .before .before .before .before .before .before .lowest in
-    let below = member-below (a .n) (l .left) (g .result) (l .inv .1) (g .ensures .0) in
+    let low = g .ensures (c .before .before .before .before .before .before .before .before .before .loop-test .taken) in
+    let below = member-below (a .n) (l .left) (g .result) (l .inv .1) (low .0) in
     let X = extended-next (a .n) (product (a .n) (a .t .now)) (a .e) (a .classes) (p .0 .group) (a .h) (p .1) (l .left) (g .result) (a .count) (l .c) (a .sets .now) (l .sets) (c .before .before .before .before .extend-by .last .0) Full
-    (l .inv .0) below (l .inv .2 _ (g .ensures .0)) (g .ensures .2) (l .inv .3) (rw (c .enum-told .given .1) at (c .before .before .before .before .extend-by .ensures)) in
+    (l .inv .0) below (l .inv .2 _ (low .0)) (low .2) (l .inv .3) (rw (c .enum-told .given .1) at (c .before .before .before .before .extend-by .ensures)) in
     extended-overflow (a .n) (product (a .n) (a .t .now)) (a .e) (a .classes) (p .0 .group) (a .h) (p .1) _ (a .count) (a .sets .now) _ X
 
 loop-less : tie.Need-loop-less Inv-loop μ-loop
@@ -74,7 +75,7 @@ loop-less c =
     let a = c .before .before .before .before .before .before .before .before .before .before .before .before .before .before .before .args in
     let p = c .before .before .before .before .before .before .before .before .before .before .before .before .before .before .before .pre in
     let l = c .before .before .before .before .before .before .before .before .before .before .before .loop in
-    let i = c .before .before .before .before .before .before .before .before .before .lowest .ensures .0 in
+    let i = c .before .before .before .before .before .before .before .before .before .lowest .ensures (c .before .before .before .before .before .before .before .before .before .before .loop-test .taken) .0 in
     rw (c .before .before .before .before .before .before .before .outside .ensures, c .before .before .before .before .before .before .before .before .image .ensures)
     (outside-less (l .left) _ _ i (coset-new (a .n) (product (a .n) (a .t .now)) (a .e) (p .0 .group) (a .h) (p .1) _ (member-below _ _ _ (l .inv .1) i)))
 
@@ -84,12 +85,13 @@ loop-again c =
     let p = c .before .before .before .before .before .before .before .before .before .before .before .before .before .before .before .pre in
     let l = c .before .before .before .before .before .before .before .before .before .before .before .loop in
     let g = c .before .before .before .before .before .before .before .before .before .lowest in
-    let below = member-below (a .n) (l .left) (g .result) (l .inv .1) (g .ensures .0) in
+    let low = g .ensures (c .before .before .before .before .before .before .before .before .before .before .loop-test .taken) in
+    let below = member-below (a .n) (l .left) (g .result) (l .inv .1) (low .0) in
     let X = extended-next (a .n) (product (a .n) (a .t .now)) (a .e) (a .classes) (p .0 .group) (a .h) (p .1) (l .left) (g .result) (a .count) (l .c) (a .sets .now) (l .sets) (c .before .before .before .before .before .extend-by .last .0) (Count (c .before .k .given .0 .0))
-    (l .inv .0) below (l .inv .2 _ (g .ensures .0)) (g .ensures .2) (l .inv .3) (rw (c .before .k .given .1) at (c .before .before .before .before .before .extend-by .ensures)) in
+    (l .inv .0) below (l .inv .2 _ (low .0)) (low .2) (l .inv .3) (rw (c .before .k .given .1) at (c .before .before .before .before .before .extend-by .ensures)) in
     let same : length (c .before .before .before .before .before .extend-by .last .0) ≡ length (l .sets) = omega arith in
     let coset = cosetOf (a .n) (product (a .n) (a .t .now)) (a .e) (a .h) (g .result) in
-    let less = outside-less (l .left) coset (g .result) (g .ensures .0) (coset-new (a .n) (product (a .n) (a .t .now)) (a .e) (p .0 .group) (a .h) (p .1) (g .result) below) in
+    let less = outside-less (l .left) coset (g .result) (low .0) (coset-new (a .n) (product (a .n) (a .t .now)) (a .e) (p .0 .group) (a .h) (p .1) (g .result) below) in
     rw (c .before .before .before .before .before .before .before .outside .ensures, c .before .before .before .before .before .before .before .before .image .ensures)
     (same ∙ l .inv .0, omega (arith, less, l .inv .1), λ j i. l .inv .2 j (outside-old (l .left) coset j i), X)
 

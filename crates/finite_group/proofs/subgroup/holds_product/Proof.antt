@@ -9,7 +9,7 @@ contains-requires : tie.Need-contains-requires
 contains-requires c κs = search needs
 
 returns : tie.Need-returns
-returns c = simp (sym (c .before .contains .ensures) ∙ not-true _ (c .if1 .taken))
+returns c = simp (sym (c .before .contains .ensures (search needs)) ∙ not-true _ (c .if1 .taken))
 
 cell-requires : tie.Need-cell-requires
 cell-requires c κs = search needs
@@ -18,7 +18,7 @@ contains-requires-2 : tie.Need-contains-requires-2
 contains-requires-2 c κs = search needs
 
 returns-2 : tie.Need-returns-2
-returns-2 c = c .contains2 .ensures ∙ simp (sym (c .before .before .before .contains .ensures) ∙ not-false _ (c .before .before .if1 .left), ← c .before .cell .ensures .0)
+returns-2 c = c .contains2 .ensures (search needs) ∙ simp (sym (c .before .before .before .contains .ensures (search needs)) ∙ not-false _ (c .before .before .if1 .left), ← c .before .cell .ensures .0)
 
 pub holds-product-spec : {M : Type 1} → statement M
 holds-product-spec =

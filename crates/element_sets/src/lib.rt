@@ -1,0 +1,3 @@
+// Sets of elements, and lists of them in lent bytes.
+pub mod sets;
+pub mod slots;
