@@ -9,8 +9,8 @@ use Rattle.group_record.specs.Reading.{readOf}
 use Rattle.group_record.specs.declared.Reading.{Reading}
 use Rattle.group_record.specs.declared.Reading.the-variants as reading
 use Rattle.group_table.specs.Tables.{recordOrderBy, recordOrder, symbolCells, recordCells}
-use Rattle.finite_group.specs.declared.Answer as table
-use Rattle.finite_group.specs.declared.Answer.the-variants as table-variant
+use Rattle.table_check.specs.declared.Answer as table
+use Rattle.table_check.specs.declared.Answer.the-variants as table-variant
 use Rattle.motion_group.specs.Answers.{motionAnswer, ofTable, onSource, ofSymbol, onSymbol, ofRecord, onRecord}
 use Rattle.motion_group.specs.declared.Answer.{Answer}
 use Rattle.calls.specs.Packing.{packed, Within, Low}

@@ -16,7 +16,7 @@ use Rattle.laws.specs.Sets.{setOf-below}
 use Rattle.laws.specs.Sorted.{keep, sort-length}
 use Rattle.finite_group.specs.Answers.{onGroup, listAnswer, orderAnswer, identityAnswer, subgroupsAnswer, classesAnswer, conjugateAnswer, conjugateEntry, normalizerAnswer, normalizerEntry, permutationAnswer, permutationEntry, conjugatesAnswer, conjugatesEntry, numberOf, placeOf, tableAnswer}
 use Rattle.subgroup_laws.specs.Bounded.{and-both}
-use Rattle.finite_group.specs.ConjugateLists.{tooShort}
+use Rattle.conjugation.specs.ConjugateLists.{tooShort}
 use Rattle.subgroup_laws.specs.Conjugates.{othersOf, isOther, conjugatesOf}
 use Rattle.subgroup_laws.specs.Conjugation.{conjugate-below}
 use Rattle.subgroup_laws.specs.Groups.{Group}
@@ -25,12 +25,12 @@ use Rattle.subgroup_laws.specs.Lists.{chosen, subgroupsOf, representativesOf}
 use Rattle.subgroup_laws.specs.SubgroupLaws.{below}
 use Rattle.subgroup_laws.specs.Subsets.{isSubgroup, conjugateOf, normalizerOf}
 use Rattle.subgroup_laws.specs.Table.{product}
-use Rattle.finite_group.specs.TableCheck.{checkOf}
-use Rattle.finite_group.specs.TableVerdict.{Verdict, order-refused, cells-refused, identity-refused, inverse-refused, associativity-refused, accepted, checked-verdict}
-use Rattle.finite_group.specs.declared.Answer.{Answer}
-use Rattle.finite_group.specs.declared.Answer.the-variants.{Value, Refused}
-use Rattle.finite_group.specs.declared.Refusal.{Refusal}
-use Rattle.finite_group.specs.declared.Refusal.the-variants.{Order, Cells, Identity, Inverse, Associativity, Slots, Subgroup, Element, Normalizer}
+use Rattle.table_check.specs.TableCheck.{checkOf}
+use Rattle.table_check.specs.TableVerdict.{Verdict, order-refused, cells-refused, identity-refused, inverse-refused, associativity-refused, accepted, checked-verdict}
+use Rattle.table_check.specs.declared.Answer.{Answer}
+use Rattle.table_check.specs.declared.Answer.the-variants.{Value, Refused}
+use Rattle.table_check.specs.declared.Refusal.{Refusal}
+use Rattle.table_check.specs.declared.Refusal.the-variants.{Order, Cells, Identity, Inverse, Associativity, Slots, Subgroup, Element, Normalizer}
 use Rattle.calls.specs.Packing.{packed, Told, near, Within, Low}
 
 -- An answer that can be packed.

@@ -1,47 +1,12 @@
-// Finite groups given by the bytes of their tables: the check of a table, subgroups, conjugates, classes, normalizers and their permutations.
+// Finite groups given by the bytes of their tables: the check of a table, subgroups, conjugates, classes, normalizers and their permutations. Each entry is
+// that of the room which finds its answer.
 // Ported from subgroup/finite_group.rs of moyo 0.21.0 (`FiniteGroup`), and changed: a flat table of bytes, sets as 64-bit numbers in lent slots, refusals.
 ghost use mathlib.Core.Path.{_≡_};
 ghost use Rattle.finite_group.specs.Answers.{orderAnswer, identityAnswer, subgroupsAnswer, subgroupsBytes, classesAnswer, classesBytes, conjugateEntry, normalizerEntry, permutationEntry, permutationList, conjugatesEntry, conjugatesList, conjugatorsList};
-use conjugate_list::conjugates_in;
-use permutation::permutation_in;
-use search::list_sets;
-use subgroup::conjugate_in;
-use subgroup::normalizer_in;
-use table::from_table;
-
-mod adjoin;
-mod associativity;
-mod conjugate_list;
-mod conjugation;
-mod permutation;
-mod search;
-mod subgroup;
-mod table;
-
-// Why there is no answer: document 01's refusals 21 to 29.
-pub enum Refusal {
-    Order,
-    Cells,
-    Identity,
-    Inverse,
-    Associativity,
-    Slots,
-    Subgroup,
-    Element,
-    Normalizer,
-}
-
-// A number, an element, a set or a count; or a refusal.
-pub enum Answer {
-    Value(u64),
-    Refused(Refusal),
-}
-
-// Whether bytes are the table of a group, and which element is its identity.
-pub(crate) enum Checked {
-    Group(usize),
-    NoGroup(Refusal),
-}
+pub use table_check::Answer;
+use table_check::Checked;
+pub use table_check::Refusal;
+use table_check::from_table;
 
 pub fn order(n: usize, table: &[u8]) -> Answer
     ensures { λ r. ⌜ r ≡ orderAnswer n (now (table .entry)) ⌝ }
@@ -66,10 +31,7 @@ pub fn enumerate_subgroups(n: usize, table: &[u8], sets: &mut [u8]) -> Answer
     ensures { λ r. ⌜ (r ≡ subgroupsAnswer n (now (table .entry)) (now (sets .entry)))
         × (now (sets .exit) ≡ subgroupsBytes n (now (table .entry)) (now (sets .entry))) ⌝ }
 {
-    match from_table(n, table) {
-        Checked::Group(e) => list_sets(sets, table, n, e, false),
-        Checked::NoGroup(r) => Answer::Refused(r),
-    }
+    subgroup_search::enumerate_subgroups(n, table, sets)
 }
 
 // The first subgroup of each class into lent slots of eight bytes, in list order; the answer is the count of classes.
@@ -77,30 +39,21 @@ pub fn conjugacy_classes(n: usize, table: &[u8], sets: &mut [u8]) -> Answer
     ensures { λ r. ⌜ (r ≡ classesAnswer n (now (table .entry)) (now (sets .entry)))
         × (now (sets .exit) ≡ classesBytes n (now (table .entry)) (now (sets .entry))) ⌝ }
 {
-    match from_table(n, table) {
-        Checked::Group(e) => list_sets(sets, table, n, e, true),
-        Checked::NoGroup(r) => Answer::Refused(r),
-    }
+    subgroup_search::conjugacy_classes(n, table, sets)
 }
 
 // The conjugate g⁻¹ H g of a subgroup.
 pub fn conjugate(n: usize, table: &[u8], set: u64, element: usize) -> Answer
     ensures { λ r. ⌜ r ≡ conjugateEntry n (now (table .entry)) set element ⌝ }
 {
-    match from_table(n, table) {
-        Checked::Group(e) => conjugate_in(table, n, e, set, element),
-        Checked::NoGroup(r) => Answer::Refused(r),
-    }
+    conjugation::conjugate(n, table, set, element)
 }
 
 // The elements that conjugate a subgroup to itself, as a set.
 pub fn normalizer(n: usize, table: &[u8], set: u64) -> Answer
     ensures { λ r. ⌜ r ≡ normalizerEntry n (now (table .entry)) set ⌝ }
 {
-    match from_table(n, table) {
-        Checked::Group(e) => normalizer_in(table, n, e, set),
-        Checked::NoGroup(r) => Answer::Refused(r),
-    }
+    conjugation::normalizer(n, table, set)
 }
 
 // The permutation of a subgroup's members by an element of its normalizer, into a lent list of bytes; the answer is the count of members.
@@ -114,10 +67,7 @@ pub fn normalizer_action(
     ensures { λ r. ⌜ (r ≡ permutationEntry n (now (table .entry)) set element (now (positions .entry)))
         × (now (positions .exit) ≡ permutationList n (now (table .entry)) set element (now (positions .entry))) ⌝ }
 {
-    match from_table(n, table) {
-        Checked::Group(e) => permutation_in(positions, table, n, e, set, element),
-        Checked::NoGroup(r) => Answer::Refused(r),
-    }
+    conjugation::normalizer_action(n, table, set, element, positions)
 }
 
 // A subgroup's conjugates into lent slots of eight bytes and their conjugators into a lent list of bytes: the subgroup first with the
@@ -133,8 +83,5 @@ pub fn conjugates(
         × (now (sets .exit) ≡ conjugatesList n (now (table .entry)) set (now (sets .entry)) (now (conjugators .entry)))
         × (now (conjugators .exit) ≡ conjugatorsList n (now (table .entry)) set (now (sets .entry)) (now (conjugators .entry))) ⌝ }
 {
-    match from_table(n, table) {
-        Checked::Group(e) => conjugates_in(sets, conjugators, table, n, e, set),
-        Checked::NoGroup(r) => Answer::Refused(r),
-    }
+    conjugation::conjugates(n, table, set, sets, conjugators)
 }

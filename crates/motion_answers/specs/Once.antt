@@ -9,8 +9,8 @@ use Rattle.symbol_group.specs.declared.refusal.Refusal as symbol-refusal
 use Rattle.group_record.specs.Reading.{refusalNumber}
 use Rattle.group_record.specs.declared.Refusal as record-refusal
 use Rattle.finite_group.specs.Answers as group
-use Rattle.finite_group.specs.declared.Refusal as group-refusal
-use Rattle.finite_group.specs.declared.Refusal.the-variants as group-refusals
+use Rattle.table_check.specs.declared.Refusal as group-refusal
+use Rattle.table_check.specs.declared.Refusal.the-variants as group-refusals
 use Rattle.table_answers.specs.Once.{number-once}
 use Rattle.motion_group.specs.Answers.{numberOf, placeOf, motionAnswer}
 use Rattle.motion_group.specs.declared.Answer.{Answer}

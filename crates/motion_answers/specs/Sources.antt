@@ -20,9 +20,9 @@ use Rattle.group_table_theorems.specs.TableAnswers.{symbol-cells-group}
 use Rattle.group_table.specs.Tables.{symbolCells, recordOrder, recordCells}
 use Rattle.group_table.specs.declared.RecordOrder.the-variants as record-order
 use Rattle.finite_group.specs.Answers.{tableAnswer, identityAnswer, subgroupsAnswer, subgroupsBytes, classesAnswer, classesBytes, conjugateEntry, normalizerEntry, permutationEntry, permutationList, conjugatesEntry, conjugatesList, conjugatorsList}
-use Rattle.finite_group.specs.TableVerdict.{checked-table}
-use Rattle.finite_group.specs.declared.Answer as table
-use Rattle.finite_group.specs.declared.Answer.the-variants.{Value, Refused}
+use Rattle.table_check.specs.TableVerdict.{checked-table}
+use Rattle.table_check.specs.declared.Answer as table
+use Rattle.table_check.specs.declared.Answer.the-variants.{Value, Refused}
 use Rattle.motion_group.specs.Accepted.{record-table-accepted}
 use Rattle.motion_group.specs.Answers.{motionAnswer, ofTable, onSymbol, bytesOnSymbol, onRecord, bytesOnRecord}
 use Rattle.motion_group.specs.declared.Answer.{Answer}

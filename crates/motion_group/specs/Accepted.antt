@@ -18,9 +18,9 @@ use Rattle.group_table_theorems.specs.TableAnswers.{symbol-cells-group, record-
 use Rattle.group_table.specs.declared.RecordOrder.{RecordOrder}
 use Rattle.group_table.specs.declared.RecordOrder.the-variants as record-order
 use Rattle.finite_group.specs.Answers.{identityAnswer}
-use Rattle.finite_group.specs.TableCheck.{Accepts}
-use Rattle.finite_group.specs.TableVerdict.{accepted-exactly}
-use Rattle.finite_group.specs.declared.Answer.the-variants as group-answers
+use Rattle.table_check.specs.TableCheck.{Accepts}
+use Rattle.table_check.specs.TableVerdict.{accepted-exactly}
+use Rattle.table_check.specs.declared.Answer.the-variants as group-answers
 use Rattle.motion_group.specs.Answers.{ofSymbol, ofRecord}
 use Rattle.motion_group.specs.Cells.{Holds}
 use Rattle.motion_group.specs.declared.table.Source.{Source}

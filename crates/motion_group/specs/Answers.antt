@@ -11,8 +11,8 @@ use Rattle.group_table.specs.Tables.{symbolCells, recordOrder, recordCells}
 use Rattle.group_table.specs.declared.RecordOrder.{RecordOrder}
 use Rattle.group_table.specs.declared.RecordOrder.the-variants as record-order
 use Rattle.finite_group.specs.Answers as group
-use Rattle.finite_group.specs.declared.Answer as group-answer
-use Rattle.finite_group.specs.declared.Answer.the-variants as group-answers
+use Rattle.table_check.specs.declared.Answer as group-answer
+use Rattle.table_check.specs.declared.Answer.the-variants as group-answers
 use Rattle.motion_group.specs.declared.Answer.{Answer}
 use Rattle.motion_group.specs.declared.Answer.the-variants.{Value, Refused}
 use Rattle.motion_group.specs.declared.Refusal.{Refusal}

@@ -5,7 +5,7 @@ use Prim.Native.Nat.{ℕ, _*_, _-_, _≤_}
 use native.Mathlib.Omega.{arith}
 use lib.ListN.{length, take}
 use Rattle.subgroup_laws.specs.TableLaws.{square-limit}
-use Rattle.finite_group.specs.declared.Answer as group-answer
+use Rattle.table_check.specs.declared.Answer as group-answer
 use Rattle.motion_group.specs.Answers.{ofTable, onSource, bytesOn}
 use Rattle.motion_group.specs.declared.Answer.{Answer}
 use Rattle.motion_group.specs.declared.table.Source.{Source}

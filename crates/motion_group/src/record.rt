@@ -6,7 +6,7 @@ ghost use Prim.Native.Nat.{ℕ, _≤_};
 ghost use lib.ListN.{length};
 ghost use Rattle.group_table.specs.Tables.{recordOrder, recordCells};
 ghost use Rattle.finite_group.specs.Answers.{identityAnswer, subgroupsAnswer, subgroupsBytes, classesAnswer, classesBytes, conjugateEntry, normalizerEntry, permutationEntry, permutationList, conjugatesEntry, conjugatesList, conjugatorsList};
-ghost use Rattle.finite_group.specs.declared.Answer.the-variants.{Value};
+ghost use Rattle.table_check.specs.declared.Answer.the-variants.{Value};
 ghost use Rattle.motion_group.specs.Answers.{ofRecord, onRecord, bytesOnRecord};
 ghost use Rattle.motion_group.specs.Cells.{Holds};
 use super::Answer;

@@ -7,7 +7,7 @@ ghost use lib.ListN.{length};
 ghost use Rattle.symbol_group.specs.Answers.{orderOf};
 ghost use Rattle.group_table.specs.Tables.{symbolCells};
 ghost use Rattle.finite_group.specs.Answers.{identityAnswer, subgroupsAnswer, subgroupsBytes, classesAnswer, classesBytes, conjugateEntry, normalizerEntry, permutationEntry, permutationList, conjugatesEntry, conjugatesList, conjugatorsList};
-ghost use Rattle.finite_group.specs.declared.Answer.the-variants.{Value};
+ghost use Rattle.table_check.specs.declared.Answer.the-variants.{Value};
 ghost use Rattle.motion_group.specs.Answers.{ofSymbol, onSymbol, bytesOnSymbol};
 ghost use Rattle.motion_group.specs.Cells.{Holds};
 use super::Answer;

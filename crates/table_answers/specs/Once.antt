@@ -5,10 +5,10 @@ use Prim.Native.Nat.{ℕ}
 use native.Mathlib.Omega.{arith}
 use lib.Dec.{eqb}
 use Rattle.finite_group.specs.Answers.{numberOf, tableAnswer}
-use Rattle.finite_group.specs.declared.Answer.{Answer}
-use Rattle.finite_group.specs.declared.Answer.the-variants.{Value, Refused}
-use Rattle.finite_group.specs.declared.Refusal.{Refusal}
-use Rattle.finite_group.specs.declared.Refusal.the-variants.{Order, Cells, Identity, Inverse, Associativity, Slots, Subgroup, Element, Normalizer}
+use Rattle.table_check.specs.declared.Answer.{Answer}
+use Rattle.table_check.specs.declared.Answer.the-variants.{Value, Refused}
+use Rattle.table_check.specs.declared.Refusal.{Refusal}
+use Rattle.table_check.specs.declared.Refusal.the-variants.{Order, Cells, Identity, Inverse, Associativity, Slots, Subgroup, Element, Normalizer}
 
 -- the refusal with a number
 abbrev refusalOf : ℕ → Refusal

@@ -8,11 +8,11 @@ use native.Mathlib.Omega.{arith}
 use Rattle.operation.specs.Answer as told
 use Rattle.subgroup_laws.specs.Table.{GroupTable}
 use Rattle.finite_group.specs.Answers.{numberOf, placeOf, tableAnswer, onGroup, onBytes}
-use Rattle.finite_group.specs.TableCheck.{checkOf}
-use Rattle.finite_group.specs.TableVerdict.{Verdict, order-refused, cells-refused, identity-refused, inverse-refused, associativity-refused, accepted, verdict-checked, checked-verdict}
-use Rattle.finite_group.specs.declared.Answer.{Answer}
-use Rattle.finite_group.specs.declared.Answer.the-variants.{Value, Refused}
-use Rattle.finite_group.specs.declared.Refusal.the-variants as refusal
+use Rattle.table_check.specs.TableCheck.{checkOf}
+use Rattle.table_check.specs.TableVerdict.{Verdict, order-refused, cells-refused, identity-refused, inverse-refused, associativity-refused, accepted, verdict-checked, checked-verdict}
+use Rattle.table_check.specs.declared.Answer.{Answer}
+use Rattle.table_check.specs.declared.Answer.the-variants.{Value, Refused}
+use Rattle.table_check.specs.declared.Refusal.the-variants as refusal
 use Rattle.table_answers.specs.LentLists.{Zeroed, Filled}
 use Rattle.table_answers.specs.Reasons.{Question, Reason, no-order, no-cells, no-identity, no-inverse, not-associative, no-room, no-subgroup, no-element, outside-normalizer, Says, refusing, answering, Exactly, exactly, Left, untouched, zeroed, filled}
 

@@ -1,0 +1,35 @@
+-- The check of the table, then the answer on its group.
+use mathlib.Core.Path.{sym, _∙_}
+use borrow.Author.Needs.{needs}
+use Rattle.table_check.specs.TableVerdict.{checked-table}
+use Rattle.conjugation.proofs.conjugate.Statement.{statement}
+use Rattle.conjugation.proofs.conjugate.Tie as tie
+
+from-table-requires : tie.Need-from-table-requires
+from-table-requires c κs = search needs
+
+enum-known-e : tie.Need-enum-known-e
+enum-known-e c = search needs
+
+conjugate-in-requires : tie.Need-conjugate-in-requires
+conjugate-in-requires c κs = checked-table _ _ _ (sym (c .before .before .before .from-table .ensures) ∙ c .before .e .given .1)
+
+enum-known-r : tie.Need-enum-known-r
+enum-known-r c = search needs
+
+returns : tie.Need-returns
+returns c = c .conjugate-in .ensures ∙ simp (sym (c .before .before .before .before .from-table .ensures) ∙ c .before .before .e .given .1)
+
+returns-2 : tie.Need-returns-2
+returns-2 c = simp (sym (c .before .before .before .from-table .ensures) ∙ c .before .r .given .1)
+
+pub conjugate-spec : {M : Type 1} → statement M
+conjugate-spec =
+    tie.close
+    (tie.spec
+    from-table-requires
+    enum-known-e
+    conjugate-in-requires
+    enum-known-r
+    returns
+    returns-2)
