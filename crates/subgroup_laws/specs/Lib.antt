@@ -40,3 +40,4 @@ pub mod RustProcedures
 pub mod SameSubgroups
 pub mod SameConjugates
 pub mod SameClasses
+pub mod AsTheRust
