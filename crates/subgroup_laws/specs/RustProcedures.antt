@@ -1,5 +1,6 @@
--- The Rust's own procedures on a finite group (moyo 0.21.0, finite_group.rs), for a group on the numbers below n, each by the name that it has there.
--- As there, a subgroup is the ascending list of its elements. That what they give is ours is shown in SameSubgroups, SameConjugates and SameClasses.
+-- The Rust's own procedures on a finite group (moyo 0.21.0, subgroup/finite_group.rs), for a group on the numbers below n; the headings bear its names.
+-- As there, a subgroup is the ascending list of its elements. Its sets and maps are lists that are looked through before they grow; its sorts are told
+-- by their order, in which different items stand in one list only. That what they give is ours: AsTheRust.
 use mathlib.Core.Path.{_≡_}
 use mathlib.Core.Logic.{_⊎_, _↔_, _≢_}
 use mathlib.Core.Bool.{Bool, true, false, cond, not, _&&_, _||_}
