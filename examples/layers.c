@@ -3,21 +3,22 @@
  * subgroups, which the symbol alone decides, so a drawing made today has the layers of one made last year. Conjugate subgroups look alike and get one
  * colour: the number of their class.
  *
- * Build: cc -std=c99 -Iinclude examples/layers.c target/staticlib/libcalls.a -o layers
- * Use:   ./layers '-P 4 2 3'
+ * Build: gcc -std=c99 -static -I include examples/layers.c target/staticlib/libcalls.a -o layers   (elsewhere than on x86-64: x86_64-linux-gnu-gcc)
+ * Use:   ./layers '-P 4 2 3'   (there: qemu-x86_64 ./layers '-P 4 2 3')
  */
 #include <stdio.h>
 #include <string.h>
 #include "symmetry.h"
 
-/* Room for the subgroups of any symbol: the fullest group, that of the cube, has 98. */
-enum { SLOTS = 128, NONE = SLOTS };
+/* Room for the subgroups of any symbol. */
+enum { SLOTS = SYMMETRY_MOST_SYMBOL_SUBGROUPS, NONE = SLOTS };
 
 static uint8_t subgroups[8 * SLOTS], classes[8 * SLOTS], alike[8 * SLOTS], conjugators[SLOTS];
 
 static int report(const char *asked, uint64_t answer)
 {
-    fprintf(stderr, "%s: refused %u %llu\n", asked, symmetry_number(answer), (unsigned long long)symmetry_place(answer));
+    fprintf(stderr, "%s: refused %u %llu: %s\n", asked, symmetry_number(answer), (unsigned long long)symmetry_place(answer),
+            symmetry_reason(symmetry_number(answer)));
     return 1;
 }
 

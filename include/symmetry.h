@@ -27,6 +27,12 @@
  * Lent memory. Where a function writes, its comment says what the lent bytes hold after it: in the first slots a list, and every other byte as it
  * was. Where the answer is a refusal nothing was written, except by refusal 26: it leaves 0 in every slot of every list lent to that call. Lists that
  * fit exactly are no refusal.
+ *
+ * Asking again. Refusal 26 does not say how many slots are missing. Lend more and ask again, or lend from the start what is always enough: the sizes
+ * below are for that. A list of conjugates or positions never has more than SYMMETRY_MOST_ORDER entries, and a list of classes never more than that
+ * of subgroups.
+ *
+ * Stack. The deepest call was measured at 9,040 bytes below its caller (docs/MEASURES.md has each function's figure): 10 KiB is enough.
  */
 #ifndef SYMMETRY_H
 #define SYMMETRY_H
@@ -37,6 +43,22 @@
 #ifdef __cplusplus
 extern "C" {
 #endif
+
+/*
+ * The version of this header: the first number changes when something that stands here changes, the second when something is added.
+ */
+enum symmetry_version { SYMMETRY_VERSION_MAJOR = 1, SYMMETRY_VERSION_MINOR = 0 };
+
+/* Sizes that are always enough, and that something needs. */
+enum symmetry_most {
+    SYMMETRY_MOST_TEXT = 80,              /* bytes of a symbol's text */
+    SYMMETRY_MOST_ORDER = 48,             /* elements of a group */
+    SYMMETRY_MOST_RECORD = 245,           /* bytes of a record: 5 * 48 + 5 */
+    SYMMETRY_MOST_TABLE = 2304,           /* bytes of a table: 48 * 48 */
+    SYMMETRY_MOST_SYMBOL_SUBGROUPS = 98,  /* subgroups of a symbol's group or a record's: those of the cube's */
+    SYMMETRY_MOST_SUBGROUPS = 374,        /* subgroups of any group up to order 48: those of five independent elements of order 2 */
+    SYMMETRY_SLOT = 8                     /* bytes of a slot in a list of sets */
+};
 
 /*
  * Why there is no answer. "At" says what the place is; places are in bytes from 0, and a token's place is that of its first byte.
@@ -88,6 +110,45 @@ static inline unsigned symmetry_number(uint64_t answer) { return (unsigned)(answ
 
 /* 1 if the answer is a refusal, else 0. */
 static inline int symmetry_refused(uint64_t answer) { return symmetry_number(answer) != 0; }
+
+/* A few words on a refusal's number, and "no refusal" for 0; never NULL. */
+static inline const char *symmetry_reason(unsigned number)
+{
+    switch (number) {
+    case 0: return "no refusal";
+    case SYMMETRY_TEXT_TOO_LONG: return "over 80 bytes";
+    case SYMMETRY_BYTE_FORBIDDEN: return "a byte that no symbol has";
+    case SYMMETRY_NO_TOKEN: return "no token";
+    case SYMMETRY_LATTICE_WRONG: return "the first token is no lattice letter";
+    case SYMMETRY_TOKEN_MISSPELT: return "a misspelt token";
+    case SYMMETRY_AXIS_UNSETTLED: return "no axis, or no rotation for it";
+    case SYMMETRY_DIGIT_WRONG: return "a wrong screw digit";
+    case SYMMETRY_TOKEN_PRIMED: return "an apostrophe";
+    case SYMMETRY_SHIFT_MALFORMED: return "a malformed shift of origin";
+    case SYMMETRY_NO_ROTATION: return "no rotation";
+    case SYMMETRY_TOO_MANY_TOKENS: return "over eight rotations are spelled";
+    case SYMMETRY_LATTICE_NOT_KEPT: return "a generator does not keep the lattice";
+    case SYMMETRY_TOO_MANY_ROTATIONS: return "too many rotations, or too large an entry";
+    case SYMMETRY_TWO_TRANSLATIONS: return "one rotation with two translations";
+    case SYMMETRY_NO_ROOM: return "no room for the record";
+    case SYMMETRY_ORDER: return "an order of 0 or over 48";
+    case SYMMETRY_CELLS: return "a table of another size, or a cell that is no element";
+    case SYMMETRY_NO_IDENTITY: return "no identity";
+    case SYMMETRY_NO_INVERSE: return "an element without an inverse";
+    case SYMMETRY_NOT_ASSOCIATIVE: return "a product that is not associative";
+    case SYMMETRY_TOO_FEW_SLOTS: return "too few slots";
+    case SYMMETRY_NOT_A_SUBGROUP: return "no subgroup";
+    case SYMMETRY_NOT_AN_ELEMENT: return "no element";
+    case SYMMETRY_NOT_NORMALIZING: return "an element outside the normalizer";
+    case SYMMETRY_RECORD_SHORT: return "a record of under 10 bytes";
+    case SYMMETRY_RECORD_EDITION: return "another edition of the record";
+    case SYMMETRY_RECORD_LETTER: return "a record with no lattice letter";
+    case SYMMETRY_RECORD_LENGTH: return "a wrong count or length in the record";
+    case SYMMETRY_RECORD_ITEM: return "a wrong operation in the record";
+    case SYMMETRY_RECORD_NO_GROUP: return "a record that holds no group";
+    default: return "no refusal of these functions";
+    }
+}
 
 /* The place of a refusal. */
 static inline uint64_t symmetry_place(uint64_t answer) { return answer & UINT64_C(0x00FFFFFFFFFFFFFF); }
@@ -146,6 +207,13 @@ uint64_t symmetry_record_letter(const uint8_t *record, size_t record_length);
 uint64_t symmetry_symbol_operation(const uint8_t *text, size_t text_length, uint64_t index);
 
 /* ---- group records ---- */
+
+/*
+ * The layout. n operations of five bytes each, by ascending rotation code: the code, high byte first, then x, y and z of the translation in twelfths,
+ * the smallest such triple that differs from it by a vector of the lattice, x compared first. Behind them five bytes: the letter, the edition 1, the
+ * count n, and the total length 5 * n + 5, high byte first. A record is found by its end. That of -P 1 is, in hex,
+ *   0C 7E 00 00 00   40 64 00 00 00   50 01 02 00 0F
+ */
 
 /*
  * Writes the record of the group from out + start on, and answers the order n. The 5 * n + 5 bytes from there hold the record, all others are as they

@@ -1,6 +1,7 @@
-/* What the header's own functions make of an answer, held to values worked out by hand. The file is C99 and C++ alike, so that compiling it
+/* The header's constants, and what its own functions make of an answer, held to the rules and to values worked out by hand. The file is C99 and C++ alike, so that compiling it
    with all warnings tries the header in both. Prints 'N passed, M failed' and exits with 1 where M is not 0. */
 #include <stdio.h>
+#include <string.h>
 
 #include "../include/symmetry.h"
 
@@ -16,6 +17,53 @@ static void check(const char *what, uint64_t found, uint64_t expected)
     }
 }
 
+static const struct { unsigned constant, number; } refusals[] = {
+    { SYMMETRY_TEXT_TOO_LONG, 1 }, { SYMMETRY_BYTE_FORBIDDEN, 2 }, { SYMMETRY_NO_TOKEN, 3 },
+    { SYMMETRY_LATTICE_WRONG, 4 }, { SYMMETRY_TOKEN_MISSPELT, 5 }, { SYMMETRY_AXIS_UNSETTLED, 6 },
+    { SYMMETRY_DIGIT_WRONG, 7 }, { SYMMETRY_TOKEN_PRIMED, 8 }, { SYMMETRY_SHIFT_MALFORMED, 9 },
+    { SYMMETRY_NO_ROTATION, 10 }, { SYMMETRY_TOO_MANY_TOKENS, 11 }, { SYMMETRY_LATTICE_NOT_KEPT, 12 },
+    { SYMMETRY_TOO_MANY_ROTATIONS, 13 }, { SYMMETRY_TWO_TRANSLATIONS, 14 }, { SYMMETRY_NO_ROOM, 20 },
+    { SYMMETRY_ORDER, 21 }, { SYMMETRY_CELLS, 22 }, { SYMMETRY_NO_IDENTITY, 23 },
+    { SYMMETRY_NO_INVERSE, 24 }, { SYMMETRY_NOT_ASSOCIATIVE, 25 }, { SYMMETRY_TOO_FEW_SLOTS, 26 },
+    { SYMMETRY_NOT_A_SUBGROUP, 27 }, { SYMMETRY_NOT_AN_ELEMENT, 28 }, { SYMMETRY_NOT_NORMALIZING, 29 },
+    { SYMMETRY_RECORD_SHORT, 30 }, { SYMMETRY_RECORD_EDITION, 31 }, { SYMMETRY_RECORD_LETTER, 32 },
+    { SYMMETRY_RECORD_LENGTH, 33 }, { SYMMETRY_RECORD_ITEM, 34 }, { SYMMETRY_RECORD_NO_GROUP, 35 },
+};
+enum { REFUSALS = sizeof refusals / sizeof *refusals, ABOVE = 256 };
+
+/* Each refusal has its number and words of its own; every other number has the same words. */
+static void check_refusals(void)
+{
+    const char *words[ABOVE], *others = symmetry_reason(ABOVE);
+    unsigned i, j, said = 0;
+    for (i = 0; i < ABOVE; i++)
+        words[i] = symmetry_reason(i);
+    check("words on no refusal", (uint64_t)strcmp(words[0], "no refusal"), 0);
+    for (i = 0; i < REFUSALS; i++) {
+        check("the number of a refusal", refusals[i].constant, refusals[i].number);
+        check("words on a refusal", strlen(words[refusals[i].number]) > 0, 1);
+        for (j = 0; j < ABOVE; j++)
+            said += j != refusals[i].number && strcmp(words[j], words[refusals[i].number]) == 0;
+    }
+    check("words that two numbers have", said, 0);
+    for (i = 1; i < ABOVE; i++)
+        said += strcmp(words[i], others) != 0;
+    check("numbers with words", said, REFUSALS);
+}
+
+static void check_sizes(void)
+{
+    check("the longest text", SYMMETRY_MOST_TEXT, 80);
+    check("the largest order", SYMMETRY_MOST_ORDER, 48);
+    check("the longest record", SYMMETRY_MOST_RECORD, 5 * 48 + 5);
+    check("the largest table", SYMMETRY_MOST_TABLE, 48 * 48);
+    check("the subgroups of a symbol's group", SYMMETRY_MOST_SYMBOL_SUBGROUPS, 98);
+    /* of the 32 vectors over two elements: 1 space of no dimension, 31 of one, 155 of two and of three, 31 of four, 1 of five */
+    check("the subgroups of a group", SYMMETRY_MOST_SUBGROUPS, 1 + 31 + 155 + 155 + 31 + 1);
+    check("the bytes of a slot", SYMMETRY_SLOT, 8);
+    check("the version", SYMMETRY_VERSION_MAJOR * 100 + SYMMETRY_VERSION_MINOR, 100);
+}
+
 int main(void)
 {
     /* refusal 7 at 2, refusal 1 at 80, and the largest place below refusal 35 */
@@ -26,6 +74,8 @@ int main(void)
     const uint8_t sets[16] = { 0, 0, 255, 255, 255, 255, 255, 255, 128, 7, 6, 5, 4, 3, 2, 1 };
     unsigned i;
 
+    check_refusals();
+    check_sizes();
     check("number of a refusal", symmetry_number(digit), 7);
     check("place of a refusal", symmetry_place(digit), 2);
     check("a refusal is refused", (uint64_t)symmetry_refused(digit), 1);

@@ -20,10 +20,10 @@ static uint64_t bits_of(double value) {
 }
 
 int main(void) {
-    /* quiet NaNs of both signs with payloads (a signalling one may be made quiet by any move, so it is not asked), -0.0, 1.0,
-       the smallest subnormal, both infinities, -1/12, and the neighbours of 1/12 */
+    /* quiet NaNs of both signs with payloads, signalling ones (on x86-64, where a double is moved and never converted, they come back as they
+       went), -0.0, 1.0, the smallest subnormal, both infinities, -1/12, and the neighbours of 1/12 */
     const uint64_t strangers[] = {
-        0x7ff8000000000000, 0x7ff8000000000001, 0x7ffdeadbeef12345, 0xfff8000000000000, 0xffffffffffffffff,
+        0x7ff0000000000001, 0x7ff0deadbeef1234, 0x7ff7ffffffffffff, 0xfff0000000000001, 0xfff4000000000000, 0x7ff8000000000000, 0x7ff8000000000001, 0x7ffdeadbeef12345, 0xfff8000000000000, 0xffffffffffffffff,
         0x8000000000000000, 0x3ff0000000000000, 0x0000000000000001, 0x7ff0000000000000, 0xfff0000000000000,
         0xbfb5555555555555, 0x3fb5555555555554, 0x3fb5555555555556,
     };
