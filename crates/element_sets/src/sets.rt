@@ -1,4 +1,5 @@
 // Sets of elements as 64-bit numbers, bit i set for member i. Shifts are by the remainder of 64, so that each function has an answer for any element.
+// Ported from subgroup/finite_group.rs of moyo 0.21.0, and changed: 64-bit numbers for ordered sets.
 ghost use mathlib.Core.Path.{_≡_};
 ghost use mathlib.Core.Bool.{true, false, cond};
 ghost use Prim.Native.Nat.{ℕ, _<_, _^_};

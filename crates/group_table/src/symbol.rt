@@ -1,5 +1,5 @@
 // The table of a symbol's group, made from the steps of its traversal: no product is formed and no operation is searched for.
-// Ported from `from_operations` of subgroup/finite_group.rs, and changed: from a text, modulo the lattice, and without a search.
+// Ported from `from_operations` of subgroup/finite_group.rs of moyo 0.21.0, and changed: from a text, modulo the lattice, and without a search.
 ghost use mathlib.Core.Path.{_≡_};
 ghost use Prim.Native.Nat.{_≤_, _*_};
 ghost use lib.ListN.{length, take};

@@ -1,4 +1,5 @@
 // Classes of bytes, and the words that they part a text into.
+// Ported from data/hall_symbol.rs of moyo 0.21.0, and changed: bytes for characters, and no whitespace but 9 to 13 and 32.
 ghost use mathlib.Core.Path.{_≡_};
 ghost use Prim.Native.Nat.{_+_};
 ghost use lib.ListN.{drop};

@@ -1,4 +1,5 @@
 // Lists of generators, and their move to a shifted origin.
+// Ported from data/hall_symbol.rs of moyo 0.21.0, and changed: twelfths for f64, the inversion modulo 12 too, and a list of nine places.
 ghost use mathlib.Core.Path.{_≡_};
 ghost use Prim.Native.Nat.{_+_, _*_, _<_, _≤_};
 ghost use Rattle.hall_symbol.specs.Generators.{inversionOperation, shiftedCoordinate, shifted};

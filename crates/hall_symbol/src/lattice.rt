@@ -1,4 +1,5 @@
 // The first token: an optional `-` and the letter of the lattice.
+// Ported from data/hall_symbol.rs of moyo 0.21.0, and changed: what follows the letter is refused.
 ghost use mathlib.Core.Path.{_≡_};
 ghost use Rattle.hall_symbol.specs.Lattice.{letterToken, latticeToken};
 use centering::Centering;

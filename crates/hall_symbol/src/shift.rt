@@ -1,4 +1,5 @@
 // The shift of the origin at a symbol's end.
+// Ported from data/hall_symbol.rs of moyo 0.21.0, and changed: whole twelfths for f64, and refusals for panics.
 ghost use mathlib.Core.Path.{_≡_};
 ghost use Prim.Native.Nat.{_<_, _≤_};
 ghost use lib.ListN.{length, drop};

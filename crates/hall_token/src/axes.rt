@@ -1,4 +1,5 @@
 // The axis of an N token, by its fold, mark and letter and by what stands to its left.
+// Ported from data/hall_symbol.rs of moyo 0.21.0 (`parse_operation`), and changed: enums for strings, and a refusal where no axis is settled.
 ghost use mathlib.Core.Path.{_≡_};
 ghost use Rattle.hall_token.specs.Axes.{axis, placeOf, secondAxis, thirdAxis, defaultAxis, plainDirection, secondDirection, markedDirection, withMark, turningAxis, identityAxis, axisOf};
 use super::Axis;

@@ -1,4 +1,5 @@
 // What single bytes of an N token say: folds, marks, axis letters, and the bytes of its run.
+// Ported from data/hall_symbol.rs of moyo 0.21.0, and changed: enums for strings.
 ghost use mathlib.Core.Path.{_≡_};
 ghost use Rattle.hall_token.specs.Bytes.{foldOf, markOf, letterOf, runByteOf, foldNumber};
 use super::AxisLetter;

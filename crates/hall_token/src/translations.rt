@@ -1,4 +1,5 @@
 // The run of an N token: whether it is spelt right, whether a prime stands in it, and the translation it adds up to.
+// Ported from data/hall_symbol.rs of moyo 0.21.0 (`parse_translation_vector`), and changed: twelfths for f64, and refusals for digits and primes.
 ghost use mathlib.Core.Path.{_≡_};
 ghost use Prim.Native.Nat.{_<_};
 ghost use Rattle.hall_token.specs.Runs.{every, mayStand, noPrime, noScrew};

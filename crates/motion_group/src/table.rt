@@ -1,4 +1,5 @@
 // What is answered on the cells of a table, whatever they were filled from. They are lent: 48² of them are too many to hand on by value.
+// New beside moyo 0.21.0, which keeps a group that it has built.
 ghost use mathlib.Core.Path.{_≡_};
 ghost use Prim.Native.Nat.{ℕ, _*_};
 ghost use lib.ListN.{take};

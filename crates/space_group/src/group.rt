@@ -1,4 +1,5 @@
 // The group of a list of generators, by value, or why there is none.
+// Ported from data/hall_symbol.rs of moyo 0.21.0, and changed: what makes no group is refused.
 ghost use mathlib.Core.Path.{_≡_};
 ghost use Prim.Native.Nat.{_≤_};
 ghost use lib.ListN.{take};

@@ -1,6 +1,6 @@
 // The list of operations that generators give: breadth first from the identity, the right factor running over the generators in order, the first
-// translation of each rotation kept, modulo 12. Ported from `traverse` of data/hall_symbol.rs, and changed: every later translation is compared with
-// the kept one, the index of each product is noted, and the list ends where a 49th rotation or an entry outside −1..1 comes up.
+// translation of each rotation kept, modulo 12. Ported from `traverse` of data/hall_symbol.rs of moyo 0.21.0, and changed: every later translation is compared
+// with the kept one, the index of each product is noted, and the list ends where a 49th rotation or an entry outside −1..1 comes up.
 ghost use mathlib.Core.Path.{_≡_};
 ghost use mathlib.Core.Bool.{_&&_};
 ghost use Prim.Native.Nat.{_≤_};
