@@ -64,6 +64,7 @@ CASES = [
     ([(SPECS, "n ≤ limit", "n < limit")], ["definitions moved (1): Within"]),
     ([(SPECS, "(limit : ℕ)", "(limit : ℤ)")], ["definitions moved (1): Within", "theorems whose statement moved (1): within-limit"]),
     ([(SPECS, "-- twice a weight", "-- two times a weight")], []),
+    ([(SPECS, "pub twice-nothing :", "twice-nothing :")], []),
     ([(SPECS, "twice n = n + n", "twice n =\n    n + n")], []),
     ([(SOURCE, "twice (self .grams)", "twice (self .grams) + 0")], ["functions whose contract moved (1): Weight::doubled"]),
     ([(SOURCE, "as u16) * 2", "as u16) * 3")], ["functions of which only the body moved (1): Weight::doubled"]),

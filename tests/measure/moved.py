@@ -15,6 +15,7 @@ Item = namedtuple("Item", "kind name said shown")  # said: text, statement or co
 DEFINED = {"abbrev", "unfoldable"}
 SIGNATURE = re.compile(r"^((?:(?:pub|abbrev|unfoldable|opaque)\s+)*)((?:(?!=(?:\s|$))[^\s:(){}]+\s+)+):(?:\s|$)")
 DECLARED = re.compile(r"^(?:pub\s+)?(record|data|ruleset)\s+(\S+)")
+OPENED = re.compile(r"^((?:abbrev\s+|unfoldable\s+|opaque\s+)*)pub\s+(?!use\s|mod\s)")  # who may name an item is no part of what it says
 PASSED_BY = re.compile(r"^(?:(?:pub\s+)?(?:use|mod)|infix[lr]?)\s")
 
 
@@ -64,6 +65,7 @@ def theorems_and_definitions(text):
                 items.append(Item(kind, name, f"{said} {shown}" if kind == "definition" else said, "" if kind == "definition" else shown))
 
     for chunk, header in chunks(text):
+        chunk = OPENED.sub(r"\1", chunk)
         declared, signature = DECLARED.match(chunk), SIGNATURE.match(chunk)
         if PASSED_BY.match(chunk):
             close()
