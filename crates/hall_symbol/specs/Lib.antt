@@ -1,6 +1,7 @@
 -- What a Hall symbol's text means, in the words of 01: bytes, tokens, the lattice token, the shift, generators, refusals, and the reader; and the
 -- spelling rules that the reader is held against.
 pub mod Bytes
+pub mod Classes
 pub mod Runs
 pub mod Tokens
 pub mod Cut

@@ -1,10 +1,7 @@
 -- The shift by 01, "From text to generators": `(`, three numbers separated by whitespace, `)`, and then only whitespace.
-use mathlib.Core.Path.{_≡_, refl}
-use mathlib.Core.Bool.{Bool, true, false, cond, _&&_}
+use mathlib.Core.Bool.{Bool, cond, _&&_}
 use mathlib.Core.List.{List}
 use Prim.Native.Nat.{ℕ, suc, _-_}
-use native.Mathlib.Omega.{arith}
-use borrow.Author.Tests.{leb-true}
 use lib.Dec.{eqb, leb, ltb}
 use lib.ListN.{length, getD, take, drop}
 use Rattle.operation.specs.declared.Translation.{Translation}
@@ -26,17 +23,6 @@ oneDigit b = cond (leb 48 b && leb b 57) (Is (b - 48)) None
 -- Two digits are 10 or 11.
 unfoldable pub twoDigits : ℕ → ℕ → Number
 twoDigits a b = cond (eqb a 49 && (leb 48 b && leb b 49)) (Is (b - 38)) None
-
--- No other second digit is left.
-pub other-ones : (a b : ℕ) → (b ≡ 48 → ⊥) → (b ≡ 49 → ⊥) → None ≡ twoDigits a b
-unfolding twoDigits
-other-ones a b h k = go (eqb a 49) (leb 48 b) refl (leb b 49) refl
-  where
-    go : (lead low : Bool) → leb 48 b ≡ low → (high : Bool) → leb b 49 ≡ high → None ≡ cond (lead && (low && high)) (Is (b - 38)) None
-    go false low e high f = refl
-    go true false e high f = refl
-    go true true e false f = refl
-    go true true e true f = absurd (k (omega (arith, h, leb-true 48 b e, leb-true b 49 f)))
 
 -- A number is of one digit or of two.
 unfoldable pub numberOf : List ℕ → Number

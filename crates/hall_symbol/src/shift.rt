@@ -42,8 +42,7 @@ fn two_digits(tens: u8, ones: u8) -> Number
         return Number::None;
     }
     match ones {
-        b'0' => Number::Is(10),
-        b'1' => Number::Is(11),
+        b'0'..=b'1' => Number::Is(ones - 38),
         _ => Number::None,
     }
 }
