@@ -6,7 +6,7 @@ use Prim.Native.Nat.{ℕ, _^_, _<_}
 use native.Mathlib.Omega.{arith}
 use lib.Count.{ones}
 use lib.Dec.{eqb}
-use Rattle.laws.specs.FiniteGroup.{cancel-left}
+use Rattle.laws.specs.FiniteGroup.{cancel-left, inverse-product, inverse-unique}
 use Rattle.laws.specs.Sets.{member, member-below, Subset, subset-antisymmetric}
 use Rattle.subgroup_laws.specs.GroupLaws.{group-inverse}
 use Rattle.subgroup_laws.specs.Groups.{Group, inverseOf}
@@ -37,6 +37,17 @@ module _ (n : ℕ) (_·_ : ℕ → ℕ → ℕ) (e : ℕ) (G : Group n _·_ e) w
   -- and from the right
   pub inverse-right : (g : ℕ) → g < n → g · inv g ≡ e
   inverse-right g h = group-inverse n _·_ e G g h .right
+
+  -- the inverse of a product is the product of the inverses, the factors the other way round
+  pub inverse-of-product : (a b : ℕ) → a < n → b < n → inv (a · b) ≡ inv b · inv a
+  inverse-of-product a b h k =
+      let L = listed-group n _·_ e G in
+      let i = inverse-below a h in
+      let j = inverse-below b k in
+      let p = G .product-below a b h k in
+      inverse-unique eqb _·_ e L (a · b) _ _ (below-member n _ p) (below-member n _ (inverse-below (a · b) p)) (below-member n _ (G .product-below _ _ j i))
+      (inverse-left (a · b) p)
+      (inverse-product eqb _·_ e L a b (inv a) (inv b) (below-member n a h) (below-member n b k) (below-member n _ i) (below-member n _ j) (inverse-left a h) (inverse-left b k))
 
   -- factors cancel
   pub left-cancel : (x a b : ℕ) → x < n → a < n → b < n → x · a ≡ x · b → a ≡ b
