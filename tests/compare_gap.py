@@ -4,8 +4,9 @@
     python3 tests/compare_gap.py PROGRAM [--emulator COMMAND] [--all]
 
 PROGRAM is made from tests/entries.c, oracle/recorded/gap_groups.txt by oracle/make_gap_groups.py. GAP gives the sets; only their order in
-a list is 01's. Conjugates and normalizers are asked for a sample of the subgroups, with --all for each. For every representative of a class
-conjugations are composed: what C answers goes into the next call. Prints 'N passed, M failed'.
+a list is 01's. Its counts must fit: conjugates times normalizer is the group's order, for every subgroup. Conjugates and normalizers are
+asked for a sample of the subgroups, with --all for each. For every representative of a class conjugations are composed: what C answers
+goes into the next call. Prints 'N passed, M failed'.
 """
 
 import sys
@@ -39,6 +40,15 @@ def ask_class(calls, source, table, found, noise):
     source.call(calls, "conjugates", subgroup, *lent, gives=len(pairs), leaves=list(map(filled, lent, listed)))
     for each in noise.chance.sample(sorted(found), min(len(found), SAMPLED_CONJUGATES)):
         source.call(calls, "normalizer", each, gives=found[each])
+
+
+def fit(table, subgroups, classes):
+    """The counts that C is held to fit: a class times each of its normalizers is the group, subgroups divide it, classes share none."""
+    for found in classes:
+        for subgroup, normalizer in found.items():
+            assert len(found) * len(model.members(normalizer)) == table.order
+            assert table.order % len(model.members(subgroup)) == 0
+    assert len(set(subgroups)) == sum(map(len, classes))
 
 
 class Conjugations(NamedTuple):
@@ -85,6 +95,7 @@ def main():
         subgroups = sorted((each for found in classes for each in found), key=model.list_key)
         representatives = sorted((min(found, key=model.list_key) for found in classes), key=model.list_key)
         assert counts == [len(subgroups), len(representatives)]
+        fit(table, subgroups, classes)
         for entry, listed in (("subgroups", subgroups), ("classes", representatives)):
             lent = noise.bytes(8 * len(listed))
             source.call(calls, entry, lent, gives=len(listed), leaves=[sets(listed)])

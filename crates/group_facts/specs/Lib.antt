@@ -3,3 +3,5 @@
 pub mod Asked
 -- Conjugation composes.
 pub mod Composition
+-- Counts that fit.
+pub mod Counts

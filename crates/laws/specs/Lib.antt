@@ -24,3 +24,4 @@ pub mod MotionsModulo
 pub mod FiniteGroup
 pub mod Sets
 pub mod ListOrder
+pub mod Counting

@@ -41,3 +41,7 @@ pub mod SameSubgroups
 pub mod SameConjugates
 pub mod SameClasses
 pub mod AsTheRust
+-- Counts that fit: orders, classes, and permutations.
+pub mod CosetCounts
+pub mod ClassCounts
+pub mod PermutationProducts

@@ -1,5 +1,5 @@
 -- What the list of conjugates, their conjugators and a normalizer are, in the words of group theory (document 01, "Tables and subgroups").
-use mathlib.Core.Path.{_≡_, sym, ap, _∙_}
+use mathlib.Core.Path.{_≡_, refl, sym, ap, _∙_}
 use mathlib.Core.Logic.{inl, inr, _↔_}
 use mathlib.Core.Bool.{true}
 use mathlib.Core.List.{List·Memᴰ as Mem, List·Memᴰ·head as here, List·Memᴰ·tail as there, List·Memᴰ·cases-cons as cases}
@@ -7,7 +7,8 @@ use Prim.Native.Nat.{ℕ, _^_, _<_}
 use native.Mathlib.Decide.{ℕ-discrete}
 use lib.Dec.{eqb}
 use borrow.Author.Tests.{eq-eqb, eqb-true, eqb-false}
-use Rattle.laws.specs.ListOrder.{Precedes}
+use Rattle.laws.specs.Distinct.{Distinct, cons, has→Mem, eqb-decides}
+use Rattle.laws.specs.ListOrder.{Precedes, precedes-strict}
 use Rattle.laws.specs.Sets.{member, member-below, setOf-below, member-setOf}
 use Rattle.laws.specs.Sorted.{Sorted}
 use Rattle.subgroup_laws.specs.Bounded.{first-least}
@@ -15,6 +16,7 @@ use Rattle.subgroup_laws.specs.ConjugateLoop.{other-conjugate, conjugate
 use Rattle.subgroup_laws.specs.Conjugates.{isOther, othersOf, conjugatesOf, conjugatorOf}
 use Rattle.subgroup_laws.specs.Conjugation.{conjugate-below, conjugate-set-by-identity, conjugate-set-twice}
 use Rattle.subgroup_laws.specs.Groups.{Group}
+use Rattle.subgroup_laws.specs.Images.{sorted-distinct}
 use Rattle.subgroup_laws.specs.Listing.{listed-passes, passes-listed, listed-sorted}
 use Rattle.subgroup_laws.specs.SubgroupLaws.{closed-set}
 use Rattle.subgroup_laws.specs.Subsets.{Subgroup, conjugateOf, normalizerOf}
@@ -46,6 +48,11 @@ module _ (n : ℕ) (_·_ : ℕ → ℕ → ℕ) (e h : ℕ) (G : Group n _·_ e)
   pub others-other : (s : ℕ) → Mem s (othersOf n _·_ e h) → s ≡ h → ⊥
   unfolding othersOf
   others-other s m = let (g, l, q, d) = other-conjugate n _·_ e h G H s (listed-passes n (isOther n _·_ e h) s m .1) in d
+
+  -- no conjugate is listed twice
+  pub conjugates-distinct : Distinct eqb (conjugatesOf n _·_ e h)
+  unfolding conjugatesOf
+  conjugates-distinct = cons (λ t. others-other h (has→Mem eqb eqb-decides t) refl) (sorted-distinct Precedes precedes-strict others-sorted)
 
   -- the conjugator of a conjugate conjugates to it, and no smaller element does
   pub smallest-conjugator : (s g : ℕ) → g < n → conjugateOf n _·_ e h g ≡ s

@@ -19,7 +19,7 @@ use Rattle.subgroup_laws.specs.LowMembers.{member-remainder}
 use Rattle.subgroup_laws.specs.Subsets.{conjugateElement, conjugateOf}
 
 -- the value at a place
-value-at : (f : ℕ → ℕ) (l : List ℕ) (i : ℕ) → i < length l → getD (map f l) i 0 ≡ f (getD l i 0)
+pub value-at : (f : ℕ → ℕ) (l : List ℕ) (i : ℕ) → i < length l → getD (map f l) i 0 ≡ f (getD l i 0)
 value-at f [] i h = absurd (omega arith)
 value-at f (x ∷ l) zero h = refl
 value-at f (x ∷ l) (suc i) h = value-at f l i (le-of-suc-le-suc h)
