@@ -18,7 +18,9 @@ pub extern "C" fn hall_symbol_answer(text: &[u8]) -> u64
     match answer {
         Answer::Symbol => (centering.byte() as u64) * 256 + (count % 256) as u64,
         Answer::Refused(refusal) => {
-            (refusal.number() as u64) * 65536 + (refusal.place() % 65536) as u64
+            let number = refusal.number() as u64;
+            let place = (refusal.place() % 65536) as u64;
+            number * 65536 + place
         }
     }
 }

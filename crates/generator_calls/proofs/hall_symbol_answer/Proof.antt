@@ -35,14 +35,14 @@ enum-known-answer c = search needs
 number-requires : tie.Need-number-requires
 number-requires c κs = search needs
 
-cast-result-2 : tie.Need-cast-result-2
-cast-result-2 c = search needs
-
-mul-result-2 : tie.Need-mul-result-2
-mul-result-2 c = search needs
+cast-number : tie.Need-cast-number
+cast-number c = search needs
 
 place-requires : tie.Need-place-requires
 place-requires c κs = search needs
+
+mul-result-2 : tie.Need-mul-result-2
+mul-result-2 c = search needs
 
 add-result-2 : tie.Need-add-result-2
 add-result-2 c = search needs
@@ -67,9 +67,9 @@ hall-symbol-answer-spec =
     add-result
     enum-known-answer
     number-requires
-    cast-result-2
-    mul-result-2
+    cast-number
     place-requires
+    mul-result-2
     add-result-2
     returns
     returns-2)
