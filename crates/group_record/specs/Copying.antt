@@ -9,7 +9,6 @@ use lib.ListN.{length, take, drop}
 use Rattle.operation.specs.Answer.{Answer, given, refused, Nothing}
 use Rattle.group_record.specs.Record.{itemWidth, totalLength, recordOf}
 use Rattle.group_record.specs.Reading.{readOf, refusalNumber}
-use Rattle.group_record.specs.declared.Refusal.{Refusal}
 use Rattle.group_record.specs.declared.Refusal.the-variants.{NoRoom}
 use Rattle.group_record.specs.declared.Reading.{Reading}
 use Rattle.group_record.specs.declared.Reading.the-variants.{Accepted, Refused}

@@ -10,7 +10,7 @@ use lib.Dec.{T, ltb, eqb}
 use borrow.Author.Tests.{ltb-true, lt-ltb, eqb-true, eq-eqb}
 use lib.ListN.{length, length-map}
 use Rattle.laws.specs.Matrix.{Vector, opposite}
-use Rattle.laws.specs.Motion.{SpaceMotion, compose, identity}
+use Rattle.laws.specs.Motion.{SpaceMotion, compose}
 use Rattle.laws.specs.Residue.{Triple, reduced, _⊕_, reduced-plus}
 use Rattle.laws.specs.Distinct.{has, has-member, or-left, or-right}
 use Rattle.laws.specs.Lattice.{Congruent, congruent-reflexive, zeroTriple, Before, by-x, by-y, by-z, all, all-member, member-all, sameTriple, triple-decides, belowTwelve, same-test, and-right}

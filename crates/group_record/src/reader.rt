@@ -5,7 +5,6 @@ ghost use lib.ListN.{length};
 ghost use Rattle.laws.specs.Distinct.{has};
 ghost use Rattle.laws.specs.Lattice.{all, sameTriple};
 ghost use Rattle.laws.specs.Sorted.{ascending};
-ghost use Rattle.operation.specs.Product.{productOf};
 ghost use Rattle.centering.specs.Lattices.{tripleOf};
 ghost use Rattle.group_record.specs.Reading.{operationOfItem, isItem, itemBefore, areItems, alikeItems, productListed, memberAllowed, isAllowed, fromEnd, lengthFits, readCounted, readOf};
 ghost use Rattle.group_record.specs.Record.{itemOf};

@@ -1,7 +1,6 @@
 -- The ring laws of ℤ and a rule set, `ring`, that proves every identity in which no opposite terms cancel.
 -- Where terms cancel, differences are written `p ⊖ q`, brought outside by `outer`, and two of them compared by `cross`.
-use mathlib.Core.Path.{_≡_, refl, sym, _∙_, ap, ap₂}
-use mathlib.Core.Logic.{_⊎_, inl, inr}
+use mathlib.Core.Path.{_≡_, refl, sym, _∙_, ap}
 use Prim.Native.Nat.{ℕ, zero, suc, _+_, _*_, _-_, _<_, _≤_}
 use native.Mathlib.Omega.{arith}
 use lib.IntN.{ℤ, pos, negsuc, negℤ, sucℤ, predℤ, natAbs, _+ℤ_, _-ℤ_, _*ℤ_, +ℤ-idl, +ℤ-idr, +ℤ-assoc, +ℤ-comm, sucℤ-+ℤ, predℤ-+ℤ, zero-*ℤ, *ℤ-zero, *ℤ-one, sucℤ-*ℤ, predℤ-*ℤ, *ℤ-comm, negℤ-+ℤ, negℤ-sucℤ, negℤ-predℤ, negℤ-negℤ, one, +ℤ-invr, +ℤ-negℤ-cancel, pos-+ℤ-pos}

@@ -2,16 +2,15 @@
 use mathlib.Core.Path.{_≡_, refl, sym, _∙_, ap}
 use mathlib.Core.Logic.{_⊎_, inl, inr, _↔_}
 use mathlib.Core.Bool.{Bool, true, false, _&&_, not}
-use mathlib.Core.List.{List, [], _∷_, map, List·Memᴰ as Mem, List·Memᴰ·head as here, List·Memᴰ·tail as there, Memᴰ·cast as mem-cast}
+use mathlib.Core.List.{List, [], _∷_, List·Memᴰ as Mem, List·Memᴰ·head as here, List·Memᴰ·tail as there, Memᴰ·cast as mem-cast}
 use Prim.Native.Nat.{ℕ, zero, suc, _+_, _*_, _-_, _/_, _%_, min, _≤_, _<_}
 use native.Mathlib.Omega.{arith}
 use native.Mathlib.Decide.{decLe, decLt}
 use lib.Dec.{T, eqb, eqb→eq, eqb-refl, ltb, ltb→lt, T-not}
-use lib.IntN.{ℤ, pos}
 use Rattle.laws.specs.Integer.{nought}
 use Rattle.laws.specs.Matrix.{Vector, plus, opposite, origin, plus-opposite, opposite-difference, difference-chain}
-use Rattle.laws.specs.Residue.{residue, Triple, triple≡, Reduced, reduced, lifted, reduced-lt, reduced-lifted, _⊕_, minus, reduced-plus, reduced-opposite, ⊕-assoc, ⊕-comm, ⊕-reduced, ⊕-minus}
-use Rattle.laws.specs.Distinct.{or-left, or-right, or-cases, has, Distinct, nil, cons, DecidesEquality, Equivalence, equality-equivalence, has→Mem, Mem→has}
+use Rattle.laws.specs.Residue.{residue, Triple, triple≡, Reduced, reduced, lifted, reduced-lifted, _⊕_, minus, reduced-plus, reduced-opposite, ⊕-reduced}
+use Rattle.laws.specs.Distinct.{or-left, or-right, or-cases, has, Distinct, nil, cons, DecidesEquality, equality-equivalence, has→Mem, Mem→has}
 
 -- ---- tests
 pub and-left : (a b : Bool) → T (a && b) → T a

@@ -1,19 +1,19 @@
 -- Which integer matrices map a lattice onto itself: exactly those of determinant 1 or −1 that take its points to points.
 -- Into and invertible gives onto, since an injection of the finitely many points is onto; onto gives determinant ±1, since all powers are onto too.
-use mathlib.Core.Path.{_≡_, refl, sym, _∙_, ap, ap₂}
+use mathlib.Core.Path.{_≡_, refl, sym, _∙_, ap}
 use mathlib.Core.Logic.{_⊎_, inl, inr, _↔_}
 use mathlib.Core.Bool.{Bool}
-use mathlib.Core.List.{List, [], _∷_, map, List·Memᴰ as Mem, Memᴰ·cast as mem-cast, Memᴰ·of-map as mem-of-map}
-use Prim.Native.Nat.{ℕ, zero, suc, _+_, _*_, _^_, _≤_, _<_}
+use mathlib.Core.List.{List, List·Memᴰ as Mem, Memᴰ·cast as mem-cast, Memᴰ·of-map as mem-of-map}
+use Prim.Native.Nat.{ℕ, zero, suc, _*_, _^_}
 use native.Mathlib.Omega.{arith}
 use native.Mathlib.Nat.{pow-zero, pow-succ', pow-le-pow-left, mul-le-mul, mul-zero}
 use lib.Dec.{T}
-use lib.IntN.{ℤ, pos, negsuc, negℤ, natAbs, one, _+ℤ_, _*ℤ_}
-use Rattle.laws.specs.Integer.{nought, ring, _⊖_, natAbs-*ℤ}
-use Rattle.laws.specs.Matrix.{Matrix, Vector, matrix≡, vector≡, act, times, unit, scalar, inverse, determinant, Unimodular, act-times, act-unit, times-unit, times-inverse, inverse-times, determinant-times}
+use lib.IntN.{ℤ, pos, negsuc, negℤ, natAbs, one}
+use Rattle.laws.specs.Integer.{nought, _⊖_, natAbs-*ℤ}
+use Rattle.laws.specs.Matrix.{Matrix, Vector, act, times, unit, scalar, inverse, determinant, Unimodular, act-times, act-unit, times-inverse, inverse-times, determinant-times}
 use Rattle.laws.specs.Residue.{residue, Triple, Reduced, reduced, lifted, turned, reduced-act, reduced-lifted, turned-times, turned-unit}
 use Rattle.laws.specs.Distinct.{has, Equivalence, equality-equivalence, has→Mem, Mem→has, injection-onto}
-use Rattle.laws.specs.Lattice.{sameTriple, triple-decides, Points, InLattice, all, all-member, member-all, zeroTriple}
+use Rattle.laws.specs.Lattice.{sameTriple, triple-decides, Points, InLattice, all, all-member, member-all}
 
 abbrev pub MapsInto : List Triple → Matrix → Type 0
 MapsInto l R = (v : Vector) → InLattice l v → InLattice l (act R v)

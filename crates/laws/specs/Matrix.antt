@@ -1,8 +1,8 @@
 -- 3×3 integer matrices and integer vectors: product, action, determinant, adjugate, and the inverse where the determinant is 1 or −1.
 -- An entry is named by its row and its column. Every law is an identity of polynomials, so `ring` shows it.
-use mathlib.Core.Path.{_≡_, refl, sym, _∙_, ap, ap₂}
+use mathlib.Core.Path.{_≡_, sym, _∙_, ap}
 use mathlib.Core.Logic.{_⊎_, inl, inr}
-use lib.IntN.{ℤ, one, pos, negsuc, negℤ, _+ℤ_, _-ℤ_, _*ℤ_, negℤ-negℤ, +ℤ-invr}
+use lib.IntN.{ℤ, one, negℤ, _+ℤ_, _-ℤ_, _*ℤ_, +ℤ-invr}
 use Rattle.laws.specs.Integer.{ring, nought, *ℤ-nought, _⊖_, outer, cross, cross-nought}
 
 pub record Vector : Type 0 where

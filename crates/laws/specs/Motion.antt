@@ -1,9 +1,9 @@
 -- Motions (R, t) with the product (R,t)(S,u) = (RS, Ru + t), for any monoid that acts on any monoid, and the motions of space:
 -- R a 3×3 integer matrix, t an integer vector.
-use mathlib.Core.Path.{_≡_, refl, sym, _∙_, ap}
-use lib.IntN.{ℤ, one}
+use mathlib.Core.Path.{_≡_}
+use lib.IntN.{one}
 use Rattle.laws.specs.Integer.{ring, nought}
-use Rattle.laws.specs.Matrix.{Matrix, Vector, times, act, plus, opposite, unit, origin, times-assoc, unit-times, times-unit, act-times, act-unit, act-plus, act-origin, plus-assoc, origin-plus, plus-origin, Unimodular, inverse, times-inverse, inverse-times}
+use Rattle.laws.specs.Matrix.{Matrix, Vector, times, act, plus, unit, origin, times-assoc, unit-times, times-unit, act-times, act-unit, act-plus, act-origin, plus-assoc, origin-plus, plus-origin}
 
 pub record Motion (R W : Type 0) : Type 0 where
   pub rotation : R

@@ -3,7 +3,6 @@
 use mathlib.Core.Path.{_≡_, refl, sym, subst, _∙_}
 use mathlib.Core.List.{List}
 use Prim.Native.Nat.{ℕ}
-use lib.ListN.{take}
 use Rattle.operation.specs.Answer as told
 use Rattle.symbol_group.specs.Answers.{orderOf}
 use Rattle.symbol_group.specs.Refusals as symbol

@@ -1,19 +1,18 @@
 -- What the product's answer says of motions of space: inside, it is the composed motion modulo 12; outside, an entry of the composed rotation has left −1..1.
-use mathlib.Core.Path.{_≡_, refl, sym, _∙_, ap}
+use mathlib.Core.Path.{_≡_, refl, sym, _∙_}
 use mathlib.Core.Logic.{_↔_}
-use mathlib.Core.Bool.{Bool, true, false, cond, true≢false, false≢true}
-use Prim.Native.Nat.{ℕ, _<_, _%_}
+use mathlib.Core.Bool.{Bool, true, false, cond, true≢false}
+use Prim.Native.Nat.{ℕ, _<_}
 use native.Mathlib.Omega.{arith}
-use lib.IntN.{ℤ, pos, one, _+ℤ_}
+use lib.IntN.{one}
 use Rattle.laws.specs.Integer.{nought}
-use Rattle.laws.specs.Matrix.{Matrix, Vector, times, unit, origin}
-use Rattle.laws.specs.Motion.{Motion, SpaceMotion, compose, identity, product}
-use Rattle.laws.specs.Residue.{residue, residue-lt, residue-again, Triple, reduced}
-use Rattle.operation.specs.Meaning.{entryOf, digitOf, matrixOf, vectorOf, motionOf, allInside}
+use Rattle.laws.specs.Matrix.{unit, origin}
+use Rattle.laws.specs.Motion.{SpaceMotion, compose, identity}
+use Rattle.laws.specs.Residue.{residue-lt, residue-again, reduced}
+use Rattle.operation.specs.Meaning.{entryOf, matrixOf, vectorOf, motionOf, allInside}
 use Rattle.operation.specs.Product.{identityOperation, productOf, operationOf}
 use Rattle.operation.specs.Entries.{Entries, all-entries, digits-stand}
 use Rattle.operation.specs.declared.Operation.{Operation}
-use Rattle.operation.specs.declared.product.Product.{Product}
 use Rattle.operation.specs.declared.product.Product.the-variants.{Inside, Outside}
 
 -- The identity operation is the identity.

@@ -1,14 +1,14 @@
 -- Trace and determinant of a rotation from its digits, in unsigned numbers: the sums and differences of digits are right, none falls
 -- below 0, and numbers of any value have the range and the type of their digits. Facts on a few digits are tests that antt computes at all of them.
 use mathlib.Core.Path.{_≡_, refl, sym, _∙_, ap}
-use mathlib.Core.Bool.{Bool, true, false, false≢true, _&&_}
+use mathlib.Core.Bool.{Bool, true, false, _&&_}
 use Prim.Native.Nat.{ℕ, zero, suc, _+_, _-_, _*_, _/_, _%_, _≤_}
 use native.Mathlib.Omega.{arith}
 use borrow.Author.Tests.{leb-true, lt-leb}
 use lib.Dec.{leb, leb·suc-suc}
 use lib.IntN.{ℤ, pos, negsuc, natAbs, one, _+ℤ_, _-ℤ_, _*ℤ_, +ℤ-one, -ℤ-one}
 use Rattle.laws.specs.Integer.{ring, outer, cross, _⊖_}
-use Rattle.laws.specs.Matrix.{Matrix, matrix≡, trace, determinant}
+use Rattle.laws.specs.Matrix.{Matrix, trace, determinant}
 use Rattle.operation.specs.Below.{allBelow, below}
 use Rattle.operation.specs.Meaning.{entryOf, digitOf, digitAbove, matrixOf, digitsOf, Digits, inside, rowInside, allInside}
 use Rattle.operation.specs.Entries.{three-true, all-entries, digits-entries, digits-stand}

@@ -2,7 +2,7 @@
 use mathlib.Core.Path.{_≡_, refl, sym, _∙_, ap, ap₂}
 use Prim.Native.Nat.{ℕ, zero, suc, _+_, _*_, _-_, _%_, _<_, _≤_}
 use native.Mathlib.Omega.{arith}
-use lib.IntN.{ℤ, pos, negsuc, negℤ, one, _+ℤ_, _-ℤ_, _*ℤ_, pos-+ℤ-pos, pos-*ℤ-pos}
+use lib.IntN.{ℤ, pos, negℤ, one, _+ℤ_, _-ℤ_, _*ℤ_}
 use Rattle.laws.specs.Integer.{ring, _⊖_, outer, cross, pos-minus, pos-minus-below}
 use Rattle.laws.specs.Matrix.{dot}
 use Rattle.laws.specs.Residue.{residue, residue-add, residue-mul, residue-pos, remainder-sum, remainder-product}

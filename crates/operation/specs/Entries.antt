@@ -2,11 +2,11 @@
 use mathlib.Core.Path.{_≡_, refl, sym, _∙_, ap}
 use mathlib.Core.Logic.{_⊎_, inl, inr, _↔_}
 use mathlib.Core.Bool.{Bool, true, false, _&&_, false≢true}
-use Prim.Native.Nat.{ℕ, zero, suc, _+_, _<_, _≤_}
+use Prim.Native.Nat.{ℕ, zero, suc, _<_, _≤_}
 use native.Mathlib.Omega.{arith}
 use lib.Dec.{ltb}
 use borrow.Author.Tests.{ltb-true, lt-ltb, lt-leb}
-use lib.IntN.{ℤ, pos, negsuc, negℤ, sucℤ, one, _+ℤ_, _-ℤ_, +ℤ-one, -ℤ-one}
+use lib.IntN.{ℤ, pos, negsuc, negℤ, sucℤ, one, +ℤ-one, -ℤ-one}
 use Rattle.laws.specs.Integer.{nought}
 use Rattle.laws.specs.Matrix.{Matrix, matrix≡}
 use Rattle.operation.specs.Meaning.{entryOf, digitOf, digitAbove, matrixOf, digitsOf, Digits, inside, rowInside, allInside}

@@ -5,7 +5,7 @@ use Prim.Native.Nat.{ℕ, zero, suc, _≤_}
 use lib.Dec.{leb}
 use lib.IntN.{ℤ, pos, negsuc, natAbs, one, _+ℤ_, _-ℤ_}
 use Rattle.laws.specs.Matrix.{Matrix, Vector}
-use Rattle.laws.specs.Motion.{Motion, SpaceMotion}
+use Rattle.laws.specs.Motion.{SpaceMotion}
 use Rattle.operation.specs.declared.Rotation.{Rotation}
 use Rattle.operation.specs.declared.Translation.{Translation}
 use Rattle.operation.specs.declared.Operation.{Operation}

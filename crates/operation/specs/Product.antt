@@ -1,12 +1,11 @@
 -- The product of operations by 01, "From generators to a group": (R,t)(S,u) = (RS, Ru + t), modulo 12, or the answer that an entry of RS has left −1..1.
-use mathlib.Core.Path.{_≡_, refl, sym, _∙_, ap}
-use mathlib.Core.Bool.{Bool, true, false, cond, _&&_}
-use Prim.Native.Nat.{ℕ, zero, suc, _+_, _*_}
+use mathlib.Core.Path.{_≡_, refl}
+use mathlib.Core.Bool.{Bool, true, false, cond}
+use Prim.Native.Nat.{ℕ}
 use native.Mathlib.Omega.{arith}
-use lib.Dec.{ltb}
-use lib.IntN.{ℤ, pos, negsuc, one, _+ℤ_, _-ℤ_, _*ℤ_}
-use Rattle.laws.specs.Matrix.{Matrix, Vector, dot, act, plus}
-use Rattle.laws.specs.Motion.{Motion, SpaceMotion, compose}
+use lib.IntN.{ℤ}
+use Rattle.laws.specs.Matrix.{dot, act, plus}
+use Rattle.laws.specs.Motion.{SpaceMotion, compose}
 use Rattle.laws.specs.Residue.{residue}
 use Rattle.operation.specs.Meaning.{entryOf, digitOf, matrixOf, vectorOf, motionOf, digitsOf, rowInside, allInside}
 use Rattle.operation.specs.declared.Rotation.{Rotation}

@@ -5,8 +5,8 @@ use mathlib.Core.Bool.{Bool, true, false, false≢true, cond, _&&_}
 use mathlib.Core.List.{List, [], _∷_}
 use Prim.Native.Nat.{ℕ}
 use borrow.Author.Tests.{eqb-true}
-use lib.Dec.{eqb, leb}
-use lib.IntN.{ℤ, pos, negsuc, negℤ, natAbs, one}
+use lib.Dec.{eqb}
+use lib.IntN.{ℤ, pos, negsuc, negℤ, one}
 use Rattle.laws.specs.Matrix.{Matrix, trace, determinant}
 use Rattle.operation.specs.Meaning.{allInside}
 use Rattle.operation.specs.Answer.{Answer, Nothing, given, refused}

@@ -2,7 +2,6 @@
 // Ported from data/hall_symbol.rs of moyo 0.21.0 (`traverse`), and changed: translations are compared modulo the lattice, and what is no group is refused.
 ghost use mathlib.Core.Path.{_≡_};
 ghost use lib.ListN.{take};
-ghost use Rattle.space_group.specs.Generated.{outcomeOf};
 ghost use Rattle.space_group.specs.Slots.{groupAnswer};
 
 mod group;

@@ -1,6 +1,5 @@
 // The first conjugate of a subgroup in list order, which stands for its class.
 // Ported from subgroup/finite_group.rs of moyo 0.21.0 (`conjugate`), and changed: sets as numbers.
-ghost use mathlib.Core.Path.{_≡_};
 ghost use Rattle.subgroup_laws.specs.Representatives.{FirstOfAll, Represented};
 ghost use Rattle.subgroup_laws.specs.Subsets.{Subgroup};
 ghost use Rattle.subgroup_laws.specs.Table.{product, GroupTable};

@@ -1,5 +1,5 @@
 -- The numbers of a text's refusals end at 11, before those of generators.
-use Prim.Native.Nat.{ℕ, _≤_}
+use Prim.Native.Nat.{_≤_}
 use native.Mathlib.Omega.{arith}
 use Rattle.hall_token.specs.Refusals as token
 use Rattle.hall_token.specs.declared.refusal.Refusal as token-refusal

@@ -1,6 +1,6 @@
 -- The two lists of conjugates and conjugators, place by place (document 01, "Tables and subgroups"): the subgroup first with the identity, and at every
 -- other place a conjugate with the smallest element that conjugates to it.
-use mathlib.Core.Path.{_≡_, refl, sym, ap, subst, _∙_}
+use mathlib.Core.Path.{_≡_, refl, sym, subst}
 use mathlib.Core.List.{List, [], _∷_, map, List·Memᴰ·tail as there}
 use Prim.Native.Nat.{ℕ, zero, suc, _<_}
 use native.Mathlib.Nat.{le-of-suc-le-suc}

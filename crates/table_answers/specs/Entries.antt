@@ -11,9 +11,8 @@ use lib.Count.{ones, ones-le, onesIn}
 use lib.Dec.{eqb, ltb}
 use lib.ListN.{length, getD, drop, replicate, length-map}
 use lib.Pow.{pow-pos}
-use borrow.Author.Tests.{eq-eqb, ltb-true, ltb-false, eqb-true, eqb-false}
+use borrow.Author.Tests.{ltb-true, ltb-false, eqb-true, eqb-false}
 use Rattle.laws.specs.Sets.{member, members, listed-member}
-use Rattle.laws.specs.Sorted.{at-member}
 use Rattle.subgroup_laws.specs.Bounded.{first, first-cases}
 use Rattle.subgroup_laws.specs.Conjugates.{conjugatorOf, othersOf, conjugatesOf, conjugatorsOf}
 use Rattle.subgroup_laws.specs.Conjugation.{conjugate-element-below}

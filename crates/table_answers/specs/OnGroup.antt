@@ -1,5 +1,5 @@
 -- The same where the bytes are known to be the table of a group, as those of symbols and records are: 26 to 29 exactly when, in terms of its identity.
-use mathlib.Core.Path.{_≡_, sym, ap, _∙_}
+use mathlib.Core.Path.{_≡_, _∙_}
 use mathlib.Core.Logic.{_↔_, inl, inr}
 use mathlib.Core.List.{List}
 use Prim.Native.Nat.{ℕ, _≤_}

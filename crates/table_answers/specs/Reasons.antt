@@ -1,8 +1,8 @@
 -- Why an answer on the bytes of a table is refused (document 01, "Refusal numbers", 21 to 29): a reason for each number, with the reasons that go before
 -- it ruled out; and what becomes of the lists that were lent. Any bytes leave one answer and one content of each list.
-use mathlib.Core.Path.{_≡_, refl, sym, ap, _∙_}
+use mathlib.Core.Path.{_≡_, refl}
 use mathlib.Core.Logic.{_⊎_, _↔_}
-use mathlib.Core.Bool.{Bool, true, false, cond}
+use mathlib.Core.Bool.{cond}
 use mathlib.Core.List.{List}
 use Prim.Native.Nat.{ℕ, _<_, _≤_}
 use native.Mathlib.Omega.{arith}

@@ -1,5 +1,4 @@
 -- A place with a slot gives its cell.
-use mathlib.Core.Path.{refl}
 use native.Mathlib.Omega.{arith}
 use borrow.Author.Tests.{lt-ltb, le-ltb}
 use Rattle.table_calls.proofs.cell_at.Statement.{statement}

@@ -1,6 +1,5 @@
 -- Both products are compared with the identity.
 use mathlib.Core.Path.{sym, _∙_}
-use borrow.Author.Needs.{needs}
 use borrow.Author.Tests.{eq-eqb, ne-eqb}
 use Rattle.subgroup_laws.specs.Bounded.{and-fails-left}
 use Rattle.subgroup_laws.specs.Groups.{isInverse}

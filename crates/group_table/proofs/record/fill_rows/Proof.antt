@@ -9,7 +9,7 @@ use lib.ListN.{length, getD, set, take, length-map, length-set}
 use lib.Seq.{length-take-le}
 use Rattle.operation.specs.Meaning.{motionOf}
 use Rattle.centering.specs.declared.Centering.{Centering}
-use Rattle.space_group.specs.Traversal.{turnOf, padded}
+use Rattle.space_group.specs.Traversal.{turnOf}
 use Rattle.space_group.specs.Resuming.{padded-length}
 use Rattle.group_record.specs.Groups.{Allowed}
 use Rattle.subgroup_laws.specs.TableLaws.{cell-place}
