@@ -62,6 +62,7 @@ enum symmetry_most {
 
 /*
  * Why there is no answer. "At" says what the place is; places are in bytes from 0, and a token's place is that of its first byte.
+ * A misspelt token and a wrong digit are pointed at byte by byte: the first byte that offends, or the place where a missing fold should stand.
  * The numbers 15 and 16 belong to parts of the port that C has no function for.
  */
 enum symmetry_refusal {
@@ -70,9 +71,9 @@ enum symmetry_refusal {
     SYMMETRY_BYTE_FORBIDDEN = 2,    /* a byte that is not 9 to 13 or 32 to 126; at the first such byte */
     SYMMETRY_NO_TOKEN = 3,          /* nothing but whitespace; at 0 */
     SYMMETRY_LATTICE_WRONG = 4,     /* the first token is not one of P A B C I R F, with or without a minus; at that token */
-    SYMMETRY_TOKEN_MISSPELT = 5,    /* an N token that no rule spells; at that token */
+    SYMMETRY_TOKEN_MISSPELT = 5,    /* an N token that no rule spells; at its first offending byte, or where a missing fold should stand */
     SYMMETRY_AXIS_UNSETTLED = 6,    /* no axis follows from the token and those before it, or fold and axis have no matrix; at that token */
-    SYMMETRY_DIGIT_WRONG = 7,       /* a screw digit out of range, on another axis than z, not first, or a second one; at that token */
+    SYMMETRY_DIGIT_WRONG = 7,       /* a screw digit out of range, on another axis than z, not first, or a second one; at the first such digit */
     SYMMETRY_TOKEN_PRIMED = 8,      /* an apostrophe, which only magnetic symbols have; at that token */
     SYMMETRY_SHIFT_MALFORMED = 9,   /* the shift of origin is not three numbers 0 to 11 in brackets at the end; at its opening bracket */
     SYMMETRY_NO_ROTATION = 10,      /* no N token; at the opening bracket, or at the text's length */

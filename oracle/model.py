@@ -1,7 +1,7 @@
 #!/usr/bin/env python3
-"""The rules of the scope document ("01") as a plain program.
+"""The rules of the scope document ("01") as a plain program, with those of the requests ("02") that have landed.
 
-It is written from 01 alone: it shares no line with the Rust original and none with the port, and it is kept as the
+It is written from these two alone: it shares no line with the Rust original and none with the port, and it is kept as the
 independent judge of what is accepted, what is refused with which number and place, and what each answer holds.
 All arithmetic is in whole numbers; a translation is a triple of twelfths. Speed is no aim.
 
@@ -37,6 +37,7 @@ PRINTED = range(32, 127)
 LETTERS = "PABCIRF"
 
 N_TOKEN = re.compile(rb"(-?)([12346])([\^=]?)([xyz*]?)([1-6abcnuvwd']*)")
+N_TOKEN_START = re.compile(rb"-?|(-?)([12346])([\^=]?)([xyz*]?)([1-6abcnuvwd']*)")
 SHIFT_NUMBER = re.compile(rb"0|[1-9]|10|11")
 
 IDENTITY = (1, 0, 0, 0, 1, 0, 0, 0, 1)
@@ -139,10 +140,14 @@ def read_shift(text, place):
 
 
 def read_n_token(token, place, before):
-    """Rotation, translation, fold and axis of one N token, given those before it; refusals 5, 8, 6 and 7."""
+    """Rotation, translation, fold and axis of one N token, given those before it; refusals 5, 8, 6 and 7.
+
+    By 02 (v) the place of 5 is the first byte that no N token has after the bytes before it, or the token's end where it
+    breaks off, and the place of 7 is the digit's; 6 and 8 are told of the token's start."""
     spelt = N_TOKEN.fullmatch(token)
     if spelt is None:
-        raise Refusal(5, place)
+        good = [length for length in range(len(token) + 1) if N_TOKEN_START.fullmatch(token[:length])]
+        raise Refusal(5, place + max(good))
     minus, fold, mark, letter, run = (part.decode() for part in spelt.groups())
     if "'" in run:
         raise Refusal(8, place)
@@ -158,7 +163,7 @@ def read_n_token(token, place, before):
         if character.isdigit():
             digit = int(character)
             if position != 0 or axis != ("", "z") or not 1 <= digit < int(fold):
-                raise Refusal(7, place)
+                raise Refusal(7, place + spelt.start(5) + position)
             translation = plus(translation, (0, 0, 12 * digit // int(fold)))
         else:
             translation = plus(translation, TRANSLATIONS[character])
@@ -674,7 +679,7 @@ def z_translations(text):
 def example_symbols():
     """(name, what the model says, what 01 says) for the symbols of "Symbols to try"."""
     cases = [
-        (b"P 1", 1), (b"-P 1", 2), (b"P 1a", (14, 0)), (b"P 2w", (14, 0)), (b"P 2a1", (7, 2)), (b"P 1x", (6, 2)),
+        (b"P 1", 1), (b"-P 1", 2), (b"P 1a", (14, 0)), (b"P 2w", (14, 0)), (b"P 2a1", (7, 4)), (b"P 1x", (6, 2)),
         (b"P 3* 2^", (6, 5)), (b"R 2", (12, 0)), (b"P 4 6", (13, 0)), (b"P", (10, 1)), (b"", (3, 0)),
         (b"P 4w", 4), (b"A 4", (12, 0)), (b"P 3 2x", (13, 0)), (b"P 2 (0 0 11)", 2), (b"P 2 (0 0 12)", (9, 4)),
         (b"P 2'", (8, 2)), (b"H 3", (4, 0)), (b"-P 2ac 2n", 8), (b"-F 4 2 3", 48), (b"-P 4 2 3", 48),

@@ -159,7 +159,7 @@ static void symbols(void) {
     answers(symmetry_symbol_order(TEXT("-P 1")), 2, "-P 1");
     answers(symmetry_symbol_order(TEXT("-F 4 2 3")), 48, "-F 4 2 3");
     answers(symmetry_symbol_order(TEXT("P")), refusal(10, 1), "P");
-    answers(symmetry_symbol_order(TEXT("P 2a1")), refusal(7, 2), "P 2a1");
+    answers(symmetry_symbol_order(TEXT("P 2a1")), refusal(7, 4), "P 2a1");
     answers(symmetry_symbol_order(TEXT("P 3* 2^")), refusal(6, 5), "P 3* 2^");
     answers(symmetry_symbol_order(TEXT("P 1\0")), refusal(2, 3), "a byte 0");
     answers(symmetry_symbol_order(TEXT("R 2")), refusal(12, 0), "R 2");
@@ -183,6 +183,36 @@ static void symbols(void) {
     uint64_t wrong = symmetry_symbol_order(TEXT("P 3* 2^"));
     expect(symmetry_refused(wrong) == 1 && symmetry_number(wrong) == 6 && symmetry_place(wrong) == 5, "a refusal, taken apart", wrong);
     expect(symmetry_refused(flip) == 0 && symmetry_number(flip) == 0, "a value, taken apart", flip);
+}
+
+/* Where a misspelt token or a wrong digit is pointed at, worked out by hand; told by every function that takes a symbol's text. */
+static void pointed(void) {
+    static const struct { const char *text; unsigned number, place; } cases[] = {
+        { "P -", 5, 3 }, { "P - 2", 5, 3 }, { "P 5", 5, 2 }, { "P 0", 5, 2 }, { "P x", 5, 2 }, { "P ^2", 5, 2 }, { "P +2", 5, 2 }, { "P )", 5, 2 },
+        { "P --2", 5, 3 }, { "P -a", 5, 3 }, { "P 20", 5, 3 }, { "P 2A", 5, 3 }, { "P 2)", 5, 3 }, { "P 2-", 5, 3 }, { "P 2(0 0 0)", 5, 3 },
+        { "P 2x^", 5, 4 }, { "P 2^^", 5, 4 }, { "P 2=^", 5, 4 }, { "P 2xx", 5, 4 }, { "P 2*x", 5, 4 }, { "P 2aq", 5, 4 }, { "P 2a^", 5, 4 },
+        { "P 2ax", 5, 4 }, { "P 2ab7", 5, 5 }, { "P 2^5q", 5, 5 }, { "P 2'q", 5, 4 }, { "P 2q'", 5, 3 }, { "P 2''", 8, 2 }, { "P 1xq", 5, 4 },
+        { "P 2a1q", 5, 5 }, { "P 1 2", 6, 4 }, { "P 2a1", 7, 4 }, { "P 211", 7, 4 }, { "P 412", 7, 4 }, { "P 21a1", 7, 5 }, { "P 22", 7, 3 },
+        { "P 33", 7, 3 }, { "P 66", 7, 3 }, { "P 11", 7, 3 }, { "P 26a1", 7, 3 }, { "P 2x1", 7, 4 }, { "P 2^1", 7, 4 }, { "P 3*1", 7, 4 },
+        { "P 2xa1", 7, 5 }, { "P 4ab12", 7, 5 }, { "P 2 21", 7, 5 }, { "P 2'1", 8, 2 },
+    };
+    for (size_t i = 0; i < sizeof cases / sizeof *cases; i++) {
+        const uint8_t *text = (const uint8_t *)cases[i].text;
+        size_t length = strlen(cases[i].text);
+        uint64_t told = refusal(cases[i].number, cases[i].place);
+        uint8_t out[ROOM];
+        answers(symmetry_symbol_order(text, length), told, cases[i].text);
+        answers(symmetry_symbol_letter(text, length), told, cases[i].text);
+        answers(symmetry_symbol_operation(text, length, 0), told, cases[i].text);
+        answers(symmetry_symbol_record(text, length, out, ROOM, 0), told, cases[i].text);
+        answers(symmetry_symbol_identity(text, length), told, cases[i].text);
+        answers(symmetry_symbol_subgroups(text, length, out, ROOM), told, cases[i].text);
+    }
+    uint8_t last[80];
+    memset(last, ' ', sizeof last);
+    memcpy(last, "P 1", 3);
+    last[79] = '-';
+    answers(symmetry_symbol_order(last, 80), refusal(5, 80), "80 bytes that end in a lone sign");
 }
 
 /* The record of -P 1, as the rules print it. */
@@ -241,6 +271,7 @@ int main(void) {
     conjugates(17, other_conjugates, other_conjugators);
     untouched();
     symbols();
+    pointed();
     written();
     records();
     printf("%d passed, %d failed\n", passed, failed);

@@ -125,9 +125,9 @@ spells-read text c gs h = begins-read text (h .begins) ∙ go (h .v) (h .ending)
 token-refused-read : (text : List ℕ) (p : ℕ) (r : token-refusal.Refusal) → TokenRefused text p r → readSymbol text ≡ refusal (BadToken p r)
 token-refused-read text p r h =
     let m = h .next in
-    next-read text (h .previous) p (h .t) (h .after) m
+    next-read text (h .previous) (h .start) (h .t) (h .after) m
     ∙ step-rotation (length text) (m .c) (m .found) (h .previous) _ _ (stops-first (h .t) (h .after) (m .cut .some) (h .rotation)) (h .few)
-    ∙ rw (cut-word (m .s) (m .w) (h .t) (h .after) (m .cut), answers-exact (h .t) (h .previous) (IsRefused r) .1 (h .says))
+    ∙ rw (cut-word (m .s) (m .w) (h .t) (h .after) (m .cut), answers-exact (h .t) (h .previous) (IsRefused (h .offset) r) .1 (h .says), h .stands)
 
 -- A token that spells no lattice is read as none.
 no-lattice : (t : List ℕ) → ((inverted : Bool) (c : Centering) → t ≡ latticeSpelling inverted c → ⊥) → latticeToken t ≡ Wrong
@@ -257,8 +257,19 @@ module _ (text : List ℕ) (c : Centering) (found : List Operation) (previous : 
     -- At any other token, where what follows an operation is known to be read by the rules.
     rotation-says : Stops opening t → ((o : Operation) (f : Fold) (a : Axis) → Begins text c (found ++ (o ∷ [])) (nextPrevious previous f a) (p + length w + length t) after → Says text (operations (length text) c (found ++ (o ∷ [])) (nextPrevious previous f a) (tokensFrom (p + length w + length t) true after))) → (few : previous .count < 8) (answer : ParsedOperation) → operationToken t previous ≡ answer → Says text (onOperation (p + length w) answer (λ o f a. operations (length text) c (found ++ (o ∷ [])) (nextPrevious previous f a) (tokensFrom (p + length w + length t) true after)))
     rotation-says start later few (IsOperation o f a) e = later o f a (rotation o f a begins cut start few (answers-exact t previous (IsOperation o f a) .0 e))
-    rotation-says start later few (IsRefused r) e =
-        record { previous = previous; t = t; after = after; next = here; rotation = start; few = few; says = answers-exact t previous (IsRefused r) .0 e }
+    rotation-says start later few (IsRefused k r) e =
+        record {
+          previous = previous;
+          start = p + length w;
+          offset = k;
+          t = t;
+          after = after;
+          next = here;
+          stands = refl;
+          rotation = start;
+          few = few;
+          says = answers-exact t previous (IsRefused k r) .0 e;
+        }
 
     -- At any token.
     token-says : ((o : Operation) (f : Fold) (a : Axis) → Begins text c (found ++ (o ∷ [])) (nextPrevious previous f a) (p + length w + length t) after → Says text (operations (length text) c (found ++ (o ∷ [])) (nextPrevious previous f a) (tokensFrom (p + length w + length t) true after))) → Says text (operations (length text) c found previous (tokenAt (p + length w) (t ++ after) ∷ tokensFrom (p + length w + length t) true after))

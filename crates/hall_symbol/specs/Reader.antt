@@ -49,10 +49,10 @@ noPrevious = record { count = 0; fold = One; axis = record { mark = None; direct
 abbrev pub nextPrevious : Previous → Fold → Axis → Previous
 nextPrevious previous f a = record { count = previous .count + 1; fold = f; axis = a }
 
--- What an N token's own answer says of the symbol, where it stands at place p.
+-- What an N token's own answer says of the symbol, where it starts at place p: it is refused at an offset from there.
 abbrev pub onOperation : ℕ → ParsedOperation → (Operation → Fold → Axis → Reading) → Reading
 onOperation p (IsOperation o f a) next = next o f a
-onOperation p (IsRefused r) next = refusal (BadToken p r)
+onOperation p (IsRefused k r) next = refusal (BadToken (p + k) r)
 
 -- The whole symbol, once its shift is known.
 abbrev pub shiftedSymbol : Centering → List Operation → Translation → Reading

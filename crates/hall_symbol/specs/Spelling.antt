@@ -129,15 +129,19 @@ pub record Next (text : List ℕ) (previous : Previous) (place : ℕ) (t after :
   pub cut : Cut s w t after
   pub stands : place ≡ p + length w
 
--- 5, 6, 7, 8: the first N token that is no operation stands at the place, and is not the ninth; its own refusal says what is wrong with it.
+-- 5, 6, 7, 8: the first N token that is no operation, and is not the ninth; its own refusal says what is wrong with it, and at which offset. The
+-- place is so far behind the token's start.
 pub record TokenRefused (text : List ℕ) (place : ℕ) (r : token.Refusal) : Type 0 where
   pub previous : Previous
+  pub start : ℕ
+  pub offset : ℕ
   pub t : List ℕ
   pub after : List ℕ
-  pub next : Next text previous place t after
+  pub next : Next text previous start t after
+  pub stands : place ≡ start + offset
   pub rotation : Stops opening t
   pub few : previous .count < 8
-  pub says : Answers t previous (IsRefused r)
+  pub says : Answers t previous (IsRefused offset r)
 
 -- 9: a shift stands at the place, behind an N token, and is spelt like none.
 pub record ShiftMalformed (text : List ℕ) (place : ℕ) : Type 0 where

@@ -9,6 +9,7 @@ use lib.Dec.{eqb}
 use lib.ListN.{length, length-append}
 use Rattle.operation.specs.declared.Operation.{Operation}
 use Rattle.centering.specs.declared.Centering.{Centering}
+use Rattle.hall_token.specs.Answers.{refused-within}
 use Rattle.hall_token.specs.Refusals as token
 use Rattle.hall_token.specs.declared.Previous.{Previous}
 use Rattle.hall_token.specs.declared.refusal.Refusal as token-refusal
@@ -97,7 +98,7 @@ module _ (text : List ℕ) (k : ℕ) where
   pub four-exactly : Tells (answerOf (readSymbol text)) 4 k ↔ LatticeWrong text k
   four-exactly = tells-exactly text (Lattice k)
 
-  -- 5: an N token misspelt, at the token.
+  -- 5: an N token misspelt, at its first offending byte, or where its fold should stand.
   pub five-exactly : Tells (answerOf (readSymbol text)) 5 k ↔ TokenRefused text k Misspelt
   five-exactly = tells-exactly text (Token k Misspelt)
 
@@ -105,7 +106,7 @@ module _ (text : List ℕ) (k : ℕ) where
   pub six-exactly : Tells (answerOf (readSymbol text)) 6 k ↔ TokenRefused text k Unsettled
   six-exactly = tells-exactly text (Token k Unsettled)
 
-  -- 7: a digit wrong, at the token.
+  -- 7: a digit wrong, at the first such.
   pub seven-exactly : Tells (answerOf (readSymbol text)) 7 k ↔ TokenRefused text k Digit
   seven-exactly = tells-exactly text (Token k Digit)
 
@@ -168,7 +169,9 @@ module _ (text : List ℕ) where
       let fit = h .fit .0 in
       let whole = ap length (h .cut .text) ∙ length-append (h .w) (h .t ++ h .after) in
       omega (arith, h .stands)
-  place-within (Token p r) h = omega (arith, next-place (h .next))
+  place-within (Token p r) h =
+      let within = refused-within (h .t) (h .previous) (h .offset) r (h .says) in
+      omega (arith, next-place (h .next), h .stands)
   place-within (Shift p) h = omega (arith, next-place (h .next))
   place-within (NoRotation p) (ends begins none blank) = begins-fit begins
   place-within (NoRotation p) (opens next none first) = omega (arith, next-place next)

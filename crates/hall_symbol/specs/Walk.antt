@@ -11,7 +11,10 @@ use Rattle.operation.specs.declared.Operation.{Operation}
 use Rattle.centering.specs.declared.Centering.{Centering}
 use Rattle.hall_token.specs.Reader.{operationToken}
 use Rattle.hall_token.specs.declared.Previous.{Previous}
+use Rattle.hall_token.specs.Answers.{answers-exact, refused-within}
 use Rattle.hall_token.specs.declared.ParsedOperation.{ParsedOperation}
+use Rattle.hall_token.specs.declared.ParsedOperation.the-variants.{Refused as IsRefused}
+use Rattle.hall_token.specs.declared.refusal.Refusal as token
 use borrow.Author.Tests.{lt-ltb, le-ltb}
 use Rattle.hall_symbol.specs.Bytes.{whitespace, solid, allowed, opening}
 use Rattle.hall_symbol.specs.Runs.{run, run-within}
@@ -128,6 +131,16 @@ module _ {text : List ℕ} {c : Centering} {whole : Reading} {p : ℕ} {list : G
   pub reached-rotation : w .start < length text → opening (getD text (w .start) 0) ≡ false → previous .count < 8 → (answer : ParsedOperation) → answer ≡ operationToken (take (w .end - w .start) (drop (w .start) text)) previous → whole ≡ onOperation (w .start) answer (λ o f a. operations (length text) c (listOf list ++ (o ∷ [])) (nextPrevious previous f a) (tokensFrom (w .end) true (drop (w .end) text)))
   reached-rotation there h k answer e =
       reached .same ∙ walk-rotation text p w found (length text) c (listOf list) previous there h k answer e
+
+  -- A refused token's offset stays within the text.
+  pub reached-offset : (k : ℕ) (r : token.Refusal) → IsRefused k r ≡ operationToken (take (w .end - w .start) (drop (w .start) text)) previous → w .start + k ≤ length text
+  reached-offset k r e =
+      let own = take (w .end - w .start) (drop (w .start) text) in
+      let within = refused-within own previous k r (answers-exact own previous (IsRefused k r) .0 (sym e)) in
+      let (after, ordered, reaches) = reached-word in
+      let left = length-drop (w .start) text in
+      let long : length own ≡ w .end - w .start = length-take-le (w .end - w .start) (drop (w .start) text) (omega arith) in
+      omega arith
 
 -- ---- the whole text
 module _ (text : List ℕ) where

@@ -143,13 +143,13 @@ fn parse(text: &[u8], from: usize, centering: Centering, leading: Generators) ->
                 let slot = list.count;
                 list.operations[slot] = o;
                 list.count = slot + 1;
-                previous = Previous {
-                    count: previous.count + 1,
-                    fold,
-                    axis,
-                };
+                let count = previous.count + 1;
+                previous = Previous { count, fold, axis };
             }
-            ParsedOperation::Refused(refusal) => return refused(Refusal::Token(start, refusal)),
+            ParsedOperation::Refused(offset, refusal) => {
+                let place = start + offset;
+                return refused(Refusal::Token(place, refusal));
+            }
         }
     }
 }

@@ -12,9 +12,12 @@ pub mod OneTurn
 pub mod Packed
 pub mod Translations
 pub mod Sums
+pub mod Offsets
 pub mod Refusals
 pub mod Edges
 pub mod Reader
 pub mod Stages
 pub mod Spelling
+pub mod Prefixes
+pub mod Misspelt
 pub mod Answers

@@ -1,7 +1,7 @@
 -- The reader of one N token by 01, "From text to generators": the token cut into its parts, then refusals 5, 8, 6, 7 in this order, then the operation.
 use mathlib.Core.Bool.{Bool, true, false, cond}
 use mathlib.Core.List.{List, [], _∷_}
-use Prim.Native.Nat.{ℕ}
+use Prim.Native.Nat.{ℕ, _+_}
 use lib.Dec.{eqb}
 use Rattle.operation.specs.declared.Rotation.{Rotation}
 use Rattle.hall_token.specs.declared.Fold.{Fold}
@@ -27,16 +27,17 @@ use Rattle.hall_token.specs.Axes.{axisOf}
 use Rattle.hall_token.specs.Matrices.{turnOf, signed}
 use Rattle.hall_token.specs.Runs.{mayStand, noPrime, every}
 use Rattle.hall_token.specs.Translations.{movedBy}
+use Rattle.hall_token.specs.Offsets.{signLength, runStart, passing, wrongDigitAt}
 
 -- ---- the parts of a token, from the left
 
--- A token's parts: whether a `-` stands first, fold, mark, letter and run. Or it is misspelt.
+-- A token's parts: whether a `-` stands first, fold, mark, letter and run. Or it is misspelt from an offset on.
 pub data Parts : Type 0 where
   parts : Bool → Fold → Mark → AxisLetter → List ℕ → Parts
-  no-parts : Parts
+  no-parts : ℕ → Parts
 
 unfoldable pub readRun : Bool → Fold → Mark → AxisLetter → List ℕ → Parts
-readRun n f m l run = cond (every mayStand run) (parts n f m l run) no-parts
+readRun n f m l run = cond (every mayStand run) (parts n f m l run) (no-parts (runStart n m l + passing mayStand run))
 
 -- After the mark: a letter x y z `*` or none, where the byte b stands at the front of what is left.
 unfoldable pub letterThen : Bool → Fold → Mark → AxisLetter → ℕ → List ℕ → Parts
@@ -60,38 +61,39 @@ readMark n f (b ∷ bs) = markThen n f (markOf b) b bs
 -- After the sign: the fold, which must be there.
 unfoldable pub foldThen : Bool → FoldByte → List ℕ → Parts
 foldThen n (Is f) bs = readMark n f bs
-foldThen n Other bs = no-parts
+foldThen n Other bs = no-parts (signLength n)
 
 unfoldable pub readFold : Bool → List ℕ → Parts
-readFold n [] = no-parts
+readFold n [] = no-parts (signLength n)
 readFold n (b ∷ bs) = foldThen n (foldOf b) bs
 
 -- An optional `-` first.
 unfoldable pub readToken : List ℕ → Parts
-readToken [] = no-parts
+readToken [] = no-parts 0
 readToken (b ∷ bs) = cond (eqb b 45) (readFold true bs) (readFold false (b ∷ bs))
 
 -- ---- what the parts say
 
--- With a matrix: refused 7 for a wrong digit, or the operation with its fold and axis.
-unfoldable pub movedThen : Bool → Fold → Axis → Rotation → Moved → ParsedOperation
-movedThen n f a r (By t) = Operation (record { rotation = signed n r; translation = t }) f a
-movedThen n f a r WrongDigit = Refused Digit
+-- With a matrix: refused 7 at a wrong digit, which stands at offset k, or the operation with its fold and axis.
+unfoldable pub movedThen : ℕ → Bool → Fold → Axis → Rotation → Moved → ParsedOperation
+movedThen k n f a r (By t) = Operation (record { rotation = signed n r; translation = t }) f a
+movedThen k n f a r WrongDigit = Refused k Digit
 
--- With an axis: refused 6 if the fold has no matrix about it.
-unfoldable pub turnThen : Bool → Fold → Axis → List ℕ → Turn → ParsedOperation
-turnThen n f a run (Matrix r) = movedThen n f a r (movedBy f a run)
-turnThen n f a run NoMatrix = Refused Unsettled
+-- With an axis: refused 6 if the fold has no matrix about it. The run starts at offset s.
+unfoldable pub turnThen : ℕ → Bool → Fold → Axis → List ℕ → Turn → ParsedOperation
+turnThen s n f a run (Matrix r) = movedThen (s + wrongDigitAt f a run) n f a r (movedBy f a run)
+turnThen s n f a run NoMatrix = Refused 0 Unsettled
 
 -- Refused 6 if the axis is not settled.
-unfoldable pub axisThen : Bool → Fold → List ℕ → SettledAxis → ParsedOperation
-axisThen n f run (Settled a) = turnThen n f a run (turnOf f a)
-axisThen n f run Open = Refused Unsettled
+unfoldable pub axisThen : ℕ → Bool → Fold → List ℕ → SettledAxis → ParsedOperation
+axisThen s n f run (Settled a) = turnThen s n f a run (turnOf f a)
+axisThen s n f run Open = Refused 0 Unsettled
 
 -- Misspelt tokens are refused 5 before all, then primed ones 8.
 unfoldable pub operationOfParts : Parts → Previous → ParsedOperation
-operationOfParts (parts n f m l run) p = cond (every noPrime run) (axisThen n f run (axisOf f m l p)) (Refused Primed)
-operationOfParts no-parts p = Refused Misspelt
+operationOfParts (parts n f m l run) p =
+    cond (every noPrime run) (axisThen (runStart n m l) n f run (axisOf f m l p)) (Refused 0 Primed)
+operationOfParts (no-parts k) p = Refused k Misspelt
 
 -- The answer to one N token, given what stands to its left.
 unfoldable pub operationToken : List ℕ → Previous → ParsedOperation

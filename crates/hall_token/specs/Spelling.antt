@@ -4,7 +4,7 @@ use mathlib.Core.Path.{_≡_, refl, sym, _∙_, ap, subst}
 use mathlib.Core.Bool.{Bool, true, false, cond, _&&_, true≢false, and-eq-true-iff}
 use mathlib.Core.List.{List, [], _∷_, _++_, List·Memᴰ as Mem, List·Memᴰ·head as here, List·Memᴰ·tail as there, List·Memᴰ·not-nil as not-in-nil, List·Memᴰ·cases-cons as member-cases}
 use mathlib.Core.Logic.{⊎-elim, _↔_}
-use Prim.Native.Nat.{ℕ}
+use Prim.Native.Nat.{ℕ, _+_}
 use lib.Dec.{eqb}
 use borrow.Author.Tests.{eqb-true}
 use Rattle.hall_token.specs.declared.Fold.{Fold}
@@ -21,6 +21,7 @@ use Rattle.hall_token.specs.declared.RunByte.{RunByte}
 use Rattle.hall_token.specs.declared.RunByte.the-variants.{Foreign}
 use Rattle.hall_token.specs.Bytes.{valueAt, folds, marks, axisLetters, runBytes, foldOf, markOf, letterOf, runByteOf, passes, valueAt-passes}
 use Rattle.hall_token.specs.Runs.{every, mayStand, every-member, member-every}
+use Rattle.hall_token.specs.Offsets.{runStart, passing}
 use Rattle.hall_token.specs.Reader.{Parts, parts, no-parts, readRun, letterThen, readLetter, markThen, readMark, foldThen, readFold, readToken}
 
 -- ---- the rules
@@ -165,13 +166,13 @@ alphabet-no-letter b m = no-letter (letterOf b) (passed-member (λ c. noLetter (
 -- The parts, if there are any, are spelt by the token.
 abbrev Spelt : List ℕ → Parts → Type 0
 Spelt token (parts n f m l run) = Spells token n f m l run
-Spelt token no-parts = Unit {0}
+Spelt token (no-parts k) = Unit {0}
 
 run-read : (token : List ℕ) (n : Bool) (f : Fold) (m : Mark) (l : AxisLetter) (run : List ℕ) → token ≡ signBytes n ++ (foldByte f ∷ (markBytes m ++ (letterBytes l ++ run))) → Spelt token (readRun n f m l run)
 unfolding readRun
 run-read token n f m l run e = go (every mayStand run) refl
   where
-    go : (t : Bool) → every mayStand run ≡ t → Spelt token (cond t (parts n f m l run) no-parts)
+    go : (t : Bool) → every mayStand run ≡ t → Spelt token (cond t (parts n f m l run) (no-parts (runStart n m l + passing mayStand run)))
     go true h = record { text = e; of-alphabet = λ b i. may-stand-alphabet b (every-member mayStand run h b i) }
     go false h = tt
 

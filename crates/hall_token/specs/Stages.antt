@@ -16,11 +16,12 @@ use Rattle.hall_token.specs.declared.AxisLetter.{AxisLetter}
 use Rattle.hall_token.specs.declared.AxisLetter.the-variants.{Along, Absent}
 use Rattle.hall_token.specs.Bytes.{foldOf, markOf, letterOf}
 use Rattle.hall_token.specs.Front.{rest, front, nothing}
+use Rattle.hall_token.specs.Offsets.{signLength}
 use Rattle.hall_token.specs.Reader.{no-parts, readRun, letterThen, readLetter, markThen, readMark, foldThen, readFold, readToken}
 
 -- ---- the sign
 
-pub sign-nothing : (t : List ℕ) → length t ≡ 0 → readToken t ≡ no-parts
+pub sign-nothing : (t : List ℕ) → length t ≡ 0 → readToken t ≡ no-parts 0
 unfolding readToken
 sign-nothing t h = ap readToken (nothing t h)
 
@@ -36,7 +37,7 @@ sign-none t h e = sign-front t h ∙ rw (ne-eqb (getD t 0 0) 45 e) (ap (readFold
 
 -- ---- the fold; v is what the first byte says
 
-pub fold-nothing : (n : Bool) (t : List ℕ) → length t ≡ 0 → readFold n t ≡ no-parts
+pub fold-nothing : (n : Bool) (t : List ℕ) → length t ≡ 0 → readFold n t ≡ no-parts (signLength n)
 unfolding readFold
 fold-nothing n t h = ap (readFold n) (nothing t h)
 
@@ -44,7 +45,7 @@ fold-front : (n : Bool) (t : List ℕ) (v : FoldByte) → (length t ≡ 0 → �
 unfolding readFold
 fold-front n t v h e = rw e (ap (readFold n) (front t h))
 
-pub fold-other : (n : Bool) (t : List ℕ) (v : FoldByte) → (length t ≡ 0 → ⊥) → v ≡ foldOf (getD t 0 0) → v ≡ Other → readFold n t ≡ no-parts
+pub fold-other : (n : Bool) (t : List ℕ) (v : FoldByte) → (length t ≡ 0 → ⊥) → v ≡ foldOf (getD t 0 0) → v ≡ Other → readFold n t ≡ no-parts (signLength n)
 unfolding foldThen
 fold-other n t v h e w = fold-front n t v h e ∙ rw w
 

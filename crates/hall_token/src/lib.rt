@@ -9,6 +9,7 @@ ghost use Rattle.hall_token.specs.Reader.{operationToken, operationOfPar
 mod axes;
 mod bytes;
 mod matrices;
+mod offsets;
 pub mod refusal;
 mod translations;
 
@@ -18,6 +19,10 @@ use bytes::letter_of;
 use bytes::mark_of;
 use matrices::rotation_about;
 use matrices::with_sign;
+use offsets::passing;
+use offsets::run_start;
+use offsets::sign_length;
+use offsets::wrong_digit;
 use operation::Rotation;
 use operation::Translation;
 use refusal::Refusal;
@@ -60,10 +65,10 @@ pub struct Previous {
     pub axis: Axis,
 }
 
-// An operation with its fold and axis, or what is wrong with the token.
+// An operation with its fold and axis, or what is wrong with the token, and at which offset in it.
 pub enum ParsedOperation {
     Operation(operation::Operation, Fold, Axis),
-    Refused(Refusal),
+    Refused(usize, Refusal),
 }
 
 // The fold that a byte spells, if it spells one.
@@ -105,6 +110,12 @@ pub enum Turn {
     NoMatrix,
 }
 
+// Classes of a run's bytes: those that may stand in it, and those that are no digit.
+pub enum RunClass {
+    Alphabet,
+    NoDigit,
+}
+
 // The translation of a run, or a digit where none may stand.
 pub enum Moved {
     By(Translation),
@@ -115,7 +126,7 @@ pub fn parse_operation(token: &[u8], previous: Previous) -> ParsedOperation
     ensures { λ r. ⌜ r ≡ operationToken (now (token .entry)) previous ⌝ }
 {
     if token.len() == 0 {
-        return ParsedOperation::Refused(Refusal::Misspelt);
+        return ParsedOperation::Refused(0, Refusal::Misspelt);
     }
     if token[0] == b'-' {
         return after_sign(&token[1..], true, previous);
@@ -126,11 +137,12 @@ pub fn parse_operation(token: &[u8], previous: Previous) -> ParsedOperation
 fn after_sign(token: &[u8], negative: bool, previous: Previous) -> ParsedOperation
     ensures { λ r. ⌜ r ≡ operationOfParts (readFold negative (now (token .entry))) previous ⌝ }
 {
+    let sign = sign_length(negative);
     if token.len() == 0 {
-        return ParsedOperation::Refused(Refusal::Misspelt);
+        return ParsedOperation::Refused(sign, Refusal::Misspelt);
     }
     let FoldByte::Is(fold) = fold_of(token[0]) else {
-        return ParsedOperation::Refused(Refusal::Misspelt);
+        return ParsedOperation::Refused(sign, Refusal::Misspelt);
     };
     after_fold(&token[1..], negative, fold, previous)
 }
@@ -179,20 +191,25 @@ fn after_letter(
 ) -> ParsedOperation
     ensures { λ r. ⌜ r ≡ operationOfParts (readRun negative fold mark letter (now (run .entry))) previous ⌝ }
 {
+    let start = run_start(negative, mark, letter);
     if !spelt(run) {
-        return ParsedOperation::Refused(Refusal::Misspelt);
+        let foreign = passing(run, RunClass::Alphabet);
+        let at = start + foreign;
+        return ParsedOperation::Refused(at, Refusal::Misspelt);
     }
     if !unprimed(run) {
-        return ParsedOperation::Refused(Refusal::Primed);
+        return ParsedOperation::Refused(0, Refusal::Primed);
     }
     let SettledAxis::Settled(axis) = axis_of(fold, mark, letter, previous) else {
-        return ParsedOperation::Refused(Refusal::Unsettled);
+        return ParsedOperation::Refused(0, Refusal::Unsettled);
     };
     let Turn::Matrix(turn) = rotation_about(fold, axis) else {
-        return ParsedOperation::Refused(Refusal::Unsettled);
+        return ParsedOperation::Refused(0, Refusal::Unsettled);
     };
     let Moved::By(translation) = translation_of(fold, axis, run) else {
-        return ParsedOperation::Refused(Refusal::Digit);
+        let digit = wrong_digit(fold, axis, run);
+        let at = start + digit;
+        return ParsedOperation::Refused(at, Refusal::Digit);
     };
     let rotation = with_sign(negative, turn);
     ParsedOperation::Operation(

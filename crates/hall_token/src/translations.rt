@@ -15,7 +15,7 @@ use super::bytes::fold_number;
 use super::bytes::run_byte;
 use operation::Translation;
 
-fn may_stand(byte: RunByte) -> bool
+pub(crate) fn may_stand(byte: RunByte) -> bool
     ensures { λ r. ⌜ r ≡ mayStand byte ⌝ }
 {
     match byte {
@@ -26,7 +26,7 @@ fn may_stand(byte: RunByte) -> bool
     }
 }
 
-fn no_screw(byte: RunByte) -> bool
+pub(crate) fn no_screw(byte: RunByte) -> bool
     ensures { λ r. ⌜ r ≡ noScrew byte ⌝ }
 {
     match byte {

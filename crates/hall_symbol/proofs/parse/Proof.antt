@@ -10,7 +10,7 @@ use Rattle.hall_symbol.specs.Bytes.{opening}
 use Rattle.hall_symbol.specs.Tokens.{tokensFrom}
 use Rattle.hall_symbol.specs.Listed.{listOf, pushed-slot}
 use Rattle.hall_symbol.specs.Reader.{answerOf, operations, noPrevious}
-use Rattle.hall_symbol.specs.Walk.{Reached, reached-word, reached-some, reached-end, reached-shift, reached-ninth, reached-rotation}
+use Rattle.hall_symbol.specs.Walk.{Reached, reached-word, reached-some, reached-end, reached-shift, reached-ninth, reached-rotation, reached-offset}
 use borrow.Author.Needs.{needs}
 use Rattle.hall_symbol.proofs.parse.Statement.{statement}
 use Rattle.hall_symbol.proofs.parse.Tie as tie
@@ -85,8 +85,8 @@ element-set-from-o c = search needs
 add-list : tie.Need-add-list Inv-loop μ-loop
 add-list c = omega arith
 
-add-t27 : tie.Need-add-t27 Inv-loop μ-loop
-add-t27 c = omega arith
+add-count : tie.Need-add-count Inv-loop μ-loop
+add-count c = omega arith
 
 loop-less : tie.Need-loop-less Inv-loop μ-loop
 loop-less c =
@@ -114,6 +114,12 @@ loop-again c =
 enum-known-parsed-2 : tie.Need-enum-known-parsed-2 Inv-loop μ-loop
 enum-known-parsed-2 c = search needs
 
+add-place : tie.Need-add-place Inv-loop μ-loop
+add-place c =
+    let reached = c .before .before .before .before .before .before .before .before .before .before .before .loop .inv in
+    let there = reached-offset reached (c .before .before .before .before .before .before .before .before .before .before .next-word .ensures) _ _ (sym (c .before .parsed2 .given .1) ∙ c .before .before .before .parse-operation .ensures) in
+    omega (arith, there)
+
 refused-requires-2 : tie.Need-refused-requires-2 Inv-loop μ-loop
 refused-requires-2 c κs = search needs
 
@@ -121,7 +127,7 @@ returns-4 : tie.Need-returns-4 Inv-loop μ-loop
 unfolding opening
 returns-4 c =
     c .refused2 .ensures
-    ∙ ap answerOf (sym (reached-rotation (c .before .before .before .before .before .before .before .before .before .before .before .before .loop .inv) (c .before .before .before .before .before .before .before .before .before .before .before .next-word .ensures) (c .before .before .before .before .before .before .before .before .before .before .if1 .left) (ne-eqb _ _ (c .before .before .before .before .before .before .before .before .if2 .left)) (c .before .before .before .before .before .before .if3 .left) (IsRefused _) (sym (c .before .before .parsed2 .given .1) ∙ c .before .before .before .before .parse-operation .ensures)))
+    ∙ ap answerOf (sym (reached-rotation (c .before .before .before .before .before .before .before .before .before .before .before .before .loop .inv) (c .before .before .before .before .before .before .before .before .before .before .before .next-word .ensures) (c .before .before .before .before .before .before .before .before .before .before .if1 .left) (ne-eqb _ _ (c .before .before .before .before .before .before .before .before .if2 .left)) (c .before .before .before .before .before .before .if3 .left) (IsRefused _ _) (sym (c .before .before .parsed2 .given .1) ∙ c .before .before .before .before .parse-operation .ensures)))
 
 pub parse-spec : {M : Type 1} → statement M
 parse-spec =
@@ -147,9 +153,10 @@ parse-spec =
     mul-o
     element-set-from-o
     add-list
-    add-t27
+    add-count
     loop-less
     loop-again
     enum-known-parsed-2
+    add-place
     refused-requires-2
     returns-4)

@@ -5,9 +5,14 @@ use borrow.Author.Needs.{needs}
 use Rattle.hall_token.proofs.after_sign.Statement.{statement}
 use Rattle.hall_token.proofs.after_sign.Tie as tie
 
+sign-length-requires : tie.Need-sign-length-requires
+sign-length-requires c κs = search needs
+
 returns : tie.Need-returns
 unfolding operationOfParts
-returns c = rw (fold-nothing (c .before .before .args .negative) (c .before .before .args .token .now) (c .if1 .taken))
+returns c =
+    let args = c .before .before .before .args in
+    rw (fold-nothing (args .negative) (args .token .now) (c .if1 .taken), c .before .sign-length .ensures)
 
 shared-slice-read-fold-of : tie.Need-shared-slice-read-fold-of
 shared-slice-read-fold-of c = search needs
@@ -24,10 +29,11 @@ enum-told c = search needs
 returns-2 : tie.Need-returns-2
 unfolding operationOfParts
 returns-2 c =
-    let args = c .before .before .before .before .before .before .args in
+    let args = c .before .before .before .before .before .before .before .args in
+    let sign-length = c .before .before .before .before .before .sign-length in
     let if1 = c .before .before .before .before .if1 in
     let fold-of = c .before .before .fold-of in
-    rw (fold-other (args .negative) (args .token .now) (fold-of .result) (if1 .left) (fold-of .ensures) (c .enum-told .given .1))
+    rw (fold-other (args .negative) (args .token .now) (fold-of .result) (if1 .left) (fold-of .ensures) (c .enum-told .given .1), sign-length .ensures)
 
 sub-after-fold : tie.Need-sub-after-fold
 sub-after-fold c = search needs
@@ -44,7 +50,7 @@ after-fold-requires c κs = search needs
 returns-3 : tie.Need-returns-3
 unfolding operationOfParts
 returns-3 c =
-    let args = c .before .before .before .before .before .before .before .before .before .args in
+    let args = c .before .before .before .before .before .before .before .before .before .before .args in
     let if1 = c .before .before .before .before .before .before .before .if1 in
     let fold-of = c .before .before .before .before .before .fold-of in
     let fold = c .before .before .before .fold in
@@ -54,6 +60,7 @@ pub after-sign-spec : {M : Type 1} → statement M
 after-sign-spec =
     tie.close
     (tie.spec
+    sign-length-requires
     returns
     shared-slice-read-fold-of
     fold-of-requires
