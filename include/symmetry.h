@@ -78,6 +78,7 @@ enum symmetry_refusal {
     SYMMETRY_SHIFT_MALFORMED = 9,   /* the shift of origin is not three numbers 0 to 11 in brackets at the end; at its opening bracket */
     SYMMETRY_NO_ROTATION = 10,      /* no N token; at the opening bracket, or at the text's length */
     SYMMETRY_TOO_MANY_TOKENS = 11,  /* a ninth N token; at that token */
+    SYMMETRY_LETTER_DOUBLED = 17,   /* a letter a b c n u v w d twice in one N token; at the first that repeats an earlier one */
     /* The generators that a symbol spells. */
     SYMMETRY_LATTICE_NOT_KEPT = 12, /* a generator does not map the centred lattice onto itself; at its index from 0 */
     SYMMETRY_TOO_MANY_ROTATIONS = 13, /* over 48 rotations, or one with an entry outside -1..1; at 0 */

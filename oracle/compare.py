@@ -116,6 +116,7 @@ ACCEPTED_THOUGH = {
     11: lambda text, found: len(n_words(text)) > 8,
     12: unchecked_list,
     14: unchecked_list,
+    17: lambda text, found: any(re.search(r"([abcnuvwd]).*\1", word) for word in n_words(text)),
 }
 
 # Lines of data/hall_symbol.rs where input can make the original panic; build.sh checks that the file is that file.

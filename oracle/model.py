@@ -140,10 +140,11 @@ def read_shift(text, place):
 
 
 def read_n_token(token, place, before):
-    """Rotation, translation, fold and axis of one N token, given those before it; refusals 5, 8, 6 and 7.
+    """Rotation, translation, fold and axis of one N token, given those before it; refusals 5, 8, 6, 7 and 17.
 
     By 02 (v) the place of 5 is the first byte that no N token has after the bytes before it, or the token's end where it
-    breaks off, and the place of 7 is the digit's; 6 and 8 are told of the token's start."""
+    breaks off, and the place of 7 is the digit's; 6 and 8 are told of the token's start.
+    By 02 (viii) a letter that occurs twice is refused 17, after 7, at the first byte that repeats an earlier one."""
     spelt = N_TOKEN.fullmatch(token)
     if spelt is None:
         good = [length for length in range(len(token) + 1) if N_TOKEN_START.fullmatch(token[:length])]
@@ -167,6 +168,9 @@ def read_n_token(token, place, before):
             translation = plus(translation, (0, 0, 12 * digit // int(fold)))
         else:
             translation = plus(translation, TRANSLATIONS[character])
+    for position, character in enumerate(run):
+        if character in TRANSLATIONS and character in run[:position]:
+            raise Refusal(17, place + spelt.start(5) + position)
     return rotation, translation, fold, axis
 
 
@@ -679,7 +683,7 @@ def z_translations(text):
 def example_symbols():
     """(name, what the model says, what 01 says) for the symbols of "Symbols to try"."""
     cases = [
-        (b"P 1", 1), (b"-P 1", 2), (b"P 1a", (14, 0)), (b"P 2w", (14, 0)), (b"P 2a1", (7, 4)), (b"P 1x", (6, 2)),
+        (b"P 1", 1), (b"-P 1", 2), (b"P 1a", (14, 0)), (b"P 2w", (14, 0)), (b"P 2a1", (7, 4)), (b"P 2aa", (17, 4)), (b"P 2ab", 2), (b"P 1x", (6, 2)),
         (b"P 3* 2^", (6, 5)), (b"R 2", (12, 0)), (b"P 4 6", (13, 0)), (b"P", (10, 1)), (b"", (3, 0)),
         (b"P 4w", 4), (b"A 4", (12, 0)), (b"P 3 2x", (13, 0)), (b"P 2 (0 0 11)", 2), (b"P 2 (0 0 12)", (9, 4)),
         (b"P 2'", (8, 2)), (b"H 3", (4, 0)), (b"-P 2ac 2n", 8), (b"-F 4 2 3", 48), (b"-P 4 2 3", 48),

@@ -185,7 +185,7 @@ static void symbols(void) {
     expect(symmetry_refused(flip) == 0 && symmetry_number(flip) == 0, "a value, taken apart", flip);
 }
 
-/* Where a misspelt token or a wrong digit is pointed at, worked out by hand; told by every function that takes a symbol's text. */
+/* Where a misspelt token, a wrong digit or a doubled letter is pointed at, worked out by hand; told by every function that takes a symbol's text. */
 static void pointed(void) {
     static const struct { const char *text; unsigned number, place; } cases[] = {
         { "P -", 5, 3 }, { "P - 2", 5, 3 }, { "P 5", 5, 2 }, { "P 0", 5, 2 }, { "P x", 5, 2 }, { "P ^2", 5, 2 }, { "P +2", 5, 2 }, { "P )", 5, 2 },
@@ -195,6 +195,9 @@ static void pointed(void) {
         { "P 2a1q", 5, 5 }, { "P 1 2", 6, 4 }, { "P 2a1", 7, 4 }, { "P 211", 7, 4 }, { "P 412", 7, 4 }, { "P 21a1", 7, 5 }, { "P 22", 7, 3 },
         { "P 33", 7, 3 }, { "P 66", 7, 3 }, { "P 11", 7, 3 }, { "P 26a1", 7, 3 }, { "P 2x1", 7, 4 }, { "P 2^1", 7, 4 }, { "P 3*1", 7, 4 },
         { "P 2xa1", 7, 5 }, { "P 4ab12", 7, 5 }, { "P 2 21", 7, 5 }, { "P 2'1", 8, 2 },
+        /* a letter twice in one token */
+        { "P 2aa", 17, 4 }, { "P 2abab", 17, 5 }, { "P 2abba", 17, 5 }, { "P 21aa", 17, 5 }, { "P 1aa", 17, 4 }, { "R 2aa", 17, 4 },
+        { "P 2aa1", 7, 5 }, { "P 2aaq", 5, 5 }, { "P 2aa'", 8, 2 }, { "P 1xaa", 6, 2 }, { "P 2 2aa 5", 17, 6 },
     };
     for (size_t i = 0; i < sizeof cases / sizeof *cases; i++) {
         const uint8_t *text = (const uint8_t *)cases[i].text;
@@ -208,6 +211,8 @@ static void pointed(void) {
         answers(symmetry_symbol_identity(text, length), told, cases[i].text);
         answers(symmetry_symbol_subgroups(text, length, out, ROOM), told, cases[i].text);
     }
+    answers(symmetry_symbol_order(TEXT("P 2ab")), 2, "two letters");
+    answers(symmetry_symbol_order(TEXT("P 2nabc")), 2, "letters that add up to nothing");
     uint8_t last[80];
     memset(last, ' ', sizeof last);
     memcpy(last, "P 1", 3);

@@ -42,14 +42,14 @@ for (fold, mark, axis), matrix in model.MATRICES.items():
 
 
 def letters_for(triple, noise):
-    """Translation letters that add up to a triple of multiples of three, in any order; None for other triples."""
+    """Translation letters, each once, that add up to a triple of multiples of three, in any order; None for other triples."""
     if any(part % 3 for part in triple):
         return None
     run = ""
     for part, (half, quarter) in zip(triple, ("au", "bv", "cw")):
         run += {0: "", 3: quarter, 6: half, 9: half + quarter}[part]
-    if noise.below(4) == 0:
-        run += noise.chance.choice(("aa", "bb", "cc", "abcn"))
+    if noise.below(4) == 0 and not set(run) & set("abc"):
+        run += "abcn"
     return "".join(noise.chance.sample(run, len(run)))
 
 

@@ -129,7 +129,7 @@ pub record Next (text : List ℕ) (previous : Previous) (place : ℕ) (t after :
   pub cut : Cut s w t after
   pub stands : place ≡ p + length w
 
--- 5, 6, 7, 8: the first N token that is no operation, and is not the ninth; its own refusal says what is wrong with it, and at which offset. The
+-- 5, 6, 7, 8, 17: the first N token that is no operation, and is not the ninth; its own refusal says what is wrong with it, and at which offset. The
 -- place is so far behind the token's start.
 pub record TokenRefused (text : List ℕ) (place : ℕ) (r : token.Refusal) : Type 0 where
   pub previous : Previous

@@ -1,4 +1,4 @@
--- Refusals 1 to 11 by 01's numbers and places, each exactly when its rule holds of the text; number and place determine the refusal.
+-- Refusals 1 to 11 by 01's numbers and places, and 17 by 02's, each exactly when its rule holds of the text; number and place determine the refusal.
 use mathlib.Core.Path.{_≡_, refl, sym, _∙_, ap}
 use mathlib.Core.Logic.{_↔_}
 use mathlib.Core.Bool.{cond}
@@ -13,7 +13,7 @@ use Rattle.hall_token.specs.Answers.{refused-within}
 use Rattle.hall_token.specs.Refusals as token
 use Rattle.hall_token.specs.declared.Previous.{Previous}
 use Rattle.hall_token.specs.declared.refusal.Refusal as token-refusal
-use Rattle.hall_token.specs.declared.refusal.Refusal.the-variants.{Misspelt, Primed, Unsettled, Digit}
+use Rattle.hall_token.specs.declared.refusal.Refusal.the-variants.{Misspelt, Primed, Unsettled, Digit, Doubled}
 use Rattle.hall_symbol.specs.Bytes.{whitespace}
 use Rattle.hall_symbol.specs.Runs.{Every}
 use Rattle.hall_symbol.specs.Reader.{refusal, readSymbol, answerOf}
@@ -38,7 +38,8 @@ refusalAt n k =
     (cond (eqb n 7) (Token k Digit)
     (cond (eqb n 8) (Token k Primed)
     (cond (eqb n 9) (Shift k)
-    (cond (eqb n 10) (NoRotation k) (TooMany k))))))))))
+    (cond (eqb n 10) (NoRotation k)
+    (cond (eqb n 11) (TooMany k) (Token k Doubled)))))))))))
 
 refusal-back : (r : Refusal) → refusalAt (numberOf r) (placeOf r) ≡ r
 unfolding refusalAt
@@ -50,6 +51,7 @@ refusal-back (Token p Misspelt) = refl
 refusal-back (Token p Unsettled) = refl
 refusal-back (Token p Digit) = refl
 refusal-back (Token p Primed) = refl
+refusal-back (Token p Doubled) = refl
 refusal-back (Shift p) = refl
 refusal-back (NoRotation p) = refl
 refusal-back (TooMany p) = refl
@@ -126,6 +128,10 @@ module _ (text : List ℕ) (k : ℕ) where
   pub eleven-exactly : Tells (answerOf (readSymbol text)) 11 k ↔ NinthRotation text k
   eleven-exactly = tells-exactly text (TooMany k)
 
+  -- 17: a letter twice in an N token, at the first that repeats an earlier one.
+  pub seventeen-exactly : Tells (answerOf (readSymbol text)) 17 k ↔ TokenRefused text k Doubled
+  seventeen-exactly = tells-exactly text (Token k Doubled)
+
 -- ---- how large they are
 -- A number has one digit or two.
 token-number : (r : token-refusal.Refusal) → (1 ≤ token.numberOf r) × (token.numberOf r ≤ 99)
@@ -133,6 +139,7 @@ token-number Misspelt = (omega arith, omega arith)
 token-number Unsettled = (omega arith, omega arith)
 token-number Digit = (omega arith, omega arith)
 token-number Primed = (omega arith, omega arith)
+token-number Doubled = (omega arith, omega arith)
 
 pub number-range : (r : Refusal) → (1 ≤ numberOf r) × (numberOf r ≤ 99)
 number-range TooLong = (omega arith, omega arith)

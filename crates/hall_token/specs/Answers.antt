@@ -8,7 +8,7 @@ use Prim.Native.Nat.{ℕ, zero, suc, _+_, _<_, _≤_}
 use native.Mathlib.Omega.{arith}
 use lib.ListN.{length, length-append}
 use lib.Dec.{eqb, ltb, leb}
-use borrow.Author.Tests.{eqb-true, ltb-true, leb-true, lt-ltb}
+use borrow.Author.Tests.{eqb-true, ltb-true, ltb-false, leb-true, lt-ltb}
 use Rattle.operation.specs.Meaning.{Digits}
 use Rattle.operation.specs.declared.Rotation.{Rotation}
 use Rattle.operation.specs.declared.Operation as operation
@@ -31,7 +31,7 @@ use Rattle.hall_token.specs.declared.Moved.the-variants.{By, WrongDigit}
 use Rattle.hall_token.specs.declared.ParsedOperation.{ParsedOperation}
 use Rattle.hall_token.specs.declared.ParsedOperation.the-variants.{Operation, Refused}
 use Rattle.hall_token.specs.declared.refusal.Refusal.{Refusal}
-use Rattle.hall_token.specs.declared.refusal.Refusal.the-variants.{Misspelt, Primed, Unsettled, Digit}
+use Rattle.hall_token.specs.declared.refusal.Refusal.the-variants.{Misspelt, Primed, Unsettled, Digit, Doubled}
 use Rattle.hall_token.specs.Bytes.{runBytes, runByteOf, valueAt, passes, valueAt-passes, foldNumber}
 use Rattle.hall_token.specs.Runs.{every, noPrime, noScrew, every-member, member-every, every-fails, prime-byte, prime-here, no-prime-here}
 use Rattle.hall_token.specs.Axes.{plain, axisOf}
@@ -39,7 +39,8 @@ use Rattle.hall_token.specs.AxisRules.{Settles, settles-exact}
 use Rattle.hall_token.specs.Matrices.{turnOf, signed}
 use Rattle.hall_token.specs.Turns.{turn-rule, signed-digits}
 use Rattle.hall_token.specs.Translations.{plainZ, screwRight, frontRight, digitsRight, translationOf, movedBy}
-use Rattle.hall_token.specs.Reader.{Parts, parts, no-parts, readToken, movedThen, turnThen, axisThen, operationOfParts, operationToken, readFold}
+use Rattle.hall_token.specs.Reader.{Parts, parts, no-parts, readToken, onceThen, movedThen, turnThen, axisThen, operationOfParts, operationToken, readFold}
+use Rattle.hall_token.specs.RunLetters.{letters, Repeated, FirstRepeated, repeatAt, repeat-found, repeat-none}
 use Rattle.hall_token.specs.Refusals.{numberOf, number-once}
 use Rattle.hall_token.specs.Offsets.{signLength, markLength, letterLength, runStart, passing, wrongDigitAt, FirstFails, first-fails, passing-before}
 use Rattle.hall_token.specs.Spelling.{signBytes, foldByte, markBytes, letterBytes, read-exact}
@@ -95,12 +96,17 @@ IsUnsettled token p = (s : Spelling token) × ¬ (HasPrime s) × ¬ (Turning s p
 abbrev pub HasWrongDigit : List ℕ → Previous → ℕ → Type 0
 HasWrongDigit token p k = (s : Spelling token) × ¬ (HasPrime s) × (t : Turning s p) × (i : ℕ) × FirstDigitWrong (s .fold) (t .about) (s .run) i × InRun s i k
 
+-- Refusal 17: no wrong digit, and at offset k the first letter that repeats an earlier one.
+abbrev pub HasRepeat : List ℕ → Previous → ℕ → Type 0
+HasRepeat token p k = (s : Spelling token) × ¬ (HasPrime s) × (t : Turning s p) × ¬ (DigitWrong (s .fold) (t .about) (s .run)) × (i : ℕ) × FirstRepeated (s .run) i × InRun s i k
+
 -- Read: the token's fold and settled axis, the matrix with its sign, and the translation of its run.
 pub record IsOperation (token : List ℕ) (p : Previous) (o : operation.Operation) (f : Fold) (a : Axis) : Type 0 where
   pub spelling : Spelling token
   pub unprimed : ¬ (HasPrime spelling)
   pub turning : Turning spelling p
   pub digits : ¬ (DigitWrong (spelling .fold) (turning .about) (spelling .run))
+  pub once : ¬ (Repeated (spelling .run))
   pub is-fold : f ≡ spelling .fold
   pub is-axis : a ≡ turning .about
   pub is-operation : o ≡ record { rotation = signed (spelling .negative) (turning .rotation); translation = translationOf (spelling .fold) (spelling .run) }
@@ -111,6 +117,7 @@ Refuses token p k Misspelt = IsMisspelt token k
 Refuses token p k Primed = (k ≡ 0) × IsPrimed token
 Refuses token p k Unsettled = (k ≡ 0) × IsUnsettled token p
 Refuses token p k Digit = HasWrongDigit token p k
+Refuses token p k Doubled = HasRepeat token p k
 
 -- The same of an answer.
 abbrev pub Answers : List ℕ → Previous → ParsedOperation → Type 0
@@ -313,21 +320,30 @@ in-run-once {token} s i k (front, split, place) =
 
 -- ---- the reader's answer holds
 
-moved-holds : (token : List ℕ) (p : Previous) (s : Spelling token) → ¬ (HasPrime s) → (t : Turning s p) → Answers token p (movedThen (startOf s + wrongDigitAt (s .fold) (t .about) (s .run)) (s .negative) (s .fold) (t .about) (t .rotation) (movedBy (s .fold) (t .about) (s .run)))
-unfolding movedThen movedBy
-moved-holds token p s u t = go (digitsRight (s .fold) (t .about) (s .run)) refl
+once-holds : (token : List ℕ) (p : Previous) (s : Spelling token) → ¬ (HasPrime s) → (t : Turning s p) → ¬ (DigitWrong (s .fold) (t .about) (s .run)) → Answers token p (onceThen (startOf s) (s .run) (Operation (record { rotation = signed (s .negative) (t .rotation); translation = translationOf (s .fold) (s .run) }) (s .fold) (t .about)))
+unfolding onceThen
+once-holds token p s u t d = go (ltb (repeatAt (s .run)) (length (s .run))) refl
   where
-    go : (b : Bool) → digitsRight (s .fold) (t .about) (s .run) ≡ b → Answers token p (movedThen (startOf s + wrongDigitAt (s .fold) (t .about) (s .run)) (s .negative) (s .fold) (t .about) (t .rotation) (cond b (By (translationOf (s .fold) (s .run))) WrongDigit))
-    go true h =
+    go : (b : Bool) → ltb (repeatAt (s .run)) (length (s .run)) ≡ b → Answers token p (cond b (Refused (startOf s + repeatAt (s .run)) Doubled) (Operation (record { rotation = signed (s .negative) (t .rotation); translation = translationOf (s .fold) (s .run) }) (s .fold) (t .about)))
+    go true h = (s, u, t, d, repeatAt (s .run), repeat-found (s .run) (ltb-true (repeatAt (s .run)) (length (s .run)) h), in-run s (repeatAt (s .run)))
+    go false h =
         record {
           spelling = s;
           unprimed = u;
           turning = t;
-          digits = none-wrong (s .fold) (t .about) (s .run) h;
+          digits = d;
+          once = repeat-none (s .run) (ltb-false (repeatAt (s .run)) (length (s .run)) h);
           is-fold = refl;
           is-axis = refl;
           is-operation = refl;
         }
+
+moved-holds : (token : List ℕ) (p : Previous) (s : Spelling token) → ¬ (HasPrime s) → (t : Turning s p) → Answers token p (movedThen (startOf s) (s .negative) (s .fold) (t .about) (s .run) (t .rotation) (movedBy (s .fold) (t .about) (s .run)))
+unfolding movedThen movedBy
+moved-holds token p s u t = go (digitsRight (s .fold) (t .about) (s .run)) refl
+  where
+    go : (b : Bool) → digitsRight (s .fold) (t .about) (s .run) ≡ b → Answers token p (movedThen (startOf s) (s .negative) (s .fold) (t .about) (s .run) (t .rotation) (cond b (By (translationOf (s .fold) (s .run))) WrongDigit))
+    go true h = once-holds token p s u t (none-wrong (s .fold) (t .about) (s .run) h)
     go false h =
         let i = wrongDigitAt (s .fold) (t .about) (s .run) in
         (s, u, t, i, some-wrong (s .fold) (t .about) (s .run) h, in-run s i)
@@ -396,7 +412,7 @@ primed-answer token p s h = spelt-answer token p s ∙ go (every noPrime (s .run
 unprimed-answer : (token : List ℕ) (p : Previous) (s : Spelling token) → ¬ (HasPrime s) → operationToken token p ≡ axisThen (startOf s) (s .negative) (s .fold) (s .run) (axisOf (s .fold) (s .mark) (s .letter) p)
 unprimed-answer token p s u = spelt-answer token p s ∙ rw (no-prime (s .run) u)
 
-turning-answer : (token : List ℕ) (p : Previous) (s : Spelling token) → ¬ (HasPrime s) → (t : Turning s p) → operationToken token p ≡ movedThen (startOf s + wrongDigitAt (s .fold) (t .about) (s .run)) (s .negative) (s .fold) (t .about) (t .rotation) (movedBy (s .fold) (t .about) (s .run))
+turning-answer : (token : List ℕ) (p : Previous) (s : Spelling token) → ¬ (HasPrime s) → (t : Turning s p) → operationToken token p ≡ movedThen (startOf s) (s .negative) (s .fold) (t .about) (s .run) (t .rotation) (movedBy (s .fold) (t .about) (s .run))
 unfolding axisThen turnThen
 turning-answer token p s u t =
     unprimed-answer token p s u
@@ -419,20 +435,39 @@ digit-answer : (token : List ℕ) (p : Previous) (k : ℕ) → HasWrongDigit tok
 unfolding movedThen movedBy
 digit-answer token p k (s, u, t, i, w, run) = turning-answer token p s u t ∙ go (digitsRight (s .fold) (t .about) (s .run)) refl
   where
-    go : (b : Bool) → digitsRight (s .fold) (t .about) (s .run) ≡ b → movedThen (startOf s + wrongDigitAt (s .fold) (t .about) (s .run)) (s .negative) (s .fold) (t .about) (t .rotation) (cond b (By (translationOf (s .fold) (s .run))) WrongDigit) ≡ Refused k Digit
+    go : (b : Bool) → digitsRight (s .fold) (t .about) (s .run) ≡ b → movedThen (startOf s) (s .negative) (s .fold) (t .about) (s .run) (t .rotation) (cond b (By (translationOf (s .fold) (s .run))) WrongDigit) ≡ Refused k Digit
     go true h = absurd (none-wrong (s .fold) (t .about) (s .run) h (w .digit))
     go false h =
         let own = some-wrong (s .fold) (t .about) (s .run) h in
         let same : i ≡ wrongDigitAt (s .fold) (t .about) (s .run) = omega (arith, w .first (own .digit), own .place, own .first (w .digit), w .place) in
         ap (λ (o : ℕ). Refused o Digit) (ap (λ (o : ℕ). startOf s + o) (sym same) ∙ in-run-once s i k run)
 
-moved-answer : (token : List ℕ) (p : Previous) (s : Spelling token) → ¬ (HasPrime s) → (t : Turning s p) → ¬ (DigitWrong (s .fold) (t .about) (s .run)) → operationToken token p ≡ Operation (record { rotation = signed (s .negative) (t .rotation); translation = translationOf (s .fold) (s .run) }) (s .fold) (t .about)
+right-answer : (token : List ℕ) (p : Previous) (s : Spelling token) → ¬ (HasPrime s) → (t : Turning s p) → ¬ (DigitWrong (s .fold) (t .about) (s .run)) → operationToken token p ≡ onceThen (startOf s) (s .run) (Operation (record { rotation = signed (s .negative) (t .rotation); translation = translationOf (s .fold) (s .run) }) (s .fold) (t .about))
 unfolding movedThen movedBy
-moved-answer token p s u t w = turning-answer token p s u t ∙ go (digitsRight (s .fold) (t .about) (s .run)) refl
+right-answer token p s u t w = turning-answer token p s u t ∙ go (digitsRight (s .fold) (t .about) (s .run)) refl
   where
-    go : (b : Bool) → digitsRight (s .fold) (t .about) (s .run) ≡ b → movedThen (startOf s + wrongDigitAt (s .fold) (t .about) (s .run)) (s .negative) (s .fold) (t .about) (t .rotation) (cond b (By (translationOf (s .fold) (s .run))) WrongDigit) ≡ Operation (record { rotation = signed (s .negative) (t .rotation); translation = translationOf (s .fold) (s .run) }) (s .fold) (t .about)
+    go : (b : Bool) → digitsRight (s .fold) (t .about) (s .run) ≡ b → movedThen (startOf s) (s .negative) (s .fold) (t .about) (s .run) (t .rotation) (cond b (By (translationOf (s .fold) (s .run))) WrongDigit) ≡ onceThen (startOf s) (s .run) (Operation (record { rotation = signed (s .negative) (t .rotation); translation = translationOf (s .fold) (s .run) }) (s .fold) (t .about))
     go true h = refl
     go false h = absurd (w (some-wrong (s .fold) (t .about) (s .run) h .digit))
+
+moved-answer : (token : List ℕ) (p : Previous) (s : Spelling token) → ¬ (HasPrime s) → (t : Turning s p) → ¬ (DigitWrong (s .fold) (t .about) (s .run)) → ¬ (Repeated (s .run)) → operationToken token p ≡ Operation (record { rotation = signed (s .negative) (t .rotation); translation = translationOf (s .fold) (s .run) }) (s .fold) (t .about)
+unfolding onceThen
+moved-answer token p s u t w once = right-answer token p s u t w ∙ go (ltb (repeatAt (s .run)) (length (s .run))) refl
+  where
+    go : (b : Bool) → ltb (repeatAt (s .run)) (length (s .run)) ≡ b → cond b (Refused (startOf s + repeatAt (s .run)) Doubled) (Operation (record { rotation = signed (s .negative) (t .rotation); translation = translationOf (s .fold) (s .run) }) (s .fold) (t .about)) ≡ Operation (record { rotation = signed (s .negative) (t .rotation); translation = translationOf (s .fold) (s .run) }) (s .fold) (t .about)
+    go true h = absurd (once (repeat-found (s .run) (ltb-true (repeatAt (s .run)) (length (s .run)) h) .repeated))
+    go false h = refl
+
+repeat-answer : (token : List ℕ) (p : Previous) (k : ℕ) → HasRepeat token p k → operationToken token p ≡ Refused k Doubled
+unfolding onceThen
+repeat-answer token p k (s, u, t, d, i, w, run) = right-answer token p s u t d ∙ go (ltb (repeatAt (s .run)) (length (s .run))) refl
+  where
+    go : (b : Bool) → ltb (repeatAt (s .run)) (length (s .run)) ≡ b → cond b (Refused (startOf s + repeatAt (s .run)) Doubled) (Operation (record { rotation = signed (s .negative) (t .rotation); translation = translationOf (s .fold) (s .run) }) (s .fold) (t .about)) ≡ Refused k Doubled
+    go true h =
+        let own = repeat-found (s .run) (ltb-true (repeatAt (s .run)) (length (s .run)) h) in
+        let same : i ≡ repeatAt (s .run) = omega (arith, w .first (own .repeated), own .place, own .first (w .repeated), w .place) in
+        ap (λ (o : ℕ). Refused o Doubled) (ap (λ (o : ℕ). startOf s + o) (sym same) ∙ in-run-once s i k run)
+    go false h = absurd (repeat-none (s .run) (ltb-false (repeatAt (s .run)) (length (s .run)) h) (w .repeated))
 
 misspelt-answer : (token : List ℕ) (p : Previous) (k : ℕ) → IsMisspelt token k → operationToken token p ≡ Refused k Misspelt
 unfolding operationToken operationOfParts
@@ -444,11 +479,12 @@ misspelt-answer token p k w = go (readToken token) refl
     go (no-parts j) h = ap (λ (o : ℕ). Refused o Misspelt) (first-unique Spelling token j k (offending token j h) w)
 
 holds-answer : (token : List ℕ) (p : Previous) (r : ParsedOperation) → Answers token p r → operationToken token p ≡ r
-holds-answer token p (Operation o f a) h = rw (h .is-fold, h .is-axis, h .is-operation) (moved-answer token p (h .spelling) (h .unprimed) (h .turning) (h .digits))
+holds-answer token p (Operation o f a) h = rw (h .is-fold, h .is-axis, h .is-operation) (moved-answer token p (h .spelling) (h .unprimed) (h .turning) (h .digits) (h .once))
 holds-answer token p (Refused k Misspelt) h = misspelt-answer token p k h
 holds-answer token p (Refused k Primed) h = rw (h .0) (primed-answer token p (h .1 .0) (h .1 .1))
 holds-answer token p (Refused k Unsettled) h = rw (h .0) (unsettled-answer token p (h .1 .0) (h .1 .1) (h .1 .2))
 holds-answer token p (Refused k Digit) h = digit-answer token p k h
+holds-answer token p (Refused k Doubled) h = repeat-answer token p k h
 
 -- ---- the two are one
 
@@ -488,6 +524,9 @@ module _ (token : List ℕ) (p : Previous) (k : ℕ) where
   pub eight-exactly : Tells (operationToken token p) 8 k ↔ ((k ≡ 0) × IsPrimed token)
   eight-exactly = tells-exactly Primed
 
+  pub seventeen-exactly : Tells (operationToken token p) 17 k ↔ HasRepeat token p k
+  seventeen-exactly = tells-exactly Doubled
+
 -- An offset lies in the token, or is its length.
 pub refused-within : (token : List ℕ) (p : Previous) (k : ℕ) (r : Refusal) → Refuses token p k r → k ≤ length token
 refused-within token p k Misspelt h = h .within
@@ -498,6 +537,17 @@ refused-within token p k Digit (s, u, t, i, w, (front, split, place)) =
     let whole = ap length split ∙ length-append front (s .run) in
     let within = ap length (d .split) ∙ length-append (d .before) ((48 + d .digit) ∷ d .after) in
     omega (arith, w .place)
+refused-within token p k Doubled (s, u, t, d, i, w, (front, split, place)) =
+    let r = w .repeated in
+    let whole = ap length split ∙ length-append front (s .run) in
+    let within = ap length (r .split) ∙ length-append (r .before) (r .byte ∷ r .after) in
+    omega (arith, w .place)
+
+-- An accepted token has each letter at most once.
+pub once-each : (token : List ℕ) (p : Previous) (o : operation.Operation) (f : Fold) (a : Axis) → operationToken token p ≡ Operation o f a → (s : Spelling token) × ((before : List ℕ) (b : ℕ) (after : List ℕ) → s .run ≡ before ++ (b ∷ after) → Mem b letters → ¬ (Mem b before))
+once-each token p o f a e =
+    let h = answers-exact token p (Operation o f a) .0 e in
+    (h .spelling, λ before b after split letter again. h .once (record { before = before; byte = b; after = after; split = split; letter = letter; again = again }))
 
 -- 5 is told of the token's end exactly if the fold is missing there.
 pub missing-exactly : (token : List ℕ) (p : Previous) → Tells (operationToken token p) 5 (length token) ↔ FoldMissing token

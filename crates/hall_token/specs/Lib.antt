@@ -13,6 +13,7 @@ pub mod Packed
 pub mod Translations
 pub mod Sums
 pub mod Offsets
+pub mod RunLetters
 pub mod Refusals
 pub mod Edges
 pub mod Reader

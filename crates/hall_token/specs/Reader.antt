@@ -1,8 +1,9 @@
--- The reader of one N token by 01, "From text to generators": the token cut into its parts, then refusals 5, 8, 6, 7 in this order, then the operation.
+-- The reader of one N token by 01, "From text to generators": the token cut into its parts, then refusals 5, 8, 6, 7, 17 in this order, then the operation.
 use mathlib.Core.Bool.{Bool, true, false, cond}
 use mathlib.Core.List.{List, [], _∷_}
 use Prim.Native.Nat.{ℕ, _+_}
-use lib.Dec.{eqb}
+use lib.Dec.{eqb, ltb}
+use lib.ListN.{length}
 use Rattle.operation.specs.declared.Rotation.{Rotation}
 use Rattle.hall_token.specs.declared.Fold.{Fold}
 use Rattle.hall_token.specs.declared.FoldByte.{FoldByte}
@@ -21,13 +22,14 @@ use Rattle.hall_token.specs.declared.Moved.{Moved}
 use Rattle.hall_token.specs.declared.Moved.the-variants.{By, WrongDigit}
 use Rattle.hall_token.specs.declared.ParsedOperation.{ParsedOperation}
 use Rattle.hall_token.specs.declared.ParsedOperation.the-variants.{Operation, Refused}
-use Rattle.hall_token.specs.declared.refusal.Refusal.the-variants.{Misspelt, Primed, Unsettled, Digit}
+use Rattle.hall_token.specs.declared.refusal.Refusal.the-variants.{Misspelt, Primed, Unsettled, Digit, Doubled}
 use Rattle.hall_token.specs.Bytes.{foldOf, markOf, letterOf}
 use Rattle.hall_token.specs.Axes.{axisOf}
 use Rattle.hall_token.specs.Matrices.{turnOf, signed}
 use Rattle.hall_token.specs.Runs.{mayStand, noPrime, every}
 use Rattle.hall_token.specs.Translations.{movedBy}
 use Rattle.hall_token.specs.Offsets.{signLength, runStart, passing, wrongDigitAt}
+use Rattle.hall_token.specs.RunLetters.{repeatAt}
 
 -- ---- the parts of a token, from the left
 
@@ -74,14 +76,18 @@ readToken (b ∷ bs) = cond (eqb b 45) (readFold true bs) (readFold false (b ∷
 
 -- ---- what the parts say
 
--- With a matrix: refused 7 at a wrong digit, which stands at offset k, or the operation with its fold and axis.
-unfoldable pub movedThen : ℕ → Bool → Fold → Axis → Rotation → Moved → ParsedOperation
-movedThen k n f a r (By t) = Operation (record { rotation = signed n r; translation = t }) f a
-movedThen k n f a r WrongDigit = Refused k Digit
+-- With right digits: refused 17 where a letter repeats an earlier one, or the operation with its fold and axis. The run starts at offset s.
+unfoldable pub onceThen : ℕ → List ℕ → ParsedOperation → ParsedOperation
+onceThen s run o = cond (ltb (repeatAt run) (length run)) (Refused (s + repeatAt run) Doubled) o
 
--- With an axis: refused 6 if the fold has no matrix about it. The run starts at offset s.
+-- With a matrix: refused 7 at a wrong digit.
+unfoldable pub movedThen : ℕ → Bool → Fold → Axis → List ℕ → Rotation → Moved → ParsedOperation
+movedThen s n f a run r (By t) = onceThen s run (Operation (record { rotation = signed n r; translation = t }) f a)
+movedThen s n f a run r WrongDigit = Refused (s + wrongDigitAt f a run) Digit
+
+-- With an axis: refused 6 if the fold has no matrix about it.
 unfoldable pub turnThen : ℕ → Bool → Fold → Axis → List ℕ → Turn → ParsedOperation
-turnThen s n f a run (Matrix r) = movedThen (s + wrongDigitAt f a run) n f a r (movedBy f a run)
+turnThen s n f a run (Matrix r) = movedThen s n f a run r (movedBy f a run)
 turnThen s n f a run NoMatrix = Refused 0 Unsettled
 
 -- Refused 6 if the axis is not settled.

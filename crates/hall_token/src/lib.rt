@@ -8,6 +8,7 @@ ghost use Rattle.hall_token.specs.Reader.{operationToken, operationOfPar
 
 mod axes;
 mod bytes;
+mod letters;
 mod matrices;
 mod offsets;
 pub mod refusal;
@@ -17,6 +18,7 @@ use axes::axis_of;
 use bytes::fold_of;
 use bytes::letter_of;
 use bytes::mark_of;
+use letters::first_repeat;
 use matrices::rotation_about;
 use matrices::with_sign;
 use offsets::passing;
@@ -180,7 +182,7 @@ fn after_mark(
     after_letter(&token[1..], negative, fold, mark, letter, previous)
 }
 
-// What is left is the run. The refusals go in 01's order: 5, 8, 6, 7.
+// What is left is the run. The refusals go in this order: 5, 8, 6, 7, 17.
 fn after_letter(
     run: &[u8],
     negative: bool,
@@ -211,6 +213,11 @@ fn after_letter(
         let at = start + digit;
         return ParsedOperation::Refused(at, Refusal::Digit);
     };
+    let repeat = first_repeat(run);
+    if repeat < run.len() {
+        let at = start + repeat;
+        return ParsedOperation::Refused(at, Refusal::Doubled);
+    }
     let rotation = with_sign(negative, turn);
     ParsedOperation::Operation(
         operation::Operation {

@@ -1,5 +1,5 @@
--- What is answered for a text, by 01's numbers and places: the list, an operation or a translation exactly if the text is accepted, and each refusal, 1 to 14
--- and 28, exactly if its rule holds. Number, place and value determine the answer.
+-- What is answered for a text, by 01's numbers and places: the list, an operation or a translation exactly if the text is accepted, and each refusal, 1 to 14,
+-- 17 and 28, exactly if its rule holds. Number, place and value determine the answer.
 use mathlib.Core.Path.{_≡_, refl, sym, _∙_, ap, ap₂}
 use mathlib.Core.Logic.{_⊎_, _↔_}
 use mathlib.Core.List.{List}
@@ -18,7 +18,7 @@ use Rattle.centering.specs.declared.Centering.{Centering}
 use Rattle.hall_symbol.specs.Reader as reader
 use Rattle.hall_symbol.specs.Spelling.{Spells}
 use Rattle.hall_symbol.specs.Told as text
-use Rattle.symbol_group.specs.TextNumbers as text-limit
+use Rattle.symbol_group.specs.TextNumbers.{OfText, text-number, apart, at-most}
 use Rattle.hall_symbol.specs.Refusals as text-numbers
 use Rattle.space_group.specs.Generated.{AllKeep, FewRotations, SmallRotations, OneTranslation, Outcome, group, refused, outcomeOf}
 use Rattle.space_group_theorems.specs.Acceptance.{FirstOff, Accepted}
@@ -43,25 +43,18 @@ use Rattle.symbol_group.specs.declared.SymbolTranslation.{SymbolTranslat
 use Rattle.symbol_group.specs.declared.SymbolTranslation.the-variants.{Doubles as FoundDoubles, PastEnd as PastLast, Refused as TranslationRefused}
 
 -- ---- number, place and value
--- Numbers of a text and of generators, and both against the others.
-apart : (m n : ℕ) → m ≤ 11 → 12 ≤ n → m ≡ n → ⊥
-apart m n h k e = omega arith
-
-wider : (m : ℕ) → m ≤ 11 → m ≤ 14
-wider m h = omega arith
-
--- The numbers of a symbol's refusals are at most 14.
-pub number-limit : (r : Refusal) → numberOf r ≤ 14
-number-limit (Text r) = wider (text-numbers.numberOf r) (text-limit.number-limit r)
-number-limit (NoGroup r) = generators.number-range r .1
+-- The numbers of a symbol's refusals are at most 17.
+pub number-limit : (r : Refusal) → numberOf r ≤ 17
+number-limit (Text r) = at-most (text-numbers.numberOf r) (text-number r)
+number-limit (NoGroup r) = omega (arith, generators.number-range r .1)
 
 -- Number and place determine the refusal.
 pub told-once : (r s : Refusal) → numberOf r ≡ numberOf s → placeOf r ≡ placeOf s → r ≡ s
 told-once (Text r) (Text s) p q = ap Text (text.told-once r s p q)
 told-once (Text r) (NoGroup s) p q =
-    absurd (apart (text-numbers.numberOf r) (generator-numbers.numberOf s) (text-limit.number-limit r) (generators.number-range s .0) p)
+    absurd (apart (text-numbers.numberOf r) (generator-numbers.numberOf s) (text-number r) (generators.number-range s) p)
 told-once (NoGroup r) (Text s) p q =
-    absurd (apart (text-numbers.numberOf s) (generator-numbers.numberOf r) (text-limit.number-limit s) (generators.number-range r .0) (sym p))
+    absurd (apart (text-numbers.numberOf s) (generator-numbers.numberOf r) (text-number s) (generators.number-range r) (sym p))
 told-once (NoGroup r) (NoGroup s) p q = ap NoGroup (generators.told-once r s p q)
 
 -- Equal numbers and places of two answers.
@@ -126,14 +119,14 @@ by-refused : (a : Answer) (l : List Operation) (r : Refusal) → (operationsBy a
 by-refused Group l r = ((λ e. let z : _≡_ {A = ℕ} 0 1 = cc in absurd (omega arith)), λ e. let z : _≡_ {A = ℕ} 0 1 = cc in absurd (omega arith))
 by-refused (Refused q) l r = ((λ e. ap Refused (same-refusal q r e)), λ e. let z : q ≡ r = cc in ap (λ r. answer.refused (numberOf r) (placeOf r) tt) z)
 
--- A refusal of the text, as the reader tells it. Generators have no number up to 11.
-outcome-later : (c : Centering) (m : ℕ) (o : Outcome) (n k : ℕ) → n ≤ 11 → ¬ (operationsAnswer (outcomeAnswer c m o) ≡ answer.refused n k tt)
+-- A refusal of the text, as the reader tells it. Generators have none of its numbers.
+outcome-later : (c : Centering) (m : ℕ) (o : Outcome) (n k : ℕ) → OfText n → ¬ (operationsAnswer (outcomeAnswer c m o) ≡ answer.refused n k tt)
 outcome-later c m (group operations steps) n k h e = let z : _≡_ {A = ℕ} 0 1 = cc in omega arith
 outcome-later c m (refused r) n k h e =
     let p : generator-numbers.numberOf r ≡ n = cc in
-    apart n (generator-numbers.numberOf r) h (generators.number-range r .0) (sym p)
+    apart n (generator-numbers.numberOf r) h (generators.number-range r) (sym p)
 
-by-text : (s : reader.Reading) (n k : ℕ) → n ≤ 11 → (operationsAnswer (readingAnswer s) ≡ answer.refused n k tt) ↔ text.Tells (reader.answerOf s) n k
+by-text : (s : reader.Reading) (n k : ℕ) → OfText n → (operationsAnswer (readingAnswer s) ≡ answer.refused n k tt) ↔ text.Tells (reader.answerOf s) n k
 by-text (reader.symbol c gens) n k h = (
   (λ e. absurd (outcome-later c (length gens) (outcomeOf c gens) n k h e)),
   λ (r, e, _, _). let z : _≡_ {A = ℕ} 0 1 = cc in absurd (omega arith),
@@ -162,8 +155,8 @@ module _ (bytes : List ℕ) where
       let T = accepted-text bytes a in
       (T .letter, T .generators, T .steps, T .spells, rw (sym (T .same-operations) ∙ p) at (T .accepted))
 
-  -- 1 to 11 at k: exactly if the reader tells them so.
-  pub text-told : (n k : ℕ) → n ≤ 11 → (told bytes ≡ answer.refused n k tt) ↔ text.Tells (reader.answerOf (reader.readSymbol bytes)) n k
+  -- 1 to 11 and 17 at k: exactly if the reader tells them so.
+  pub text-told : (n k : ℕ) → OfText n → (told bytes ≡ answer.refused n k tt) ↔ text.Tells (reader.answerOf (reader.readSymbol bytes)) n k
   unfolding told symbolAnswer
   text-told n k h = by-text (reader.readSymbol bytes) n k h
 
@@ -280,7 +273,7 @@ module _ (count : ℕ) (slots : List Operation) (fits : count ≤ length slots) 
   operation-past (Refused r) = ((λ e. absurd (not-past r e)), λ (_, e, _). let z : _≡_ {A = ℕ} 0 1 = cc in absurd (omega arith))
 
   -- and all else is the refusal of the group.
-  operation-not : (a : Answer) (n k : ℕ) → n ≤ 14 → (operationAnswer (operationBy a count slots i) ≡ answer.refused n k tt)
+  operation-not : (a : Answer) (n k : ℕ) → n ≤ 17 → (operationAnswer (operationBy a count slots i) ≡ answer.refused n k tt)
       ↔ (operationsBy a (take count slots) ≡ answer.refused n k tt)
   operation-not Group n k h = (
     (λ e. absurd (elim (decLt i count) [
@@ -333,8 +326,8 @@ module _ (bytes : List ℕ) (i : ℕ) where
   unfolding told operationAt
   twenty-eight-exactly = operation-past (symbolAnswer bytes .count) (symbolAnswer bytes .operations) fitting i (symbolAnswer bytes .answer)
 
-  -- and 1 to 14 exactly if the group is refused so.
-  pub operation-refused : (n k : ℕ) → n ≤ 14 → (operationAnswer (operationAt bytes i) ≡ answer.refused n k tt) ↔ (told bytes ≡ answer.refused n k tt)
+  -- and 1 to 17 exactly if the group is refused so.
+  pub operation-refused : (n k : ℕ) → n ≤ 17 → (operationAnswer (operationAt bytes i) ≡ answer.refused n k tt) ↔ (told bytes ≡ answer.refused n k tt)
   unfolding told operationAt
   operation-refused n k h = operation-not (symbolAnswer bytes .count) (symbolAnswer bytes .operations) fitting i (symbolAnswer bytes .answer) n k h
 

@@ -1,12 +1,15 @@
 -- Each early return is a test of the definition that its callee answered; what is left is the operation.
 use mathlib.Core.Path.{ap}
 use native.Mathlib.Omega.{arith}
-use borrow.Author.Tests.{not-true, not-false}
+use mathlib.Core.List.{[]}
+use lib.ListN.{length}
+use borrow.Author.Tests.{not-true, not-false, lt-ltb, le-ltb}
 use Rattle.operation.specs.declared.Rotation.{Rotation}
 use Rattle.hall_token.specs.declared.ParsedOperation.the-variants.{Operation}
 use Rattle.hall_token.specs.Runs.{mayStand}
 use Rattle.hall_token.specs.Offsets.{start-few, passing-within, wrong-within}
-use Rattle.hall_token.specs.Reader.{readRun, operationOfParts, axisThen, turnThen, movedThen}
+use Rattle.hall_token.specs.RunLetters.{repeat-within}
+use Rattle.hall_token.specs.Reader.{readRun, operationOfParts, axisThen, turnThen, movedThen, onceThen}
 use borrow.Author.Needs.{needs}
 use Rattle.hall_token.proofs.after_letter.Statement.{statement}
 use Rattle.hall_token.proofs.after_letter.Tie as tie
@@ -29,7 +32,7 @@ add-at c =
     omega (arith, long, few, within, c .before .before .before .run-start .ensures, c .passing .ensures)
 
 returns : tie.Need-returns
-unfolding readRun operationOfParts axisThen turnThen movedThen
+unfolding readRun operationOfParts axisThen turnThen movedThen onceThen
 returns c =
     let run-start = c .before .before .before .run-start in
     let spelt = c .before .before .spelt in
@@ -39,7 +42,7 @@ unprimed-requires : tie.Need-unprimed-requires
 unprimed-requires c κs = search needs
 
 returns-2 : tie.Need-returns-2
-unfolding readRun operationOfParts axisThen turnThen movedThen
+unfolding readRun operationOfParts axisThen turnThen movedThen onceThen
 returns-2 c =
     let spelt = c .before .before .before .spelt in
     let if1 = c .before .before .if1 in
@@ -56,7 +59,7 @@ enum-told : tie.Need-enum-told
 enum-told c = search needs
 
 returns-3 : tie.Need-returns-3
-unfolding readRun operationOfParts axisThen turnThen movedThen
+unfolding readRun operationOfParts axisThen turnThen movedThen onceThen
 returns-3 c =
     let spelt = c .before .before .before .before .before .before .spelt in
     let if1 = c .before .before .before .before .before .if1 in
@@ -75,7 +78,7 @@ enum-told-2 : tie.Need-enum-told-2
 enum-told-2 c = search needs
 
 returns-4 : tie.Need-returns-4
-unfolding readRun operationOfParts axisThen turnThen movedThen
+unfolding readRun operationOfParts axisThen turnThen movedThen onceThen
 returns-4 c =
     let spelt = c .before .before .before .before .before .before .before .before .before .before .spelt in
     let if1 = c .before .before .before .before .before .before .before .before .before .if1 in
@@ -108,7 +111,7 @@ add-at-2 c =
     omega (arith, long, few, within, c .before .before .before .before .before .before .before .before .before .before .before .before .before .before .before .before .run-start .ensures, c .wrong-digit .ensures)
 
 returns-5 : tie.Need-returns-5
-unfolding readRun operationOfParts axisThen turnThen movedThen
+unfolding readRun operationOfParts axisThen turnThen movedThen onceThen
 returns-5 c =
     let spelt = c .before .before .before .before .before .before .before .before .before .before .before .before .before .before .before .spelt in
     let if1 = c .before .before .before .before .before .before .before .before .before .before .before .before .before .before .if1 in
@@ -122,24 +125,55 @@ returns-5 c =
     let run-start = c .before .before .before .before .before .before .before .before .before .before .before .before .before .before .before .before .run-start in
     rw (← spelt .ensures, not-false (spelt .result) (if1 .left), ← unprimed .ensures, not-false (unprimed .result) (if2 .left), ← axis-of .ensures, axis .given .1, ← rotation-about .ensures, turn .given .1, ← translation-of .ensures, c .before .enum-told3 .given .1, run-start .ensures, c .wrong-digit .ensures)
 
+first-repeat-requires : tie.Need-first-repeat-requires
+first-repeat-requires c κs = search needs
+
+add-at-3 : tie.Need-add-at-3
+add-at-3 c =
+    let args = c .before .before .before .before .before .before .before .before .before .before .before .before .before .before .before .before .before .before .before .before .args in
+    let long = c .before .before .before .before .before .before .before .before .before .before .before .before .before .before .before .before .before .before .before .before .good .0 .1 in
+    let few = start-few (args .negative) (args .mark) (args .letter) in
+    let within = repeat-within [] (args .run .now) in
+    omega (arith, long, few, within, c .before .before .before .before .before .before .before .before .before .before .before .before .before .before .before .before .before .before .run-start .ensures, c .before .first-repeat .ensures)
+
+returns-6 : tie.Need-returns-6
+unfolding readRun operationOfParts axisThen turnThen movedThen onceThen
+returns-6 c =
+    let args = c .before .before .before .before .before .before .before .before .before .before .before .before .before .before .before .before .before .before .before .before .args in
+    let spelt = c .before .before .before .before .before .before .before .before .before .before .before .before .before .before .before .before .before .spelt in
+    let if1 = c .before .before .before .before .before .before .before .before .before .before .before .before .before .before .before .before .if1 in
+    let unprimed = c .before .before .before .before .before .before .before .before .before .before .before .before .before .before .before .unprimed in
+    let if2 = c .before .before .before .before .before .before .before .before .before .before .before .before .before .before .if2 in
+    let axis-of = c .before .before .before .before .before .before .before .before .before .before .before .before .before .axis-of in
+    let axis = c .before .before .before .before .before .before .before .before .before .before .before .axis in
+    let rotation-about = c .before .before .before .before .before .before .before .before .before .rotation-about in
+    let turn = c .before .before .before .before .before .before .before .turn in
+    let translation-of = c .before .before .before .before .before .translation-of in
+    let translation = c .before .before .before .translation in
+    let run-start = c .before .before .before .before .before .before .before .before .before .before .before .before .before .before .before .before .before .before .run-start in
+    let first-repeat = c .before .first-repeat in
+    rw (← spelt .ensures, not-false (spelt .result) (if1 .left), ← unprimed .ensures, not-false (unprimed .result) (if2 .left), ← axis-of .ensures, axis .given .1, ← rotation-about .ensures, turn .given .1, ← translation-of .ensures, translation .given .1, ← first-repeat .ensures, lt-ltb (first-repeat .result) (length (args .run .now)) (c .if3 .taken), run-start .ensures)
+
 with-sign-requires : tie.Need-with-sign-requires
 with-sign-requires c κs = search needs
 
-returns-6 : tie.Need-returns-6
-unfolding readRun operationOfParts axisThen turnThen movedThen
-returns-6 c =
-    let args = c .before .before .before .before .before .before .before .before .before .before .before .before .before .before .before .before .before .before .before .args in
-    let spelt = c .before .before .before .before .before .before .before .before .before .before .before .before .before .before .before .before .spelt in
-    let if1 = c .before .before .before .before .before .before .before .before .before .before .before .before .before .before .before .if1 in
-    let unprimed = c .before .before .before .before .before .before .before .before .before .before .before .before .before .before .unprimed in
-    let if2 = c .before .before .before .before .before .before .before .before .before .before .before .before .before .if2 in
-    let axis-of = c .before .before .before .before .before .before .before .before .before .before .before .before .axis-of in
-    let axis = c .before .before .before .before .before .before .before .before .before .before .axis in
-    let rotation-about = c .before .before .before .before .before .before .before .before .rotation-about in
-    let turn = c .before .before .before .before .before .before .turn in
-    let translation-of = c .before .before .before .before .translation-of in
-    let translation = c .before .before .translation in
-    rw (← spelt .ensures, not-false (spelt .result) (if1 .left), ← unprimed .ensures, not-false (unprimed .result) (if2 .left), ← axis-of .ensures, axis .given .1, ← rotation-about .ensures, turn .given .1, ← translation-of .ensures, translation .given .1)
+returns-7 : tie.Need-returns-7
+unfolding readRun operationOfParts axisThen turnThen movedThen onceThen
+returns-7 c =
+    let args = c .before .before .before .before .before .before .before .before .before .before .before .before .before .before .before .before .before .before .before .before .before .args in
+    let spelt = c .before .before .before .before .before .before .before .before .before .before .before .before .before .before .before .before .before .before .spelt in
+    let if1 = c .before .before .before .before .before .before .before .before .before .before .before .before .before .before .before .before .before .if1 in
+    let unprimed = c .before .before .before .before .before .before .before .before .before .before .before .before .before .before .before .before .unprimed in
+    let if2 = c .before .before .before .before .before .before .before .before .before .before .before .before .before .before .before .if2 in
+    let axis-of = c .before .before .before .before .before .before .before .before .before .before .before .before .before .before .axis-of in
+    let axis = c .before .before .before .before .before .before .before .before .before .before .before .before .axis in
+    let rotation-about = c .before .before .before .before .before .before .before .before .before .before .rotation-about in
+    let turn = c .before .before .before .before .before .before .before .before .turn in
+    let translation-of = c .before .before .before .before .before .before .translation-of in
+    let translation = c .before .before .before .before .translation in
+    let first-repeat = c .before .before .first-repeat in
+    let if3 = c .before .if3 in
+    rw (← spelt .ensures, not-false (spelt .result) (if1 .left), ← unprimed .ensures, not-false (unprimed .result) (if2 .left), ← axis-of .ensures, axis .given .1, ← rotation-about .ensures, turn .given .1, ← translation-of .ensures, translation .given .1, ← first-repeat .ensures, le-ltb (first-repeat .result) (length (args .run .now)) (if3 .left))
     (ap (λ (r : Rotation). Operation (record { rotation = r; translation = translation .given .0 .0 }) (args .fold) (axis .given .0 .0)) (c .with-sign .ensures))
 
 pub after-letter-spec : {M : Type 1} → statement M
@@ -167,5 +201,8 @@ after-letter-spec =
     wrong-digit-requires
     add-at-2
     returns-5
+    first-repeat-requires
+    add-at-3
+    returns-6
     with-sign-requires
-    returns-6)
+    returns-7)
