@@ -3,8 +3,8 @@
 
     python3 oracle/compare.py HARNESS [COUNT [SEED]]
 
-The symbols are the original's database, those of cases.py, every matrix under every shift, and COUNT damaged ones (20,000
-unless given) fixed by SEED (1 unless given); the tables of groups in cases.py follow. A difference that
+The symbols are the original's database, those of cases.py, every matrix under every shift, two under every shift with signs,
+and COUNT damaged ones (20,000 unless given) fixed by SEED (1 unless given); the tables of groups in cases.py follow. A difference that
 docs/DIFFERENCES.md does not list is printed, and the exit status is then 1.
 """
 
@@ -258,6 +258,7 @@ def main(arguments):
     known = database(harness)
     unlisted = []
     for title, texts in (("database", known), ("cases", cases.extra_symbols()), ("shifted", cases.shifted_symbols()),
+                         ("signed shifts", cases.signed_shifts()),
                          ("damaged", cases.damaged_symbols(known, count, seed))):
         tally, found = compare_symbols(harness, texts)
         show("%s: %d symbols" % (title, len(texts)), tally)

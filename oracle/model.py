@@ -38,7 +38,7 @@ LETTERS = "PABCIRF"
 
 N_TOKEN = re.compile(rb"(-?)([12346])([\^=]?)([xyz*]?)([1-6abcnuvwd']*)")
 N_TOKEN_START = re.compile(rb"-?|(-?)([12346])([\^=]?)([xyz*]?)([1-6abcnuvwd']*)")
-SHIFT_NUMBER = re.compile(rb"0|[1-9]|10|11")
+SHIFT_NUMBER = re.compile(rb"0|-?([1-9]|10|11)")
 
 IDENTITY = (1, 0, 0, 0, 1, 0, 0, 0, 1)
 INVERSION = (-1, 0, 0, 0, -1, 0, 0, 0, -1)

@@ -4,7 +4,8 @@
     python3 tests/compare_generators.py PORT [--all] [--harness HARNESS] [--emulator COMMAND]
 
 PORT is the program made from tests/generators.c. Without --all a sample of the texts is taken that the gate has time for; with it
-every N token of up to four bytes stands first, after each of eight other tokens, and after two. Prints 'N passed, M failed'.
+every N token of up to four bytes stands first, after each of eight other tokens, and after two, and every word of up to four
+signs and digits is a shift's number. Prints 'N passed, M failed'.
 """
 
 import argparse
@@ -23,6 +24,8 @@ ALPHABET = b"-12346^=xyz*abcnuvwd'5("
 BEFORE = [b"", b"1 ", b"2 ", b"2x ", b"2^x ", b"3 ", b"3* ", b"4 ", b"6 ", b"2 2 ", b"3 2 "]
 SAMPLE_STEP = 61
 BATCH = 200000
+SHIFT_BYTES = b"-+0123456789"
+SHIFT_STEP = 7
 
 
 def tokens(longest):
@@ -35,6 +38,16 @@ def token_texts(step):
     for number, (before, token) in enumerate(itertools.product(BEFORE, tokens(4))):
         if number % step == 0 or len(token) < 3:
             yield b"P " + before + token
+
+
+def shift_texts(step):
+    """Every word of up to four signs and digits as a shift's last number; behind a `-` none is left out."""
+    number = 0
+    for length in range(1, 5):
+        for letters in itertools.product(SHIFT_BYTES, repeat=length):
+            number += 1
+            if number % step == 0 or length < 3 or letters[0] == ord("-"):
+                yield b"P 2 (0 0 " + bytes(letters) + b")"
 
 
 def length_texts():
@@ -86,7 +99,8 @@ def main(arguments):
     options = parser.parse_args(arguments)
     port = options.emulator.split() + [options.port]
     texts = itertools.chain(
-        recorded_texts(), length_texts(), (text for text in token_texts(1 if options.all else SAMPLE_STEP)))
+        recorded_texts(), length_texts(), shift_texts(1 if options.all else SHIFT_STEP),
+        (text for text in token_texts(1 if options.all else SAMPLE_STEP)))
     passed = failed = compared = 0
     while batch := [text for text in itertools.islice(texts, BATCH) if len(text) < 256]:
         accepted = []

@@ -7,8 +7,11 @@ use mathlib.Core.List.{List, [], _∷_, _++_, map}
 use Prim.Native.Nat.{ℕ, zero, suc, _+_, _<_, _≤_}
 use native.Mathlib.Omega.{arith}
 use lib.Dec.{eqb, leb, ltb}
+use lib.IntN.{pos}
 use borrow.Author.Tests.{eqb-true, eqb-false, leb-true, leb-false, ltb-true, ltb-false, eq-eqb, ne-eqb, lt-ltb, le-ltb}
 use lib.ListN.{length, getD}
+use Rattle.laws.specs.Matrix.{Vector}
+use Rattle.laws.specs.Residue.{residue}
 use Rattle.operation.specs.declared.Translation.{Translation}
 use Rattle.operation.specs.declared.Operation.{Operation}
 use Rattle.centering.specs.declared.Centering.{Centering}
@@ -26,7 +29,7 @@ use Rattle.hall_symbol.specs.Tokens.{Token, tokenAt, tokensFrom, tokens}
 use Rattle.hall_symbol.specs.Cut.{Cut, FirstToken, blank, token, first-token, cut-word, tokens-cut, tokens-none, cut-length}
 use Rattle.hall_symbol.specs.Lattice.{latticeToken}
 use Rattle.hall_symbol.specs.Shift.{shiftOf, noShift}
-use Rattle.hall_symbol.specs.Generators.{leading, shifted}
+use Rattle.hall_symbol.specs.Generators.{leading, shiftBy, shifted}
 use Rattle.hall_symbol.specs.Reader.{Reading, symbol, refusal, noPrevious, nextPrevious, onOperation, onShift, atShift, atEnd, operations, onLattice, readTokens, readSymbol, step-shift, step-ninth, step-rotation}
 use Rattle.hall_symbol.specs.Spelling.{latticeSpelling, ShiftSpelled, Opens, Fit, Begins, lattice, rotation, Ending, plain, moved, Spells, Next, TokenRefused, RotationMissing, ends, opens, Refuses, Says}
 use Rattle.hall_symbol.specs.Parts.{lattice-read, lattice-spelled, shift-read, shift-spelled}
@@ -97,7 +100,7 @@ unfolding atShift
 shift-none c found count t h = rw (eq-eqb count 0 h)
 
 -- A shift starts with `(`.
-bracket-opens : (s : List ℕ) (v : Translation) → ShiftSpelled s v → opening (getD s 0 0) ≡ true
+bracket-opens : (s : List ℕ) (v : Vector) → ShiftSpelled s v → opening (getD s 0 0) ≡ true
 unfolding opening
 bracket-opens s v h = rw (h .brackets)
 
@@ -108,12 +111,13 @@ opens-append (b ∷ t) after h = h
 
 -- What a text spells is what it is read as.
 spells-read : (text : List ℕ) (c : Centering) (gs : List Operation) → Spells text c gs → readSymbol text ≡ symbol c gs
+unfolding residue
 spells-read text c gs h = begins-read text (h .begins) ∙ go (h .v) (h .ending) (h .generators)
   where
     n : ℕ
     n = length text
 
-    go : (v : Translation) → Ending (h .s) v → gs ≡ map (shifted v) (h .found) → operations n c (h .found) (h .previous) (tokensFrom (h .p) true (h .s)) ≡ symbol c gs
+    go : (v : Vector) → Ending (h .s) v → gs ≡ map (shifted (shiftBy v)) (h .found) → operations n c (h .found) (h .previous) (tokensFrom (h .p) true (h .s)) ≡ symbol c gs
     go v (plain e) g = rw (tokens-none (h .p) (h .s) e, g) (end-some n c (h .found) (h .previous) (h .some))
     go v′ (moved {w} {t} {after} v cut spelled) g =
         rw (tokens-cut (h .p) (h .s) w t after cut, g)
@@ -138,11 +142,11 @@ no-lattice t h = go (latticeToken t) refl
     go Wrong e = e
 
 -- A text that spells no shift is read as none.
-no-shift-spelled : (s : List ℕ) → Opens s → ((v : Translation) → ShiftSpelled s v → ⊥) → shiftOf s ≡ Malformed
+no-shift-spelled : (s : List ℕ) → Opens s → ((v : Vector) → ShiftSpelled s v → ⊥) → shiftOf s ≡ Malformed
 no-shift-spelled s o h = go (shiftOf s) refl
   where
     go : (r : Shift) → shiftOf s ≡ r → shiftOf s ≡ Malformed
-    go (By v) e = absurd (h v (shift-spelled s v o e))
+    go (By t) e = let (v, spelled, same) = shift-spelled s t o e in absurd (h v spelled)
     go Malformed e = e
 
 -- A text that is fit is read token by token.
@@ -207,14 +211,14 @@ first-opens (b ∷ t) after h k = k
 module _ (text : List ℕ) (c : Centering) (found : List Operation) (previous : Previous) (p : ℕ) (s : List ℕ) (begins : Begins text c found previous p s) where
   -- Where the text ends.
   end-says : Every whitespace s → Says text (operations (length text) c found previous [])
-  unfolding operations atEnd
+  unfolding operations atEnd residue
   end-says e = go (eqb (previous .count) 0) refl
     where
       go : (b : Bool) → eqb (previous .count) 0 ≡ b → Says text (cond b (refusal (NoRotation (length text))) (symbol c (map (shifted noShift) found)))
       go true h = ends begins (eqb-true (previous .count) 0 h) e
       go false h =
           let none = eqb-false (previous .count) 0 h in
-          record { found = found; previous = previous; p = p; s = s; v = noShift; begins = begins; some = omega (arith, none); ending = plain e; generators = refl }
+          record { found = found; previous = previous; p = p; s = s; v = record { x = pos 0; y = pos 0; z = pos 0 }; begins = begins; some = omega (arith, none); ending = plain e; generators = refl }
 
   module _ (w t after : List ℕ) (cut : Cut s w t after) where
     -- The next token, at its place.
@@ -227,7 +231,8 @@ module _ (text : List ℕ) (c : Centering) (found : List Operation) (previous : 
     shift-says o = go (eqb (previous .count) 0) refl
       where
         read : 0 < previous .count → (r : Shift) → shiftOf (t ++ after) ≡ r → Says text (onShift (p + length w) c found r)
-        read some (By v) e =
+        read some (By u) e =
+            let (v, spelled, same) = shift-spelled (t ++ after) u (opens-append t after o) e in
             record {
               found = found;
               previous = previous;
@@ -236,8 +241,8 @@ module _ (text : List ℕ) (c : Centering) (found : List Operation) (previous : 
               v = v;
               begins = begins;
               some = some;
-              ending = moved v cut (shift-spelled (t ++ after) v (opens-append t after o) e);
-              generators = refl;
+              ending = moved v cut spelled;
+              generators = ap (λ (w : Translation). map (shifted w) found) (sym same);
             }
         read some Malformed e =
             record {

@@ -7,6 +7,7 @@ use Prim.Native.Nat.{ℕ, _+_, _-_, _≤_}
 use native.Mathlib.Omega.{arith}
 use lib.ListN.{length, take, replicate, length-append, length-replicate, length-map}
 use lib.Seq.{take-append-seam}
+use Rattle.laws.specs.Residue.{residue-lt}
 use Rattle.operation.specs.Product.{identityOperation}
 use Rattle.operation.specs.declared.Translation.{Translation}
 use Rattle.operation.specs.declared.Operation.{Operation}
@@ -14,8 +15,7 @@ use Rattle.centering.specs.declared.Centering.{Centering}
 use Rattle.hall_token.specs.Answers.{Reduced, read-reduced, answers-exact}
 use Rattle.hall_token.specs.declared.Previous.{Previous}
 use Rattle.hall_token.specs.declared.ParsedOperation.the-variants.{Operation as IsOperation}
-use Rattle.hall_symbol.specs.Generators.{leading, shifted, slots}
-use Rattle.hall_symbol.specs.Origin.{shift-of-origin}
+use Rattle.hall_symbol.specs.Generators.{leading, shiftBy, shiftedCoordinate, shifted, slots}
 use Rattle.hall_symbol.specs.Reader.{Reading, symbol, refusal, readSymbol, answerOf}
 use Rattle.hall_symbol.specs.Spelling.{latticeSpelling, Begins, lattice, rotation, Spells, Refuses, Says}
 use Rattle.hall_symbol.specs.Agreement.{symbol-exactly, refusal-exactly, read-says}
@@ -84,7 +84,7 @@ begins-count text (rotation {found = found} o f a begins cut start few says) =
 pub symbol-count : (text : List ℕ) (c : Centering) (gs : List Operation) → Spells text c gs → (1 ≤ length gs) × (length gs ≤ 9)
 symbol-count text c gs h =
     let (low, high, most) = begins-count text (h .begins) in
-    let same : length gs ≡ length (h .found) = ap length (h .generators) ∙ length-map (h .found) (shifted (h .v)) in
+    let same : length gs ≡ length (h .found) = ap length (h .generators) ∙ length-map (h .found) (shifted (shiftBy (h .v))) in
     let some = h .some in
     (omega arith, omega arith)
 
@@ -140,13 +140,12 @@ begins-reduced text (rotation {found = found} {previous} {t = t} o f a begins cu
     reduced-snoc found o (begins-reduced text begins) (read-reduced t previous o f a (answers-exact t previous (IsOperation o f a) .1 says))
 
 generator-reduced : (v : Translation) (o : Operation) → Reduced o → Reduced (shifted v o)
-unfolding shifted
-generator-reduced v o r =
-    let small = shift-of-origin v o .small in record { digits = r .digits; x = small .0; y = small .1; z = small .2 }
+unfolding shifted shiftedCoordinate
+generator-reduced v o r = record { digits = r .digits; x = residue-lt _; y = residue-lt _; z = residue-lt _ }
 
 shifted-reduced : (v : Translation) (os : List Operation) → AllReduced os → AllReduced (map (shifted v) os)
 shifted-reduced v [] h = tt
 shifted-reduced v (o ∷ os) h = (generator-reduced v o (h .0), shifted-reduced v os (h .1))
 
 pub symbol-reduced : (text : List ℕ) (c : Centering) (gs : List Operation) → Spells text c gs → AllReduced gs
-symbol-reduced text c gs h = rw (h .generators) (shifted-reduced (h .v) (h .found) (begins-reduced text (h .begins)))
+symbol-reduced text c gs h = rw (h .generators) (shifted-reduced (shiftBy (h .v)) (h .found) (begins-reduced text (h .begins)))

@@ -4,7 +4,7 @@ use mathlib.Core.List.{List, [], _∷_, _++_}
 use Prim.Native.Nat.{ℕ, _-_}
 use lib.ListN.{length, replicate}
 use lib.IntN.{pos, _+ℤ_, _-ℤ_}
-use Rattle.laws.specs.Matrix.{dot}
+use Rattle.laws.specs.Matrix.{Vector, dot}
 use Rattle.laws.specs.Residue.{residue}
 use Rattle.operation.specs.Meaning.{entryOf}
 use Rattle.operation.specs.Product.{identityOperation}
@@ -28,6 +28,10 @@ leading false = []
 unfoldable pub shiftedCoordinate : ℕ → ℕ → ℕ → Translation → ℕ → ℕ → ℕ
 shiftedCoordinate a b c v w t =
     residue (pos t +ℤ pos w -ℤ dot (entryOf a) (entryOf b) (entryOf c) (pos (v .x)) (pos (v .y)) (pos (v .z)))
+
+-- An integer shift, its coordinates modulo 12.
+abbrev pub shiftBy : Vector → Translation
+shiftBy v = record { x = residue (v .x); y = residue (v .y); z = residue (v .z) }
 
 -- With shift v the generator (R,t) becomes (R, t + v − Rv mod 12).
 unfoldable pub shifted : Translation → Operation → Operation

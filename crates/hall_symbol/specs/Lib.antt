@@ -19,5 +19,6 @@ pub mod Walk
 pub mod Spelling
 pub mod Parts
 pub mod Agreement
+pub mod Minus
 pub mod Answers
 pub mod Told

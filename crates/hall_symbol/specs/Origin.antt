@@ -4,50 +4,56 @@ use Prim.Native.Nat.{ℕ, _*_, _%_, _<_}
 use native.Mathlib.Omega.{arith}
 use lib.IntN.{ℤ, pos, negℤ, _+ℤ_, _-ℤ_}
 use Rattle.laws.specs.Integer.{ring}
-use Rattle.laws.specs.Matrix.{dot, times, act, plus, opposite, unit, unit-times, times-unit, act-unit}
+use Rattle.laws.specs.Matrix.{Vector, dot, times, act, plus, opposite, unit, unit-times, times-unit, act-unit}
 use Rattle.laws.specs.Motion.{SpaceMotion, product, compose}
-use Rattle.laws.specs.Residue.{residue, residue-lt, residue-again, reduced, triple≡}
+use Rattle.laws.specs.Residue.{residue, residue-lt, residue-again, residue-add, residue-neg, residue-mul, reduced, triple≡}
 use Rattle.operation.specs.Meaning.{entryOf, matrixOf, vectorOf, motionOf}
 use Rattle.operation.specs.Product.{identityOperation}
 use Rattle.operation.specs.Composed.{Reduces}
 use Rattle.operation.specs.declared.Translation.{Translation}
 use Rattle.operation.specs.declared.Operation.{Operation}
 use Rattle.hall_symbol.specs.Shift.{noShift}
-use Rattle.hall_symbol.specs.Generators.{inversionOperation, shiftedCoordinate, shifted}
+use Rattle.hall_symbol.specs.Generators.{inversionOperation, shiftBy, shiftedCoordinate, shifted}
 use Rattle.hall_symbol.specs.Shifting.{shifted-sum}
 
--- (I,v) and (I,−v).
-abbrev pub forth : Translation → SpaceMotion
-forth v = record { rotation = unit; translation = vectorOf v }
+-- (I,v) and (I,−v), for any integer vector.
+abbrev pub forth : Vector → SpaceMotion
+forth v = record { rotation = unit; translation = v }
 
-abbrev pub back : Translation → SpaceMotion
-back v = record { rotation = unit; translation = opposite (vectorOf v) }
+abbrev pub back : Vector → SpaceMotion
+back v = record { rotation = unit; translation = opposite v }
 
 -- A row times −v, and t and v added.
 row-shifted : (a b c x y z t w : ℤ) → dot a b c (negℤ x) (negℤ y) (negℤ z) +ℤ t +ℤ w ≡ t +ℤ w -ℤ dot a b c x y z
 row-shifted a b c x y z t w = simp ring
 
+-- Modulo 12 each coordinate of the shift may be taken by its residue.
+row-residue : (a b c x y z t w : ℤ) → residue (t +ℤ pos (residue w) -ℤ dot a b c (pos (residue x)) (pos (residue y)) (pos (residue z))) ≡ residue (t +ℤ w -ℤ dot a b c x y z)
+row-residue a b c x y z t w = simp (residue-add, residue-neg, residue-mul, residue-again)
+
 -- The translation of (I,v)(R,t)(I,−v).
-origin-translation : (v : Translation) (g : Operation) → compose (forth v) (compose (motionOf g) (back v)) .translation ≡ plus (plus (act (matrixOf (g .rotation)) (opposite (vectorOf v))) (vectorOf (g .translation))) (vectorOf v)
+origin-translation : (v : Vector) (g : Operation) → compose (forth v) (compose (motionOf g) (back v)) .translation ≡ plus (plus (act (matrixOf (g .rotation)) (opposite v)) (vectorOf (g .translation))) v
 unfolding product motionOf
-origin-translation v g = rw (act-unit (plus (act (matrixOf (g .rotation)) (opposite (vectorOf v))) (vectorOf (g .translation))))
+origin-translation v g = rw (act-unit (plus (act (matrixOf (g .rotation)) (opposite v)) (vectorOf (g .translation))))
 
 -- Modulo 12 it is the shifted generator's.
-shifted-translation : (v : Translation) (g : Operation) → reduced (vectorOf (shifted v g .translation)) ≡ reduced (plus (plus (act (matrixOf (g .rotation)) (opposite (vectorOf v))) (vectorOf (g .translation))) (vectorOf v))
+shifted-translation : (v : Vector) (g : Operation) → reduced (vectorOf (shifted (shiftBy v) g .translation)) ≡ reduced (plus (plus (act (matrixOf (g .rotation)) (opposite v)) (vectorOf (g .translation))) v)
 unfolding shifted shiftedCoordinate matrixOf vectorOf plus act opposite
 shifted-translation v g =
     let r = g .rotation in
     let t = g .translation in
     triple≡
-    (residue-again _ ∙ ap residue (sym (row (r .xx) (r .xy) (r .xz) (t .x) (v .x))))
-    (residue-again _ ∙ ap residue (sym (row (r .yx) (r .yy) (r .yz) (t .y) (v .y))))
-    (residue-again _ ∙ ap residue (sym (row (r .zx) (r .zy) (r .zz) (t .z) (v .z))))
+    (residue-again _ ∙ row (r .xx) (r .xy) (r .xz) (t .x) (v .x))
+    (residue-again _ ∙ row (r .yx) (r .yy) (r .yz) (t .y) (v .y))
+    (residue-again _ ∙ row (r .zx) (r .zy) (r .zz) (t .z) (v .z))
   where
-    row : (a b c t w : ℕ) → dot (entryOf a) (entryOf b) (entryOf c) (negℤ (pos (v .x))) (negℤ (pos (v .y))) (negℤ (pos (v .z))) +ℤ pos t +ℤ pos w ≡ pos t +ℤ pos w -ℤ dot (entryOf a) (entryOf b) (entryOf c) (pos (v .x)) (pos (v .y)) (pos (v .z))
-    row a b c t w = row-shifted (entryOf a) (entryOf b) (entryOf c) (pos (v .x)) (pos (v .y)) (pos (v .z)) (pos t) (pos w)
+    row : (a b c t : ℕ) (w : ℤ) → residue (pos t +ℤ pos (residue w) -ℤ dot (entryOf a) (entryOf b) (entryOf c) (pos (residue (v .x))) (pos (residue (v .y))) (pos (residue (v .z)))) ≡ residue (dot (entryOf a) (entryOf b) (entryOf c) (negℤ (v .x)) (negℤ (v .y)) (negℤ (v .z)) +ℤ pos t +ℤ w)
+    row a b c t w =
+        row-residue (entryOf a) (entryOf b) (entryOf c) (v .x) (v .y) (v .z) (pos t) w
+        ∙ ap residue (sym (row-shifted (entryOf a) (entryOf b) (entryOf c) (v .x) (v .y) (v .z) (pos t) w))
 
--- The shifted generator is that motion, its translation modulo 12.
-pub shift-of-origin : (v : Translation) (g : Operation) → Reduces (compose (forth v) (compose (motionOf g) (back v))) (shifted v g)
+-- The shifted generator is that motion, its translation modulo 12: so a shift and its residues give one generator.
+pub shift-of-origin : (v : Vector) (g : Operation) → Reduces (compose (forth v) (compose (motionOf g) (back v))) (shifted (shiftBy v) g)
 unfolding shifted shiftedCoordinate product motionOf
 shift-of-origin v g =
     record {

@@ -1,14 +1,18 @@
 -- The reader's parts against the spelling rules: the first token, a shift's number, its three numbers, the shift. Each is read exactly as it is spelled.
 use mathlib.Core.Path.{_≡_, refl, _∙_, ap}
 use mathlib.Core.Bool.{Bool, true, false, cond, not, _&&_, false≢true}
-use mathlib.Core.List.{List, [], _∷_, _++_}
-use Prim.Native.Nat.{ℕ, suc, _+_, _-_, _<_, _≤_}
+use mathlib.Core.Logic.{_↔_, _≢_}
+use mathlib.Core.List.{List, [], _∷_, _++_, List·Memᴰ as Mem, List·Memᴰ·head as here}
+use Prim.Native.Nat.{ℕ, suc, _+_, _-_, _%_, _<_, _≤_}
 use native.Mathlib.Omega.{arith}
 use native.Mathlib.Numerals.{add-one}
 use lib.Dec.{eqb, leb, ltb}
+use lib.IntN.{ℤ, pos, negℤ}
 use borrow.Author.Tests.{eqb-true, leb-true, ltb-true, ltb-false, ne-eqb, le-leb, lt-ltb, le-ltb, not-false}
 use lib.ListN.{length, getD, take, drop, length-append}
 use lib.Seq.{take-append-seam, drop-append-add, drop-length, split-at}
+use Rattle.laws.specs.Matrix.{Vector}
+use Rattle.laws.specs.Residue.{residue, residue-pos, residue-neg}
 use Rattle.operation.specs.declared.Translation.{Translation}
 use Rattle.centering.specs.Letters.{byteOf, letterOf, letterAmong, letters}
 use Rattle.centering.specs.declared.Centering.{Centering}
@@ -20,8 +24,9 @@ use Rattle.hall_symbol.specs.Runs.{run, Every, run-seam, run-at, run-all
 use Rattle.hall_symbol.specs.Tokens.{trimmed, firstWord, behindWord}
 use Rattle.hall_symbol.specs.Cut.{Cut, FirstToken, blank, token, first-token, cut-firstword, cut-behind}
 use Rattle.hall_symbol.specs.Lattice.{latticeOf, letterToken, latticeToken}
-use Rattle.hall_symbol.specs.Shift.{oneDigit, twoDigits, numberOf, triple, numbersOf, closedShift, shiftOf}
-use Rattle.hall_symbol.specs.Spelling.{latticeSpelling, NumberSpelled, NumbersSpelled, ShiftSpelled, Opens}
+use Rattle.hall_symbol.specs.Shift.{oneDigit, twoDigits, digitsOf, belowZero, opposed, numberOf, triple, numbersOf, closedShift, shiftOf}
+use Rattle.hall_symbol.specs.Generators.{shiftBy}
+use Rattle.hall_symbol.specs.Spelling.{latticeSpelling, decimal, NumberSpelled, above, below, NumbersSpelled, ShiftSpelled, Opens}
 use Rattle.hall_symbol.specs.declared.lattice.Lattice.the-variants.{Is as IsLattice, Wrong}
 use Rattle.hall_symbol.specs.declared.shift.Number.{Number}
 use Rattle.hall_symbol.specs.declared.shift.Number.the-variants.{Is, None}
@@ -118,20 +123,41 @@ two-digits n h k =
     let e : 38 + n - 38 ≡ n = omega arith in rw (le-leb 48 (38 + n) (omega arith), le-leb (38 + n) 49 (omega arith), e)
 
 -- The spelling of a number is read as the number.
-pub number-read : (w : List ℕ) (n : ℕ) → NumberSpelled w n → numberOf w ≡ Is n
-unfolding numberOf
-number-read w n (h, e) = go (ltb n 10) refl e
+digits-read : (w : List ℕ) (n : ℕ) → n < 12 → w ≡ decimal n → digitsOf w ≡ Is n
+unfolding digitsOf
+digits-read w n h e = go (ltb n 10) refl e
   where
-    go : (b : Bool) → ltb n 10 ≡ b → w ≡ cond b ((48 + n) ∷ []) (49 ∷ (38 + n) ∷ []) → numberOf w ≡ Is n
+    go : (b : Bool) → ltb n 10 ≡ b → w ≡ cond b ((48 + n) ∷ []) (49 ∷ (38 + n) ∷ []) → digitsOf w ≡ Is n
     go true t k = rw k (one-digit n (ltb-true n 10 t))
     go false t k = rw k (two-digits n (ltb-false n 10 t) h)
 
+-- Digits start with no `-`.
+decimal-front : (n : ℕ) → eqb (getD (decimal n) 0 0) 45 ≡ false
+decimal-front n = go (ltb n 10)
+  where
+    go : (b : Bool) → eqb (getD (cond b ((48 + n) ∷ []) (49 ∷ (38 + n) ∷ [])) 0 0) 45 ≡ false
+    go true = ne-eqb (48 + n) 45 (omega arith)
+    go false = refl
+
+-- −k modulo 12.
+pub minus-residue : (k : ℕ) → 1 ≤ k → k ≤ 11 → residue (negℤ (pos k)) ≡ 12 - k
+minus-residue k h l = residue-neg (pos k) ∙ rw (residue-pos k) (omega arith)
+
+-- The spelling of an integer is read as its residue.
+pub number-read : (w : List ℕ) (z : ℤ) → NumberSpelled w z → numberOf w ≡ Is (residue z)
+unfolding numberOf belowZero
+number-read w z′ (above n h e) =
+    let small : n % 12 ≡ n = omega arith in
+    rw (e, decimal-front n, digits-read (decimal n) n h refl, residue-pos n, small)
+number-read w z′ (below k h l e) =
+    rw (e, digits-read (decimal k) k (omega arith) refl, le-leb 1 k h, le-leb k 11 l, minus-residue k h l)
+
 -- A digit that is read is the spelling.
-one-spelled : (b n : ℕ) → oneDigit b ≡ Is n → NumberSpelled (b ∷ []) n
+one-spelled : (b n : ℕ) → oneDigit b ≡ Is n → (n < 12) × (b ∷ [] ≡ decimal n)
 unfolding oneDigit
 one-spelled b n h = go (leb 48 b && leb b 57) refl h
   where
-    go : (t : Bool) → leb 48 b && leb b 57 ≡ t → cond t (Is (b - 48)) None ≡ Is n → NumberSpelled (b ∷ []) n
+    go : (t : Bool) → leb 48 b && leb b 57 ≡ t → cond t (Is (b - 48)) None ≡ Is n → (n < 12) × (b ∷ [] ≡ decimal n)
     go true e k =
         let (low, high) = and-both (leb 48 b) (leb b 57) e in
         let same : b - 48 ≡ n = cc in
@@ -142,11 +168,11 @@ one-spelled b n h = go (leb 48 b && leb b 57) refl h
     go false e k = let z : _≡_ {A = ℕ} 0 1 = cc in absurd (omega arith)
 
 -- Two digits that are read are the spelling.
-two-spelled : (a b n : ℕ) → twoDigits a b ≡ Is n → NumberSpelled (a ∷ b ∷ []) n
+two-spelled : (a b n : ℕ) → twoDigits a b ≡ Is n → (n < 12) × (a ∷ b ∷ [] ≡ decimal n)
 unfolding twoDigits
 two-spelled a b n h = go (eqb a 49 && (leb 48 b && leb b 49)) refl h
   where
-    go : (t : Bool) → eqb a 49 && (leb 48 b && leb b 49) ≡ t → cond t (Is (b - 38)) None ≡ Is n → NumberSpelled (a ∷ b ∷ []) n
+    go : (t : Bool) → eqb a 49 && (leb 48 b && leb b 49) ≡ t → cond t (Is (b - 38)) None ≡ Is n → (n < 12) × (a ∷ b ∷ [] ≡ decimal n)
     go true e k =
         let (lead, rest) = and-both (eqb a 49) (leb 48 b && leb b 49) e in
         let (low, high) = and-both (leb 48 b) (leb b 49) rest in
@@ -158,16 +184,58 @@ two-spelled a b n h = go (eqb a 49 && (leb 48 b && leb b 49)) refl h
         (omega arith, rw (le-ltb n 10 (omega arith), tens) (ap (λ (x : ℕ). 49 ∷ x ∷ []) digit))
     go false e k = let z : _≡_ {A = ℕ} 0 1 = cc in absurd (omega arith)
 
--- A word that is read as a number spells it.
-pub number-spelled : (w : List ℕ) (n : ℕ) → numberOf w ≡ Is n → NumberSpelled w n
-unfolding numberOf
-number-spelled [] n h = let z : _≡_ {A = ℕ} 0 1 = cc in absurd (omega arith)
-number-spelled (a ∷ []) n h = one-spelled a n h
-number-spelled (a ∷ b ∷ []) n h = two-spelled a b n h
-number-spelled (a ∷ b ∷ c ∷ s) n h =
+-- Digits that are read are the spelling.
+digits-spelled : (w : List ℕ) (n : ℕ) → digitsOf w ≡ Is n → (n < 12) × (w ≡ decimal n)
+unfolding digitsOf
+digits-spelled [] n h = let z : _≡_ {A = ℕ} 0 1 = cc in absurd (omega arith)
+digits-spelled (a ∷ []) n h = one-spelled a n h
+digits-spelled (a ∷ b ∷ []) n h = two-spelled a b n h
+digits-spelled (a ∷ b ∷ c ∷ s) n h =
     let none : None ≡ Is n = rw (two-bytes a b (c ∷ s), three-bytes a b c s) at h in
     let z : _≡_ {A = ℕ} 0 1 = cc in
     absurd (omega arith)
+
+-- An integer that a word spells, with its residue.
+abbrev pub Spelling : List ℕ → ℕ → Type 0
+Spelling w n = (z : ℤ) × NumberSpelled w z × (residue z ≡ n)
+
+-- What is read behind a `-`.
+below-spelled : (w : List ℕ) (n : ℕ) (r : Number) → digitsOf w ≡ r → opposed r ≡ Is n → Spelling (45 ∷ w) n
+unfolding belowZero
+below-spelled w n None e h = let z : _≡_ {A = ℕ} 0 1 = cc in absurd (omega arith)
+below-spelled w n (Is k) e h = go (leb 1 k && leb k 11) refl h
+  where
+    go : (t : Bool) → leb 1 k && leb k 11 ≡ t → cond t (Is (12 - k)) None ≡ Is n → Spelling (45 ∷ w) n
+    go true f g =
+        let (low, high) = and-both (leb 1 k) (leb k 11) f in
+        let (small, same) = digits-spelled w k e in
+        let value : 12 - k ≡ n = cc in
+        (negℤ (pos k), below k (leb-true 1 k low) (leb-true k 11 high) (ap (λ (l : List ℕ). 45 ∷ l) same), minus-residue k (leb-true 1 k low) (leb-true k 11 high) ∙ value)
+    go false f g = let z : _≡_ {A = ℕ} 0 1 = cc in absurd (omega arith)
+
+-- What is read without one.
+above-spelled : (w : List ℕ) (n : ℕ) → digitsOf w ≡ Is n → Spelling w n
+above-spelled w n h =
+    let (small, same) = digits-spelled w n h in
+    (pos n, above n small same, residue-pos n ∙ omega arith)
+
+-- A word that is read as a number spells an integer with that residue.
+pub number-spelled : (w : List ℕ) (n : ℕ) → numberOf w ≡ Is n → Spelling w n
+unfolding numberOf
+number-spelled [] n h = above-spelled [] n h
+number-spelled (b ∷ w) n h = go (eqb b 45) refl h
+  where
+    go : (t : Bool) → eqb b 45 ≡ t → cond t (opposed (digitsOf w)) (digitsOf (b ∷ w)) ≡ Is n → Spelling (b ∷ w) n
+    go true e k = rw (eqb-true b 45 e) (below-spelled w n (digitsOf w) refl k)
+    go false e k = above-spelled (b ∷ w) n k
+
+-- A word without `-` is read as the numbers 0 to 11 are, and as nothing else.
+pub plain-numbers : (w : List ℕ) (n : ℕ) → ((b : ℕ) → Mem b w → b ≢ 45) → (numberOf w ≡ Is n) ↔ ((n < 12) × (w ≡ decimal n))
+unfolding numberOf
+plain-numbers [] n h = (digits-spelled [] n, λ k. digits-read [] n (k .0) (k .1))
+plain-numbers (b ∷ w) n h =
+    let plain = ne-eqb b 45 (h b (here refl)) in
+    ((λ e. digits-spelled (b ∷ w) n (rw plain at e)), λ k. rw plain (digits-read (b ∷ w) n (k .0) (k .1)))
 
 -- ---- three numbers
 triple-by : (x y z : Number) (v : Translation) → triple x y z ≡ By v → (x ≡ Is (v .x)) × (y ≡ Is (v .y)) × (z ≡ Is (v .z))
@@ -182,7 +250,7 @@ triple-by None m n v h = let z : _≡_ {A = ℕ} 0 1 = cc in absurd (omega arith
 
 -- Where the next word is a number, there is a token.
 word-cut : (s : List ℕ) (n : ℕ) → numberOf (firstWord s) ≡ Is n → (w : List ℕ) × Cut s w (firstWord s) (behindWord s)
-unfolding numberOf run
+unfolding numberOf digitsOf run
 word-cut s n h = go (first-token s)
   where
     go : FirstToken s → (w : List ℕ) × Cut s w (firstWord s) (behindWord s)
@@ -194,7 +262,7 @@ word-cut s n h = go (first-token s)
     go (token w t after cut) = (w, rw (cut-firstword s w t after cut, cut-behind s w t after cut) cut)
 
 -- Three spelled numbers are read.
-pub numbers-read : (s : List ℕ) (v : Translation) → NumbersSpelled s v → numbersOf s ≡ By v
+pub numbers-read : (s : List ℕ) (v : Vector) → NumbersSpelled s v → numbersOf s ≡ By (shiftBy v)
 unfolding numbersOf
 numbers-read s v n =
     let all = every-run whitespace (n .behind-z) (n .blank) in
@@ -211,10 +279,10 @@ numbers-read s v n =
       number-read (n .word-z) (v .z) (n .number-z),
     )
 
--- Three numbers that are read are spelled.
-pub numbers-spelled : (s : List ℕ) (v : Translation) → numbersOf s ≡ By v → NumbersSpelled s v
+-- Three numbers that are read are spelled, by integers with those residues.
+pub numbers-spelled : (s : List ℕ) (t : Translation) → numbersOf s ≡ By t → (v : Vector) × NumbersSpelled s v × (shiftBy v ≡ t)
 unfolding numbersOf
-numbers-spelled s v h = go (leb (length r) (run whitespace r)) refl h
+numbers-spelled s t h = go (leb (length r) (run whitespace r)) refl h
   where
     q : List ℕ
     q = behindWord (behindWord s)
@@ -222,30 +290,36 @@ numbers-spelled s v h = go (leb (length r) (run whitespace r)) refl h
     r : List ℕ
     r = behindWord q
 
-    go : (b : Bool) → leb (length r) (run whitespace r) ≡ b → cond b (triple (numberOf (firstWord s)) (numberOf (firstWord (behindWord s))) (numberOf (firstWord q))) Malformed ≡ By v → NumbersSpelled s v
+    go : (b : Bool) → leb (length r) (run whitespace r) ≡ b → cond b (triple (numberOf (firstWord s)) (numberOf (firstWord (behindWord s))) (numberOf (firstWord q))) Malformed ≡ By t → (v : Vector) × NumbersSpelled s v × (shiftBy v ≡ t)
     go true e k =
-        let (x, y, z) = triple-by (numberOf (firstWord s)) (numberOf (firstWord (behindWord s))) (numberOf (firstWord q)) v k in
-        let (wx, cx) = word-cut s (v .x) x in
-        let (wy, cy) = word-cut (behindWord s) (v .y) y in
-        let (wz, cz) = word-cut q (v .z) z in
-        record {
-          gap-x = wx;
-          word-x = firstWord s;
-          behind-x = behindWord s;
-          gap-y = wy;
-          word-y = firstWord (behindWord s);
-          behind-y = q;
-          gap-z = wz;
-          word-z = firstWord q;
-          behind-z = r;
-          cut-x = cx;
-          cut-y = cy;
-          cut-z = cz;
-          blank = run-all whitespace r (leb-true (length r) (run whitespace r) e);
-          number-x = number-spelled (firstWord s) (v .x) x;
-          number-y = number-spelled (firstWord (behindWord s)) (v .y) y;
-          number-z = number-spelled (firstWord q) (v .z) z;
-        }
+        let (x, y, z) = triple-by (numberOf (firstWord s)) (numberOf (firstWord (behindWord s))) (numberOf (firstWord q)) t k in
+        let (wx, cx) = word-cut s (t .x) x in
+        let (wy, cy) = word-cut (behindWord s) (t .y) y in
+        let (wz, cz) = word-cut q (t .z) z in
+        let (vx, sx, rx) = number-spelled (firstWord s) (t .x) x in
+        let (vy, sy, ry) = number-spelled (firstWord (behindWord s)) (t .y) y in
+        let (vz, sz, rz) = number-spelled (firstWord q) (t .z) z in (
+          record { x = vx; y = vy; z = vz },
+          record {
+            gap-x = wx;
+            word-x = firstWord s;
+            behind-x = behindWord s;
+            gap-y = wy;
+            word-y = firstWord (behindWord s);
+            behind-y = q;
+            gap-z = wz;
+            word-z = firstWord q;
+            behind-z = r;
+            cut-x = cx;
+            cut-y = cy;
+            cut-z = cz;
+            blank = run-all whitespace r (leb-true (length r) (run whitespace r) e);
+            number-x = sx;
+            number-y = sy;
+            number-z = sz;
+          },
+          λ i. record { x = rx i; y = ry i; z = rz i },
+        )
     go false e k = let z : _≡_ {A = ℕ} 0 1 = cc in absurd (omega arith)
 
 -- ---- the shift
@@ -268,13 +342,19 @@ digit-unclosed : (b : ℕ) → 48 ≤ b → unclosed b ≡ true
 unfolding unclosed
 digit-unclosed b h = rw (ne-eqb b 41 (omega arith))
 
--- Nor does a number hold one.
-number-unclosed : (w : List ℕ) (n : ℕ) → NumberSpelled w n → Every unclosed w
-number-unclosed w n (h, e) = go (ltb n 10) refl e
+-- Nor do digits hold one.
+digits-unclosed : (n : ℕ) → Every unclosed (decimal n)
+digits-unclosed n = go (ltb n 10) refl
   where
-    go : (b : Bool) → ltb n 10 ≡ b → w ≡ cond b ((48 + n) ∷ []) (49 ∷ (38 + n) ∷ []) → Every unclosed w
-    go true t k = rw k (digit-unclosed (48 + n) (omega arith), tt)
-    go false t k = let low = ltb-false n 10 t in rw k (digit-unclosed 49 (omega arith), (digit-unclosed (38 + n) (omega arith), tt))
+    go : (b : Bool) → ltb n 10 ≡ b → Every unclosed (cond b ((48 + n) ∷ []) (49 ∷ (38 + n) ∷ []))
+    go true t = (digit-unclosed (48 + n) (omega arith), tt)
+    go false t = let low = ltb-false n 10 t in (digit-unclosed 49 (omega arith), (digit-unclosed (38 + n) (omega arith), tt))
+
+-- Nor does a number.
+number-unclosed : (w : List ℕ) (z : ℤ) → NumberSpelled w z → Every unclosed w
+unfolding unclosed
+number-unclosed w z′ (above n h e) = rw e (digits-unclosed n)
+number-unclosed w z′ (below k h l e) = rw e (refl, digits-unclosed k)
 
 -- Nor a cut text of such parts.
 cut-unclosed : (s w t after : List ℕ) → Cut s w t after → Every unclosed t → Every unclosed after → Every unclosed s
@@ -282,14 +362,14 @@ cut-unclosed s w t after cut h k =
     rw (cut .text) (every-append unclosed w (t ++ after) (blank-unclosed w (cut .blank)) (every-append unclosed t after h k))
 
 -- Nor three numbers.
-numbers-unclosed : (s : List ℕ) (v : Translation) → NumbersSpelled s v → Every unclosed s
+numbers-unclosed : (s : List ℕ) (v : Vector) → NumbersSpelled s v → Every unclosed s
 numbers-unclosed s v n =
     cut-unclosed s _ _ _ (n .cut-x) (number-unclosed (n .word-x) (v .x) (n .number-x))
     (cut-unclosed (n .behind-x) _ _ _ (n .cut-y) (number-unclosed (n .word-y) (v .y) (n .number-y))
     (cut-unclosed (n .behind-y) _ _ _ (n .cut-z) (number-unclosed (n .word-z) (v .z) (n .number-z)) (blank-unclosed (n .behind-z) (n .blank))))
 
 -- The first `)` is the one that closes the shift.
-closed-read : (inside after : List ℕ) (v : Translation) → NumbersSpelled inside v → Every whitespace after → closedShift (inside ++ (41 ∷ after)) ≡ By v
+closed-read : (inside after : List ℕ) (v : Vector) → NumbersSpelled inside v → Every whitespace after → closedShift (inside ++ (41 ∷ after)) ≡ By (shiftBy v)
 unfolding closedShift unclosed
 closed-read inside after v n b =
     let close : run unclosed (inside ++ (41 ∷ after)) ≡ length inside = run-seam unclosed inside (41 ∷ after) (numbers-unclosed inside v n) refl in
@@ -306,7 +386,7 @@ closed-read inside after v n b =
     (numbers-read inside v n)
 
 -- A spelled shift is read.
-pub shift-read : (s : List ℕ) (v : Translation) → ShiftSpelled s v → shiftOf s ≡ By v
+pub shift-read : (s : List ℕ) (v : Vector) → ShiftSpelled s v → shiftOf s ≡ By (shiftBy v)
 shift-read s v h = rw (h .brackets) (closed-read (h .inside) (h .after) v (h .numbers) (h .blank))
 
 -- The byte that closes is 41.
@@ -320,9 +400,9 @@ unfolding opening
 opening-byte b h = eqb-true b 40 h
 
 -- A closed shift that is read is spelled.
-closed-spelled : (s : List ℕ) (v : Translation) → closedShift s ≡ By v → ShiftSpelled (40 ∷ s) v
+closed-spelled : (s : List ℕ) (t : Translation) → closedShift s ≡ By t → (v : Vector) × ShiftSpelled (40 ∷ s) v × (shiftBy v ≡ t)
 unfolding closedShift
-closed-spelled s v h = go (ltb close (length s) && leb (length after) (run whitespace after)) refl h
+closed-spelled s t h = go (ltb close (length s) && leb (length after) (run whitespace after)) refl h
   where
     close : ℕ
     close = run unclosed s
@@ -330,21 +410,25 @@ closed-spelled s v h = go (ltb close (length s) && leb (length after) (run white
     after : List ℕ
     after = drop (suc close) s
 
-    go : (b : Bool) → ltb close (length s) && leb (length after) (run whitespace after) ≡ b → cond b (numbersOf (take close s)) Malformed ≡ By v → ShiftSpelled (40 ∷ s) v
+    go : (b : Bool) → ltb close (length s) && leb (length after) (run whitespace after) ≡ b → cond b (numbersOf (take close s)) Malformed ≡ By t → (v : Vector) × ShiftSpelled (40 ∷ s) v × (shiftBy v ≡ t)
     go true e k =
         let (there, only) = and-both (ltb close (length s)) (leb (length after) (run whitespace after)) e in
         let within = ltb-true close (length s) there in
         let bracket = closed-byte (getD s close 0) (run-at unclosed s within) in
-        record {
-          inside = take close s;
-          after = after;
-          brackets = ap (λ (l : List ℕ). 40 ∷ l) (split-at s close 0 within ∙ ap (λ (b : ℕ). take close s ++ (b ∷ after)) bracket);
-          numbers = numbers-spelled (take close s) v k;
-          blank = run-all whitespace after (leb-true (length after) (run whitespace after) only);
-        }
+        let (v, numbers, same) = numbers-spelled (take close s) t k in (
+          v,
+          record {
+            inside = take close s;
+            after = after;
+            brackets = ap (λ (l : List ℕ). 40 ∷ l) (split-at s close 0 within ∙ ap (λ (b : ℕ). take close s ++ (b ∷ after)) bracket);
+            numbers = numbers;
+            blank = run-all whitespace after (leb-true (length after) (run whitespace after) only);
+          },
+          same,
+        )
     go false e k = let z : _≡_ {A = ℕ} 0 1 = cc in absurd (omega arith)
 
 -- A shift that is read is spelled.
-pub shift-spelled : (s : List ℕ) (v : Translation) → Opens s → shiftOf s ≡ By v → ShiftSpelled s v
-shift-spelled [] v h k = absurd h
-shift-spelled (b ∷ s) v h k = rw (opening-byte b h) (closed-spelled s v k)
+pub shift-spelled : (s : List ℕ) (t : Translation) → Opens s → shiftOf s ≡ By t → (v : Vector) × ShiftSpelled s v × (shiftBy v ≡ t)
+shift-spelled [] t h k = absurd h
+shift-spelled (b ∷ s) t h k = rw (opening-byte b h) (closed-spelled s t k)

@@ -1,7 +1,9 @@
 -- The shift by 01, "From text to generators": `(`, three numbers separated by whitespace, `)`, and then only whitespace.
+use mathlib.Core.Path.{_≡_, refl}
 use mathlib.Core.Bool.{Bool, cond, _&&_}
-use mathlib.Core.List.{List}
+use mathlib.Core.List.{List, [], _∷_}
 use Prim.Native.Nat.{ℕ, suc, _-_}
+use native.Mathlib.Omega.{arith}
 use lib.Dec.{eqb, leb, ltb}
 use lib.ListN.{length, getD, take, drop}
 use Rattle.operation.specs.declared.Translation.{Translation}
@@ -15,7 +17,7 @@ use Rattle.hall_symbol.specs.declared.shift.NumberRead.the-variants.{Is 
 use Rattle.hall_symbol.specs.declared.shift.Shift.{Shift}
 use Rattle.hall_symbol.specs.declared.shift.Shift.the-variants.{By, Malformed}
 
--- ---- the numbers that a shift may hold: 0 to 11, no sign, no leading zero
+-- ---- the numbers that a shift may hold: −11 to 11, no `-0`, no leading zero, each modulo 12
 -- One digit is the byte 48 to 57.
 unfoldable pub oneDigit : ℕ → Number
 oneDigit b = cond (leb 48 b && leb b 57) (Is (b - 48)) None
@@ -25,10 +27,28 @@ unfoldable pub twoDigits : ℕ → ℕ → Number
 twoDigits a b = cond (eqb a 49 && (leb 48 b && leb b 49)) (Is (b - 38)) None
 
 -- A number is of one digit or of two.
-unfoldable pub numberOf : List ℕ → Number
-numberOf w =
+unfoldable pub digitsOf : List ℕ → Number
+digitsOf w =
     cond (eqb (length w) 1) (oneDigit (getD w 0 0))
     (cond (eqb (length w) 2) (twoDigits (getD w 0 0) (getD w 1 0)) None)
+
+-- −n is 12 − n after reduction, for n from 1 to 11.
+unfoldable pub belowZero : ℕ → Number
+belowZero n = cond (leb 1 n && leb n 11) (Is (12 - n)) None
+
+abbrev pub opposed : Number → Number
+opposed (Is n) = belowZero n
+opposed None = None
+
+-- The byte 45, `-`, may stand directly before the digits.
+unfoldable pub numberOf : List ℕ → Number
+numberOf w = cond (eqb (getD w 0 0) 45) (opposed (digitsOf (drop 1 w))) (digitsOf w)
+
+-- An empty word is none.
+pub no-word : (w : List ℕ) → length w ≡ 0 → None ≡ numberOf w
+unfolding numberOf digitsOf
+no-word [] h = refl
+no-word (b ∷ w) h = absurd (omega arith)
 
 -- A number as a word of a longer text, from place p on, and the place behind it.
 abbrev pub numberEnding : ℕ → Number → NumberRead

@@ -5,8 +5,9 @@ use mathlib.Core.Bool.{Bool, true, false, cond}
 use mathlib.Core.List.{List, [], _∷_, _++_, map}
 use Prim.Native.Nat.{ℕ, _+_, _<_, _≤_}
 use lib.Dec.{ltb}
+use lib.IntN.{ℤ, pos, negℤ}
 use lib.ListN.{length, getD}
-use Rattle.operation.specs.declared.Translation.{Translation}
+use Rattle.laws.specs.Matrix.{Vector}
 use Rattle.operation.specs.declared.Operation.{Operation}
 use Rattle.centering.specs.Letters.{byteOf}
 use Rattle.centering.specs.declared.Centering.{Centering}
@@ -19,8 +20,7 @@ use Rattle.hall_token.specs.declared.refusal.Refusal as token
 use Rattle.hall_symbol.specs.Bytes.{whitespace, allowed, opening}
 use Rattle.hall_symbol.specs.Runs.{Every, Stops}
 use Rattle.hall_symbol.specs.Cut.{Cut}
-use Rattle.hall_symbol.specs.Shift.{noShift}
-use Rattle.hall_symbol.specs.Generators.{leading, shifted}
+use Rattle.hall_symbol.specs.Generators.{leading, shiftBy, shifted}
 use Rattle.hall_symbol.specs.Reader.{Reading, symbol, refusal, noPrevious, nextPrevious}
 use Rattle.hall_symbol.specs.declared.refusal.Refusal.{Refusal}
 use Rattle.hall_symbol.specs.declared.refusal.Refusal.the-variants.{TooLong, ForbiddenByte, NoToken, Lattice, Token, Shift, NoRotation, TooMany}
@@ -36,12 +36,13 @@ latticeSpelling false c = byteOf c ∷ []
 abbrev pub decimal : ℕ → List ℕ
 decimal n = cond (ltb n 10) ((48 + n) ∷ []) (49 ∷ (38 + n) ∷ [])
 
--- The numbers 0 to 11.
-abbrev pub NumberSpelled : List ℕ → ℕ → Type 0
-NumberSpelled w n = (n < 12) × (w ≡ decimal n)
+-- The integers −11 to 11; below zero the byte 45, `-`, stands directly before the digits, and 0 has no sign.
+pub data NumberSpelled (w : List ℕ) : ℤ → Type 0 where
+  above : (n : ℕ) → n < 12 → w ≡ decimal n → NumberSpelled w (pos n)
+  below : (k : ℕ) → 1 ≤ k → k ≤ 11 → w ≡ 45 ∷ decimal k → NumberSpelled w (negℤ (pos k))
 
 -- Three numbers separated by whitespace, which may also stand before and behind them.
-pub record NumbersSpelled (s : List ℕ) (v : Translation) : Type 0 where
+pub record NumbersSpelled (s : List ℕ) (v : Vector) : Type 0 where
   pub gap-x : List ℕ
   pub word-x : List ℕ
   pub behind-x : List ℕ
@@ -60,7 +61,7 @@ pub record NumbersSpelled (s : List ℕ) (v : Translation) : Type 0 where
   pub number-z : NumberSpelled word-z (v .z)
 
 -- `(`, three numbers, `)`, and then only whitespace.
-pub record ShiftSpelled (s : List ℕ) (v : Translation) : Type 0 where
+pub record ShiftSpelled (s : List ℕ) (v : Vector) : Type 0 where
   pub inside : List ℕ
   pub after : List ℕ
   pub brackets : s ≡ 40 ∷ (inside ++ (41 ∷ after))
@@ -84,9 +85,9 @@ pub data Begins (text : List ℕ) : Centering → List Operation → Previous �
   rotation : {c : Centering} {found : List Operation} {previous : Previous} {p : ℕ} {s w t after : List ℕ} (o : Operation) (f : Fold) (a : Axis) → Begins text c found previous p s → Cut s w t after → Stops opening t → previous .count < 8 → Answers t previous (IsOperation o f a) → Begins text c (found ++ (o ∷ [])) (nextPrevious previous f a) (p + length w + length t) after
 
 -- The end of a symbol: only whitespace, or a shift.
-pub data Ending (s : List ℕ) : Translation → Type 0 where
-  plain : Every whitespace s → Ending s noShift
-  moved : {w t after : List ℕ} (v : Translation) → Cut s w t after → ShiftSpelled (t ++ after) v → Ending s v
+pub data Ending (s : List ℕ) : Vector → Type 0 where
+  plain : Every whitespace s → Ending s (record { x = pos 0; y = pos 0; z = pos 0 })
+  moved : {w t after : List ℕ} (v : Vector) → Cut s w t after → ShiftSpelled (t ++ after) v → Ending s v
 
 -- The text spells the symbol with the letter c and the generators gs.
 pub record Spells (text : List ℕ) (c : Centering) (gs : List Operation) : Type 0 where
@@ -94,11 +95,11 @@ pub record Spells (text : List ℕ) (c : Centering) (gs : List Operation) : Type
   pub previous : Previous
   pub p : ℕ
   pub s : List ℕ
-  pub v : Translation
+  pub v : Vector
   pub begins : Begins text c found previous p s
   pub some : 0 < previous .count
   pub ending : Ending s v
-  pub generators : gs ≡ map (shifted v) found
+  pub generators : gs ≡ map (shifted (shiftBy v)) found
 
 -- ---- the refusals
 -- 2: the first byte that may not stand in a symbol is at the place.
@@ -151,7 +152,7 @@ pub record ShiftMalformed (text : List ℕ) (place : ℕ) : Type 0 where
   pub next : Next text previous place t after
   pub opens : Opens t
   pub some : 0 < previous .count
-  pub malformed : (v : Translation) → ShiftSpelled (t ++ after) v → ⊥
+  pub malformed : (v : Vector) → ShiftSpelled (t ++ after) v → ⊥
 
 -- 10: behind the first token comes the text's end, the place being its length, or at the place a token that starts with `(`.
 pub data RotationMissing (text : List ℕ) : ℕ → Type 0 where

@@ -3,13 +3,13 @@
 ghost use mathlib.Core.Path.{_≡_};
 ghost use Prim.Native.Nat.{_<_, _≤_};
 ghost use lib.ListN.{length, drop};
-ghost use Rattle.hall_symbol.specs.Shift.{oneDigit, twoDigits, numberOf, numberFrom, numbersOf, shiftOf};
+ghost use Rattle.hall_symbol.specs.Shift.{oneDigit, twoDigits, digitsOf, belowZero, opposed, numberOf, numberFrom, numbersOf, shiftOf};
 use super::bytes::Class;
 use super::bytes::next_word;
 use super::bytes::scan;
 use operation::Translation;
 
-// A number of twelfths that a shift may hold.
+// A number of twelfths that a shift may hold, modulo 12.
 pub enum Number {
     Is(u8),
     None,
@@ -47,8 +47,8 @@ fn two_digits(tens: u8, ones: u8) -> Number
     }
 }
 
-fn parse_number(word: &[u8]) -> Number
-    ensures { λ r. ⌜ r ≡ numberOf (now (word .entry)) ⌝ }
+fn parse_digits(word: &[u8]) -> Number
+    ensures { λ r. ⌜ r ≡ digitsOf (now (word .entry)) ⌝ }
 {
     if word.len() == 1 {
         return one_digit(word[0]);
@@ -57,6 +57,38 @@ fn parse_number(word: &[u8]) -> Number
         return two_digits(word[0], word[1]);
     }
     Number::None
+}
+
+// The whole cell less n twelfths, for the numbers that may follow a `-`.
+fn below_zero(n: u8) -> Number
+    ensures { λ r. ⌜ r ≡ belowZero n ⌝ }
+{
+    match n {
+        1..=11 => Number::Is(12 - n),
+        _ => Number::None,
+    }
+}
+
+// The number whose digits follow a `-`.
+fn parse_below(digits: &[u8]) -> Number
+    ensures { λ r. ⌜ r ≡ opposed (digitsOf (now (digits .entry))) ⌝ }
+{
+    let Number::Is(n) = parse_digits(digits) else {
+        return Number::None;
+    };
+    below_zero(n)
+}
+
+fn parse_number(word: &[u8]) -> Number
+    ensures { λ r. ⌜ r ≡ numberOf (now (word .entry)) ⌝ }
+{
+    if word.len() == 0 {
+        return Number::None;
+    }
+    if word[0] == b'-' {
+        return parse_below(&word[1..]);
+    }
+    parse_digits(word)
 }
 
 // The next number from a place on.
