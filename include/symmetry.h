@@ -70,12 +70,12 @@ enum symmetry_refusal {
     SYMMETRY_TEXT_TOO_LONG = 1,     /* over 80 bytes; at 80 */
     SYMMETRY_BYTE_FORBIDDEN = 2,    /* a byte that is not 9 to 13 or 32 to 126; at the first such byte */
     SYMMETRY_NO_TOKEN = 3,          /* nothing but whitespace; at 0 */
-    SYMMETRY_LATTICE_WRONG = 4,     /* the first token is not one of P A B C I R F, with or without a minus; at that token */
+    SYMMETRY_LATTICE_WRONG = 4,     /* the first token is not one of P A B C I R F H, with or without a minus; at that token */
     SYMMETRY_TOKEN_MISSPELT = 5,    /* an N token that no rule spells; at its first offending byte, or where a missing fold should stand */
     SYMMETRY_AXIS_UNSETTLED = 6,    /* no axis follows from the token and those before it, or fold and axis have no matrix; at that token */
     SYMMETRY_DIGIT_WRONG = 7,       /* a screw digit out of range, on another axis than z, not first, or a second one; at the first such digit */
     SYMMETRY_TOKEN_PRIMED = 8,      /* an apostrophe, which only magnetic symbols have; at that token */
-    SYMMETRY_SHIFT_MALFORMED = 9,   /* the shift of origin is not three numbers 0 to 11 in brackets at the end; at its opening bracket */
+    SYMMETRY_SHIFT_MALFORMED = 9,   /* the shift of origin is not three numbers -11 to 11 in brackets at the end; at its opening bracket */
     SYMMETRY_NO_ROTATION = 10,      /* no N token; at the opening bracket, or at the text's length */
     SYMMETRY_TOO_MANY_TOKENS = 11,  /* a ninth N token; at that token */
     SYMMETRY_LETTER_DOUBLED = 17,   /* a letter a b c n u v w d twice in one N token; at the first that repeats an earlier one */
@@ -99,7 +99,7 @@ enum symmetry_refusal {
     /* A group record; at 0. */
     SYMMETRY_RECORD_SHORT = 30,     /* under 10 bytes */
     SYMMETRY_RECORD_EDITION = 31,   /* the edition is not 1 */
-    SYMMETRY_RECORD_LETTER = 32,    /* the letter is not one of P A B C I R F */
+    SYMMETRY_RECORD_LETTER = 32,    /* the letter is not one of P A B C I R F H */
     SYMMETRY_RECORD_LENGTH = 33,    /* not 1 to 48 operations, or a stated length that is wrong or beyond the buffer */
     SYMMETRY_RECORD_ITEM = 34,      /* a code over 19682, a coordinate over 11, a translation not the smallest of its class, or codes not ascending */
     SYMMETRY_RECORD_NO_GROUP = 35   /* what is listed is no group that a record may hold */
@@ -198,7 +198,7 @@ uint64_t symmetry_symbol_identity(const uint8_t *text, size_t text_length);
 uint64_t symmetry_record_identity(const uint8_t *record, size_t record_length);
 uint64_t symmetry_table_identity(uint64_t order, const uint8_t *table, size_t table_length);
 
-/* The byte of the centring letter, one of P A B C I R F. */
+/* The byte of the centring letter, one of P A B C I R F H. */
 uint64_t symmetry_symbol_letter(const uint8_t *text, size_t text_length);
 uint64_t symmetry_record_letter(const uint8_t *record, size_t record_length);
 

@@ -12,7 +12,7 @@ from itertools import permutations, product
 FOLDS = "12346"
 MARKS = ("", "^", "=")
 AXES = ("", "x", "y", "z", "*")
-LETTERS = "PABCIRF"
+LETTERS = "PABCIRFH"
 
 REFUSED_BY_HAND = {
     1: [b"P 1".ljust(81), b"P 2".ljust(200), b"x" * 81, b"\xff" * 81, b" " * 81, b"P" + b" 1" * 40,
@@ -22,9 +22,9 @@ REFUSED_BY_HAND = {
         b"P\xc3\xa9 2",
         b"P 2 (0 0 0\xc3\xa9)", b"P 2 (0 0 0)\xc2\xa0", b"P\x1c2", b"P 2 \xe2\x80\xa8", b"P\x80 2"],
     3: [b"", b" ", b"\t\n\x0b\x0c\r ", b" " * 80],
-    4: [b"H 3", b"p 1", b"--P 1", b"-", b"PP 1", b"P2", b"P2 2", b"P1", b"R3", b"X 1", b"1 P", b"+P 1", b"P- 1",
+    4: [b"h 3", b"p 1", b"--P 1", b"-", b"PP 1", b"P2", b"P2 2", b"P1", b"R3", b"X 1", b"1 P", b"+P 1", b"P- 1",
         b"-P- 1", b"P( 1", b"(0 0 0)", b" Q 1", b"'P 1", b"-p 1", b"P(0 0 0) 1", b"-(0 0 0)", b"- P 1", b"P, 2",
-        b"-P1 2", b"Pz 2", b"P* 3", b"P' 1", b"0 1", b"- 1", b"P) 1", b"H", b"-H 3", b"PQ"],
+        b"-P1 2", b"Pz 2", b"P* 3", b"P' 1", b"0 1", b"- 1", b"P) 1", b"-h 3", b"H3", b"HH 3", b"PQ"],
     5: [b"P 5", b"P 0", b"P 7", b"P x", b"P -", b"P --1", b"P 2xx", b"P 2^^", b"P 2x^", b"P 2^=z", b"P 27", b"P 20",
         b"P 2q", b"P 2-", b"P 2)", b"P 2(0 0 0)", b"P )", b"P 0 0 0)", b"P +2", b"P 2A", b"P 2ax", b"P 2a*", b"P .",
         b"P 2,2", b"P 2\"", b"P 2 q", b"P 2 2 2q", b"P 1 1 1 5", b"P 1xq", b"P 2a q", b"P 2'q", b"P 5'", b"P 2 - 2",
@@ -48,18 +48,18 @@ REFUSED_BY_HAND = {
         b"P 2 (0 0 100)", b"P 2 (0 0 1a)", b"P 2 (0.0 0 0)", b"P 2 (6. 0 0)", b"P 2 (.5 0 0)", b"P 2 (a b c)",
         b"-P 1 (-12 0 0)", b"-P 1 (0 0 -13)", b"P 2 (0 0 -01)", b"P 2 (0 0 -00)", b"P 2 (0 0 --1)", b"P 2 (0 0 -)", b"P 2 (0 0 - 1)",
         b"P 2 (0 0 -+1)", b"P 2 (0 0 +-1)", b"P 2 (0 0 1-)", b"P 2 (0 0 -1-1)", b"P 2 (-1-1-1)", b"P 2 (0 0 -1.)", b"-P 1 (0 0 24)", b"P 4 (1e30 0 0)", b"P 2 (0 0 0)'", b"P 2 (0 0 0)x"],
-    10: [b"P", b"-P", b" P ", b"P\t", b"F", b"P (0 0 0)", b"-P (0 0 1)", b"P (", b"P (x", b"-R", b"P ()",
+    10: [b"P", b"-P", b" P ", b"P\t", b"F", b"P (0 0 0)", b"-P (0 0 1)", b"P (", b"P (x", b"-R", b"H", b"P ()",
          b"I (0 0 12)", b"-P (0 0 0", b"  -A  "],
     11: [b"P" + b" 1" * 9, b"P" + b" 1" * 8 + b" q", b"P 2 2 3 1 1 1 1 1 1", b"P" + b" 1" * 9 + b" (0 0 0)",
          b"-P 4 2 3 1 1 1 1 1 -1", b"P" + b" 1" * 8 + b" 2'"],
     12: [b"R 2", b"A 4", b"B 4", b"C 3", b"A 3*", b"C 4x", b"R 4", b"R -2", b"I 3", b"F 3", b"F 6", b"I 6", b"A 6",
          b"R 3x", b"-R 2", b"C 2 2 3", b"A 2 4y", b"-A 1 4z", b"B 2^x", b"C 2^x", b"A 2^", b"R 2^ 2", b"R 3 2x", b"I 3x",
-         b"F 6y", b"A 4 6", b"R 6", b"R 3*", b"R 3 2^", b"R 2^z", b"R 3 -2^", b"-R 3 2^", b"-R 3 2 (4 8 8)", b"C 6 2"],
+         b"F 6y", b"A 4 6", b"R 6", b"R 3*", b"R 3 2^", b"R 2^z", b"R 3 -2^", b"-R 3 2^", b"-R 3 2 (4 8 8)", b"C 6 2", b"H 4", b"H 2^x", b"H 3*", b"H 6 2x", b"-H 4 2"],
     13: [b"P 4 6", b"P 3 2x", b"P 3 4x", b"P 6 2x", b"P 3 3x", b"P 3x 3y", b"P 4 3", b"P 6 2y", b"P 3y 2z", b"P 6 4x",
          b"-P 4 6", b"P 3 2 3", b"P 6 3*", b"P 4 3x", b"P 2 6x 3", b"P 3z 3*", b"P 6x 6y 6z", b"P 3z 3x 2^z",
          b"P 6y 2^x", b"P 1a 4z 6z", b"P 2w 3x"],
     14: [b"P 1a", b"P 1n", b"P 1abc", b"P 2w", b"P 4a 2u", b"-P 2u", b"-P 2uv", b"-P 2vu", b"F 2d", b"P -1 1c", b"P 2 2a 2y",
-         b"P 2x 2xa", b"A 1a", b"C 1a", b"I 1a", b"F 1a", b"P 3w", b"P 62w", b"P 2 2 3a", b"R 1c",
+         b"P 2x 2xa", b"A 1a", b"C 1a", b"I 1a", b"F 1a", b"P 3w", b"P 62w", b"P 2 2 3a", b"R 1c", b"H 1c", b"H 3c",
          b"P 2d", b"P 1w", b"P 3n", b"P 41 2 1a", b"P 4w 2u", b"-P 4w", b"P 3* 2xa", b"A 1u"],
 }
 
@@ -100,6 +100,7 @@ ACCEPTED_BY_HAND = [
     b"I 4x", b"I 3*", b"I 2^", b"F 4x", b"F 3*", b"F 2^x", b"R 3", b"-R 3", b"R 3 2=", b"R 2=z", b"R 3 -2=", b"-R 3 2=",
     b"R 31", b"R 32", b"A 2 2", b"B 2 2", b"-A 2", b"-B 4y", b"-C 4 2", b"-I 4 2", b"-F 2 2", b"-R 1", b"C 41", b"I 41",
     b"F 21", b"A 21", b"C 2c", b"I 2c", b"I 2b", b"A 2a",
+    b"H 3", b"-H 3", b"H 2", b"H 6", b"-H 6 2", b"H 31", b"H 32 2", b"H 61 2 (0 0 5)", b"-H 3 2=c", b"H 3 (8 4 0)", b"-H 1 (2 4 0)",
     # eight N tokens, and eighty bytes
     b"P" + b" 1" * 8, b"P" + b" 1" * 8 + b" (1 2 3)", b"-P 4 2 3 1 1 1 1 -1", b"P 2x 2x 2x 2x 2x 2x 2x 2x",
     b"P 1".ljust(80), b"P 1".rjust(80), b"P 2" + b" " * 70 + b"(0 0 1)", b"P 1" + b"a" * 76 + b" ",

@@ -134,6 +134,11 @@ PANIC_LINES = {
 }
 
 
+def triple_cell(text):
+    """The letter H, which is commented out in the Rust: it answers None."""
+    return text.split()[:1] in ([b"H"], [b"-H"])
+
+
 def sort_symbol(text, said, answer, generators):
     """What the model's word and the original's two answers are: (kind, whether it is listed)."""
     words = answer.split(" ")
@@ -142,7 +147,7 @@ def sort_symbol(text, said, answer, generators):
     if words[0] == "utf8":
         return "refused %d, no UTF-8" % number, number in (1, 2)
     if words[0] == "none":
-        return ("both refuse", True) if refused else ("refused by the Rust only", False)
+        return ("both refuse", True) if refused else ("refused by the Rust only", triple_cell(text))
     if words[0] == "panic":
         place = "%s:%s" % tuple(words[1:])
         listed = refused and words[1] == "hall_symbol.rs" and int(words[2]) in PANIC_LINES
@@ -162,6 +167,8 @@ def sort_generators(text, answer):
     if isinstance(said[0], int):
         return None
     letter, generators = said
+    if answer == "none":
+        return "generators: refused by the Rust only", triple_cell(text)
     found_letter, points, found = read_generators(answer)
     rounded = [(rotation, tuple(round(12 * double_of(part)) % 12 for part in parts)) for rotation, parts in found]
     if (found_letter, points, rounded) != (letter, len(model.POINTS[letter]), generators):

@@ -11,11 +11,12 @@ import sys
 
 import cases
 import model
-from compare import ask, database, double_of, hex_of, read_list
+from compare import ask, database, double_of, hex_of, read_list, triple_cell
 
 DAMAGED_COUNT = 6000
 DAMAGED_SEED = 2
 RECORD_COUNT = 2500
+TRIPLE_CELL_RECORD_COUNT = 300
 RECORD_SEED = 3
 TYPES_A_LINE = 81
 
@@ -38,6 +39,12 @@ def record_verdict(buffer):
 def accepted_records(texts):
     said = (model.outcome(model.group_of_symbol, text) for text in texts)
     return [model.record(*found) for found in said if not isinstance(found[0], int)]
+
+
+def record_buffers(texts):
+    """Damaged records of the letters that the Rust has, then of H."""
+    known = cases.damaged_records(accepted_records(text for text in texts if not triple_cell(text)), RECORD_COUNT, RECORD_SEED)
+    return known + cases.damaged_records(accepted_records(filter(triple_cell, texts)), TRIPLE_CELL_RECORD_COUNT, RECORD_SEED)
 
 
 def answers(harness, command, texts):
@@ -167,8 +174,7 @@ def main(arguments):
     texts = known + [text for text in cases.extra_symbols() if text not in known]
     write_lines(folder, "symbols.txt", map(verdict, texts))
     write_lines(folder, "damaged.txt", map(verdict, cases.damaged_symbols(known, DAMAGED_COUNT, DAMAGED_SEED)))
-    buffers = cases.damaged_records(accepted_records(texts), RECORD_COUNT, RECORD_SEED)
-    write_lines(folder, "records.txt", map(record_verdict, buffers))
+    write_lines(folder, "records.txt", map(record_verdict, record_buffers(texts)))
     write_lines(folder, "generators.txt", answers(harness, "generators", texts))
     write_lines(folder, "operations.txt", answers(harness, "operations", texts))
     write_lines(folder, "rotation_types.txt", rotation_types(harness))

@@ -34,7 +34,7 @@ MOST_BYTES = 80
 MOST_N_TOKENS = 8
 WHITESPACE = bytes([9, 10, 11, 12, 13, 32])
 PRINTED = range(32, 127)
-LETTERS = "PABCIRF"
+LETTERS = "PABCIRFH"
 
 N_TOKEN = re.compile(rb"(-?)([12346])([\^=]?)([xyz*]?)([1-6abcnuvwd']*)")
 N_TOKEN_START = re.compile(rb"-?|(-?)([12346])([\^=]?)([xyz*]?)([1-6abcnuvwd']*)")
@@ -102,7 +102,7 @@ def read_symbol(text):
     if not tokens:
         raise Refusal(3, 0)
     place, token = tokens[0]
-    lattice = re.fullmatch(rb"(-?)([PABCIRF])", token)
+    lattice = re.fullmatch(rb"(-?)([%s])" % LETTERS.encode(), token)
     if lattice is None:
         raise Refusal(4, place)
     inverted, letter = lattice.group(1) == b"-", lattice.group(2).decode()
@@ -211,6 +211,7 @@ POINTS = {
     "I": [(0, 0, 0), (6, 6, 6)],
     "R": [(0, 0, 0), (8, 4, 4), (4, 8, 8)],
     "F": [(0, 0, 0), (0, 6, 6), (6, 0, 6), (6, 6, 0)],
+    "H": [(0, 0, 0), (8, 4, 0), (4, 8, 0)],
 }
 MOST_OPERATIONS = 48
 
@@ -686,7 +687,7 @@ def example_symbols():
         (b"P 1", 1), (b"-P 1", 2), (b"P 1a", (14, 0)), (b"P 2w", (14, 0)), (b"P 2a1", (7, 4)), (b"P 2aa", (17, 4)), (b"P 2ab", 2), (b"P 1x", (6, 2)),
         (b"P 3* 2^", (6, 5)), (b"R 2", (12, 0)), (b"P 4 6", (13, 0)), (b"P", (10, 1)), (b"", (3, 0)),
         (b"P 4w", 4), (b"A 4", (12, 0)), (b"P 3 2x", (13, 0)), (b"P 2 (0 0 11)", 2), (b"P 2 (0 0 12)", (9, 4)),
-        (b"P 2'", (8, 2)), (b"H 3", (4, 0)), (b"-P 2ac 2n", 8), (b"-F 4 2 3", 48), (b"-P 4 2 3", 48),
+        (b"P 2'", (8, 2)), (b"H 3", 3), (b"h 3", (4, 0)), (b"H 4", (12, 0)), (b"-P 2ac 2n", 8), (b"-F 4 2 3", 48), (b"-P 4 2 3", 48),
         (b"P" + b" 1" * 8, 1), (b"P" + b" 1" * 9, (11, 18)), (b"P 1".ljust(80), 1), (b"P 1".ljust(81), (1, 80)),
     ]
     found = [(text.decode(), count_of(text), expected) for text, expected in cases]
@@ -712,7 +713,7 @@ def example_rest():
         ("-P 1, read back", read_record(b"any" + inverse_record)[0], "P"),
         ("nine bytes", outcome(read_record, bytes(9)), (30, 0)),
         ("edition", outcome(read_record, inverse_record[:-4] + b"\x02\x02\x00\x0f"), (31, 0)),
-        ("letter", outcome(read_record, inverse_record[:-5] + b"H\x01\x02\x00\x0f"), (32, 0)),
+        ("letter", outcome(read_record, inverse_record[:-5] + b"S\x01\x02\x00\x0f"), (32, 0)),
         ("count", outcome(read_record, inverse_record[:-5] + b"P\x01\x00\x00\x05"), (33, 0)),
         ("length", outcome(read_record, inverse_record[:-5] + b"P\x01\x03\x00\x14"), (33, 0)),
         ("code order", outcome(read_record, inverse_record[5:10] + inverse_record[:5] + inverse_record[10:]), (34, 0)),

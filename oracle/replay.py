@@ -10,7 +10,7 @@ import os
 import sys
 
 import model
-from compare import exact, read_generators, read_list, double_of
+from compare import exact, read_generators, read_list, double_of, triple_cell
 
 RECORDED = os.path.join(os.path.dirname(os.path.abspath(__file__)), "recorded")
 TYPE_FOLDS = (1, 2, 3, 4, 6, -1, -2, -3, -4, -6)
@@ -37,16 +37,22 @@ def record_agrees(hexed, number, place):
 
 
 def operations_agree(hexed, *answer):
-    """Where 01 accepts, the Rust has the same list, and its doubles are the twelfths'."""
-    said = model.outcome(model.group_of_symbol, model.text_of_hex(hexed))
+    """Where 01 accepts, the Rust has the same list, and its doubles are the twelfths'; of the triple cell it knows nothing."""
+    text = model.text_of_hex(hexed)
+    said = model.outcome(model.group_of_symbol, text)
+    if answer == ("none",):
+        return isinstance(said[0], int) or triple_cell(text)
     return isinstance(said[0], int) or read_list(answer) == exact(said[1])
 
 
 def generators_agree(hexed, *answer):
-    """Where 01 reads the text, the Rust has the same generators, rounded to twelfths."""
-    said = model.outcome(model.read_symbol, model.text_of_hex(hexed))
+    """Where 01 reads the text, the Rust has the same generators, rounded to twelfths; of the triple cell it knows nothing."""
+    text = model.text_of_hex(hexed)
+    said = model.outcome(model.read_symbol, text)
     if isinstance(said[0], int):
         return True
+    if answer == ("none",):
+        return triple_cell(text)
     letter, points, found = read_generators(" ".join(answer))
     rounded = [(rotation, tuple(round(12 * double_of(part)) % 12 for part in parts)) for rotation, parts in found]
     return (letter, rounded) == said and points == len(model.POINTS[letter])

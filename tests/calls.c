@@ -166,7 +166,9 @@ static void symbols(void) {
     answers(symmetry_symbol_order(TEXT("P 4 6")), refusal(13, 0), "P 4 6");
     answers(symmetry_symbol_order(TEXT("P 1a")), refusal(14, 0), "P 1a");
     answers(symmetry_symbol_letter(TEXT("-F 4 2 3")), 'F', "the letter F");
-    answers(symmetry_symbol_letter(TEXT("H 3")), refusal(4, 0), "the letter H");
+    answers(symmetry_symbol_letter(TEXT("-H 3")), 'H', "the letter H");
+    answers(symmetry_symbol_order(TEXT("H 3")), 3, "H 3");
+    answers(symmetry_symbol_letter(TEXT("h 3")), refusal(4, 0), "the letter h");
     answers(symmetry_symbol_letter(NULL, 0), refusal(3, 0), "no letter");
     /* the codes of the identity and of the inversion, 4064 and 0C7E in hex */
     answers(symmetry_symbol_operation(TEXT("-P 1"), 0), 0x4064u * 1728u, "the identity");
@@ -251,7 +253,7 @@ static void records(void) {
     answers(symmetry_record_letter(inversion, 9), refusal(30, 0), "a short record");
     answers(symmetry_record_order(inversion, 14), refusal(31, 0), "a byte of the record gone");
     /* edition, letter, count, a coordinate over 11, and the identity gone */
-    static const struct { size_t at; uint8_t byte; unsigned number; } damage[] = { { 11, 2, 31 }, { 10, 'H', 32 }, { 12, 3, 33 }, { 2, 12, 34 }, { 6, 0x63, 35 } };
+    static const struct { size_t at; uint8_t byte; unsigned number; } damage[] = { { 11, 2, 31 }, { 10, 'S', 32 }, { 12, 3, 33 }, { 2, 12, 34 }, { 6, 0x63, 35 } };
     for (size_t i = 0; i < sizeof damage / sizeof *damage; i++) {
         memcpy(spoilt, inversion, 15);
         spoilt[damage[i].at] = damage[i].byte;

@@ -23,7 +23,7 @@ RECORDED = os.path.join(os.path.dirname(os.path.abspath(model.__file__)), "recor
 
 
 LONE_MARK = re.compile(rb" -?[2346][\^=](?![xyz*])")
-SECOND_WITHOUT_AXIS = re.compile(rb"-?[PABCIRF] \S+ -?[346](?![\^=xyz*])")
+SECOND_WITHOUT_AXIS = re.compile(rb"-?[PABCIRFH] \S+ -?[346](?![\^=xyz*])")
 OTHER_SPACE = re.compile(rb"[\t-\r]|  |\( | \)|^ | $")
 
 

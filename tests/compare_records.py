@@ -149,7 +149,7 @@ def other_trailers(record):
     """Other letters, editions, counts and lengths after the same items, one at a time and two at once."""
     items, letter, count = cases.items_of(record), record[-5], record[-3]
     body = b"".join(items)
-    for other in b"PABCIRFHSTpcx\x00\xff":
+    for other in b"PABCIRFHSTpchx\x00\xff":
         yield cases.put_together(other, items)
         yield body + bytes([other, 2, count]) + record[-2:]
     for edition in (0, 2, 3, 255):

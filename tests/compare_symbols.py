@@ -51,7 +51,8 @@ def main():
         assert word == same
         text = model.text_of_hex(word)
         if number == "0":
-            accepted(calls, text, chr(bytes.fromhex(record[0])[-5]), rust_operations(answer))
+            listed = model.group_of_symbol(text)[1] if compare.triple_cell(text) else rust_operations(answer)
+            accepted(calls, text, chr(bytes.fromhex(record[0])[-5]), listed)
         else:
             refused(calls, text, packed(int(number), int(place)))
     for word, number, place, *_ in recorded("damaged.txt"):

@@ -8,7 +8,7 @@ use Rattle.operation.specs.declared.Operation.{Operation}
 use Rattle.centering.specs.Letters.{byteOf}
 use Rattle.centering.specs.LatticeLaws.{byte-injective}
 use Rattle.centering.specs.declared.Centering.{Centering}
-use Rattle.centering.specs.declared.Centering.the-variants.{P, A, B, C, I, R, F}
+use Rattle.centering.specs.declared.Centering.the-variants.{P, A, B, C, I, R, F, H}
 use Rattle.hall_token.specs.Answers.{Reduced}
 
 -- Where the top byte begins: 2⁵⁶.
@@ -106,6 +106,7 @@ letter-low C = omega arith
 letter-low I = omega arith
 letter-low R = omega arith
 letter-low F = omega arith
+letter-low H = omega arith
 
 -- A letter is told by its byte.
 pub letters : Numbers AnyLetter byteOf

@@ -17,7 +17,7 @@ use Rattle.operation.specs.declared.Rotation.{Rotation}
 use Rattle.operation.specs.declared.Translation.{Translation}
 use Rattle.centering.specs.Letters.{letters, pointsOf, byteOf}
 use Rattle.centering.specs.declared.Centering.{Centering}
-use Rattle.centering.specs.declared.Centering.the-variants.{P, A, B, C, I, R, F}
+use Rattle.centering.specs.declared.Centering.the-variants.{P, A, B, C, I, R, F, H}
 use Rattle.centering.specs.declared.LatticePoints.{LatticePoints}
 
 -- Every letter is listed, so that one test over the list speaks of each.
@@ -29,6 +29,7 @@ listed C = there (there (there (here refl)))
 listed I = there (there (there (there (here refl))))
 listed R = there (there (there (there (there (here refl)))))
 listed F = there (there (there (there (there (there (here refl))))))
+listed H = there (there (there (there (there (there (there (here refl)))))))
 
 letters-test : T (all (λ c. arePoints (pointsOf c)) letters)
 unfolding all arePoints keepsSums belowTwelve withoutRepeats has sameTriple _⊕_ minus

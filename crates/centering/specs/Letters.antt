@@ -6,7 +6,7 @@ use Prim.Native.Nat.{ℕ}
 use lib.Dec.{eqb}
 use Rattle.laws.specs.Residue.{Triple}
 use Rattle.centering.specs.declared.Centering.{Centering}
-use Rattle.centering.specs.declared.Centering.the-variants.{P, A, B, C, I, R, F}
+use Rattle.centering.specs.declared.Centering.the-variants.{P, A, B, C, I, R, F, H}
 use Rattle.centering.specs.declared.Letter.{Letter}
 use Rattle.centering.specs.declared.Letter.the-variants.{Is, None}
 
@@ -22,6 +22,7 @@ byteOf C = 67
 byteOf I = 73
 byteOf R = 82
 byteOf F = 70
+byteOf H = 72
 
 -- Its points, each list with (0,0,0).
 abbrev pub pointsOf : Centering → List Triple
@@ -32,10 +33,11 @@ pointsOf C = point 0 0 0 ∷ point 6 6 0 ∷ []
 pointsOf I = point 0 0 0 ∷ point 6 6 6 ∷ []
 pointsOf R = point 0 0 0 ∷ point 8 4 4 ∷ point 4 8 8 ∷ []
 pointsOf F = point 0 0 0 ∷ point 0 6 6 ∷ point 6 0 6 ∷ point 6 6 0 ∷ []
+pointsOf H = point 0 0 0 ∷ point 8 4 0 ∷ point 4 8 0 ∷ []
 
 -- Every letter.
 abbrev pub letters : List Centering
-letters = P ∷ A ∷ B ∷ C ∷ I ∷ R ∷ F ∷ []
+letters = P ∷ A ∷ B ∷ C ∷ I ∷ R ∷ F ∷ H ∷ []
 
 -- The letter among some that a byte spells.
 unfoldable pub letterAmong : ℕ → List Centering → Letter

@@ -1,5 +1,6 @@
 -- The lattices a second time, by the reflections that a letter leaves: the planes h k l of which a whole number lies between a point and the origin.
--- A: k + l even; B: h + l even; C: h + k even; I: h + k + l even; F: all even or all odd; R, obverse: −h + k + l divisible by 3.
+-- A: k + l even; B: h + l even; C: h + k even; I: h + k + l even; F: all even or all odd; R, obverse: −h + k + l divisible by 3;
+-- H: h − k divisible by 3.
 -- So no letter's points can be another's, or reverse, or any others, in the list and the code at once.
 use mathlib.Core.Path.{_≡_, refl}
 use mathlib.Core.Logic.{_↔_, ⊎-elim}
@@ -17,7 +18,7 @@ use Rattle.laws.specs.Lattice.{InLattice, sameTriple, triple-decides, all, all-
 use Rattle.centering.specs.Letters.{point, letters, pointsOf}
 use Rattle.centering.specs.Lattices.{listed}
 use Rattle.centering.specs.declared.Centering.{Centering}
-use Rattle.centering.specs.declared.Centering.the-variants.{P, A, B, C, I, R, F}
+use Rattle.centering.specs.declared.Centering.the-variants.{P, A, B, C, I, R, F, H}
 
 -- Three planes h k l from which all that a letter leaves are added up; 11 stands for −1.
 abbrev pub planes : Centering → List Triple
@@ -28,6 +29,7 @@ planes C = point 0 0 1 ∷ point 1 1 0 ∷ point 0 2 0 ∷ []
 planes I = point 1 1 0 ∷ point 0 1 1 ∷ point 0 0 2 ∷ []
 planes R = point 1 1 0 ∷ point 0 1 11 ∷ point 0 0 3 ∷ []
 planes F = point 1 1 1 ∷ point 0 2 0 ∷ point 0 0 2 ∷ []
+planes H = point 1 1 0 ∷ point 0 3 0 ∷ point 0 0 1 ∷ []
 
 -- How far h k l of those planes are from whole cells, at a point in twelfths.
 abbrev pub phase : Triple → Triple → ℕ

@@ -16,7 +16,7 @@ use operation::product::rotated;
 use operation::rotation_type::Handedness;
 use operation::rotation_type::identify_handedness;
 
-// P primitive; A, B, C one face centred; I body centred; R rhombohedral, obverse; F all faces centred.
+// P primitive; A, B, C one face centred; I body centred; R rhombohedral, obverse; F all faces centred; H the triple hexagonal cell.
 pub enum Centering {
     P,
     A,
@@ -25,6 +25,7 @@ pub enum Centering {
     I,
     R,
     F,
+    H,
 }
 
 // The letter that a byte spells, if it spells one.
@@ -53,6 +54,7 @@ impl Centering {
             b'I' => Letter::Is(Centering::I),
             b'R' => Letter::Is(Centering::R),
             b'F' => Letter::Is(Centering::F),
+            b'H' => Letter::Is(Centering::H),
             _ => Letter::None,
         }
     }
@@ -68,6 +70,7 @@ impl Centering {
             Centering::I => b'I',
             Centering::R => b'R',
             Centering::F => b'F',
+            Centering::H => b'H',
         }
     }
 
@@ -111,6 +114,15 @@ impl Centering {
                     Translation { x: 0, y: 6, z: 6 },
                     Translation { x: 6, y: 0, z: 6 },
                     Translation { x: 6, y: 6, z: 0 },
+                ],
+            },
+            Centering::H => LatticePoints {
+                count: 3,
+                points: [
+                    ORIGIN,
+                    Translation { x: 8, y: 4, z: 0 },
+                    Translation { x: 4, y: 8, z: 0 },
+                    ORIGIN,
                 ],
             },
         }

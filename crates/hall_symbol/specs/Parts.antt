@@ -16,7 +16,7 @@ use Rattle.laws.specs.Residue.{residue, residue-pos, residue-neg}
 use Rattle.operation.specs.declared.Translation.{Translation}
 use Rattle.centering.specs.Letters.{byteOf, letterOf, letterAmong, letters}
 use Rattle.centering.specs.declared.Centering.{Centering}
-use Rattle.centering.specs.declared.Centering.the-variants.{P, A, B, C, I, R, F}
+use Rattle.centering.specs.declared.Centering.the-variants.{P, A, B, C, I, R, F, H}
 use Rattle.centering.specs.declared.Letter.{Letter}
 use Rattle.centering.specs.declared.Letter.the-variants.{Is as IsLetter, None as NoLetter}
 use Rattle.hall_symbol.specs.Bytes.{whitespace, unclosed, opening}
@@ -48,6 +48,7 @@ letter-read C = (refl, refl)
 letter-read I = (refl, refl)
 letter-read R = (refl, refl)
 letter-read F = (refl, refl)
+letter-read H = (refl, refl)
 
 -- A byte that is read as a letter is the letter's.
 among-byte : (b : ℕ) (cs : List Centering) (c : Centering) → letterAmong b cs ≡ IsLetter c → b ≡ byteOf c

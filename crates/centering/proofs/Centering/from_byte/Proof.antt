@@ -37,8 +37,13 @@ returns-7 c = sym (ap letterOf (c .match .keys7))
 
 returns-8 : tie.Need-returns-8
 unfolding letterOf letterAmong
-returns-8 c =
+returns-8 c = sym (ap letterOf (c .match .keys8))
+
+returns-9 : tie.Need-returns-9
+unfolding letterOf letterAmong
+returns-9 c =
     simp (
+      ne-eqb _ _ (c .match .rest .0 .0 .0 .0 .0 .0 .0 .1),
       ne-eqb _ _ (c .match .rest .0 .0 .0 .0 .0 .0 .1),
       ne-eqb _ _ (c .match .rest .0 .0 .0 .0 .0 .1),
       ne-eqb _ _ (c .match .rest .0 .0 .0 .0 .1),
@@ -51,4 +56,4 @@ returns-8 c =
 pub from-byte-spec : {M : Type 1} → statement M
 from-byte-spec =
     tie.close
-    (tie.spec returns returns-2 returns-3 returns-4 returns-5 returns-6 returns-7 returns-8)
+    (tie.spec returns returns-2 returns-3 returns-4 returns-5 returns-6 returns-7 returns-8 returns-9)
