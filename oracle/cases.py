@@ -153,7 +153,7 @@ def shifted_symbols():
 def signed_shifts():
     """Two symbols under every shift of numbers from -11 to 11."""
     return [b"%s (%d %d %d)" % ((symbol,) + shift)
-            for symbol in (b"P 61 2", b"-I 4bd 2c 3") for shift in product(range(-11, 12), repeat=3)]
+            for symbol in (b"P 61 2", b"-P 2ab") for shift in product(range(-11, 12), repeat=3)]
 
 
 def extra_symbols():
