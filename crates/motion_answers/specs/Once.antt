@@ -1,13 +1,16 @@
--- Number, place and value determine an answer on the group of a symbol or a record, if they do in the rooms of texts and of records: the numbers of the
--- three rooms are apart.
-use mathlib.Core.Path.{_≡_, sym, ap}
+-- Number, place and value determine an answer on the group of a symbol or a record, as they do in the rooms of texts, of records and of tables: the numbers of
+-- the three rooms are apart.
+use mathlib.Core.Path.{_≡_, refl, sym, ap}
 use mathlib.Core.Logic.{_⊎_, inl, inr}
 use Prim.Native.Nat.{ℕ, _<_, _≤_}
 use native.Mathlib.Omega.{arith}
 use Rattle.symbol_group.specs.Refusals as symbol
+use Rattle.symbol_group.specs.Told as symbol-told
 use Rattle.symbol_group.specs.declared.refusal.Refusal as symbol-refusal
 use Rattle.group_record.specs.Reading.{refusalNumber}
+use Rattle.group_record.specs.RefusalNumbers.{one-refusal}
 use Rattle.group_record.specs.declared.Refusal as record-refusal
+use Rattle.group_record.specs.declared.Refusal.the-variants as record-refusals
 use Rattle.finite_group.specs.Answers as group
 use Rattle.table_check.specs.declared.Refusal as group-refusal
 use Rattle.table_check.specs.declared.Refusal.the-variants as group-refusals
@@ -40,27 +43,34 @@ between-records : (j k : ℕ) → 21 ≤ j → j ≤ 29 → (k ≡ 20) ⊎ (30 �
 between-records j k low high (inl same) e = omega arith
 between-records j k low high (inr past) e = omega arith
 
-module _
-    (symbol-low : (r : symbol-refusal.Refusal) → symbol.numberOf r < 20)
-    (symbol-once : (r s : symbol-refusal.Refusal) → symbol.numberOf r ≡ symbol.numberOf s → symbol.placeOf r ≡ symbol.placeOf s → r ≡ s)
-    (record-apart : (r : record-refusal.Refusal) → (refusalNumber r ≡ 20) ⊎ (30 ≤ refusalNumber r))
-    (record-once : (r s : record-refusal.Refusal) → refusalNumber r ≡ refusalNumber s → r ≡ s) where
-  refusal-once : (r s : Refusal) → numberOf r ≡ numberOf s → placeOf r ≡ placeOf s → r ≡ s
-  refusal-once (Symbol r) (Symbol s) e p = ap Symbol (symbol-once r s e p)
-  refusal-once (Symbol r) (Record s) e p = absurd (below-records _ _ (symbol-low r) (record-apart s) e)
-  refusal-once (Symbol r) (Group s) e p = absurd (omega (arith, symbol-low r, group-number s))
-  refusal-once (Record r) (Symbol s) e p = absurd (below-records _ _ (symbol-low s) (record-apart r) (sym e))
-  refusal-once (Record r) (Record s) e p = ap Record (record-once r s e)
-  refusal-once (Record r) (Group s) e p = absurd (between-records _ _ (group-number s .0) (group-number s .1) (record-apart r) (sym e))
-  refusal-once (Group r) (Symbol s) e p = absurd (omega (arith, symbol-low s, group-number r))
-  refusal-once (Group r) (Record s) e p = absurd (between-records _ _ (group-number r .0) (group-number r .1) (record-apart s) e)
-  refusal-once (Group r) (Group s) e p = ap Group (number-once r s e)
+symbol-low : (r : symbol-refusal.Refusal) → symbol.numberOf r < 20
+symbol-low r = omega (arith, symbol-told.number-limit r)
 
-  pub answer-once : (a b : Answer) → motionAnswer a ≡ motionAnswer b → a ≡ b
-  answer-once (Value v) (Value w) e = let same : v ≡ w = cc in ap Value same
-  answer-once (Value v) (Refused r) e = let z : _≡_ {A = ℕ} 0 1 = cc in absurd (omega arith)
-  answer-once (Refused r) (Value w) e = let z : _≡_ {A = ℕ} 0 1 = cc in absurd (omega arith)
-  answer-once (Refused r) (Refused s) e =
-      let number : numberOf r ≡ numberOf s = cc in
-      let place : placeOf r ≡ placeOf s = cc in
-      ap Refused (refusal-once r s number place)
+record-apart : (r : record-refusal.Refusal) → (refusalNumber r ≡ 20) ⊎ (30 ≤ refusalNumber r)
+record-apart record-refusals.NoRoom = inl refl
+record-apart record-refusals.Short = inr (omega arith)
+record-apart record-refusals.WrongEdition = inr (omega arith)
+record-apart record-refusals.WrongLetter = inr (omega arith)
+record-apart record-refusals.WrongLength = inr (omega arith)
+record-apart record-refusals.WrongItem = inr (omega arith)
+record-apart record-refusals.NotAllowed = inr (omega arith)
+
+refusal-once : (r s : Refusal) → numberOf r ≡ numberOf s → placeOf r ≡ placeOf s → r ≡ s
+refusal-once (Symbol r) (Symbol s) e p = ap Symbol (symbol-told.told-once r s e p)
+refusal-once (Symbol r) (Record s) e p = absurd (below-records _ _ (symbol-low r) (record-apart s) e)
+refusal-once (Symbol r) (Group s) e p = absurd (omega (arith, symbol-low r, group-number s))
+refusal-once (Record r) (Symbol s) e p = absurd (below-records _ _ (symbol-low s) (record-apart r) (sym e))
+refusal-once (Record r) (Record s) e p = ap Record (one-refusal r s e)
+refusal-once (Record r) (Group s) e p = absurd (between-records _ _ (group-number s .0) (group-number s .1) (record-apart r) (sym e))
+refusal-once (Group r) (Symbol s) e p = absurd (omega (arith, symbol-low s, group-number r))
+refusal-once (Group r) (Record s) e p = absurd (between-records _ _ (group-number r .0) (group-number r .1) (record-apart s) e)
+refusal-once (Group r) (Group s) e p = ap Group (number-once r s e)
+
+pub answer-once : (a b : Answer) → motionAnswer a ≡ motionAnswer b → a ≡ b
+answer-once (Value v) (Value w) e = let same : v ≡ w = cc in ap Value same
+answer-once (Value v) (Refused r) e = let z : _≡_ {A = ℕ} 0 1 = cc in absurd (omega arith)
+answer-once (Refused r) (Value w) e = let z : _≡_ {A = ℕ} 0 1 = cc in absurd (omega arith)
+answer-once (Refused r) (Refused s) e =
+    let number : numberOf r ≡ numberOf s = cc in
+    let place : placeOf r ≡ placeOf s = cc in
+    ap Refused (refusal-once r s number place)
