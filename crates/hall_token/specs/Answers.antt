@@ -44,7 +44,7 @@ use Rattle.hall_token.specs.RunLetters.{letters, Repeated, FirstRepeated
 use Rattle.hall_token.specs.Refusals.{numberOf, number-once}
 use Rattle.hall_token.specs.Offsets.{signLength, markLength, letterLength, runStart, passing, wrongDigitAt, FirstFails, first-fails, passing-before}
 use Rattle.hall_token.specs.Spelling.{signBytes, foldByte, markBytes, letterBytes, read-exact}
-use Rattle.hall_token.specs.Prefixes.{FirstOffending, first-unique, offending-misspelt}
+use Rattle.laws.specs.Prefixes.{FirstOffending, first-unique, offending-misspelt}
 use Rattle.hall_token.specs.Misspelt.{Spelling, FoldMissing, offending, missing-end}
 
 -- ---- the answers

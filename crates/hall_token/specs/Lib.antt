@@ -19,6 +19,5 @@ pub mod Edges
 pub mod Reader
 pub mod Stages
 pub mod Spelling
-pub mod Prefixes
 pub mod Misspelt
 pub mod Answers

@@ -22,7 +22,7 @@ use Rattle.hall_token.specs.Runs.{every, mayStand}
 use Rattle.hall_token.specs.Offsets.{signLength, markLength, runStart, passing, passing-short, passing-good, passing-stays}
 use Rattle.hall_token.specs.Reader.{Parts, parts, no-parts, readRun, letterThen, readLetter, markThen, readMark, foldThen, readFold, readToken}
 use Rattle.hall_token.specs.Spelling.{Spells, read-exact}
-use Rattle.hall_token.specs.Prefixes.{Starts, FirstOffending}
+use Rattle.laws.specs.Prefixes.{Starts, FirstOffending}
 
 -- The parts that a token spells.
 pub record Spelling (token : List ℕ) : Type 0 where

@@ -14,6 +14,8 @@ pub mod Words
 pub mod ShortlexClosure
 pub mod Growth
 pub mod GrowthClosure
+-- The first byte at which a text leaves a spelling:
+pub mod Prefixes
 -- Lattices:
 pub mod Lattice
 pub mod LatticeMaps
