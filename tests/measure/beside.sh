@@ -55,7 +55,7 @@ echo "GROUP ($(echo "$parts"/libm-*.a "$parts"/libmvec.a))" >"$scratch/mathemati
 for part in measure beside; do
     quietly "${tools}gcc" -O2 -Wall -Wextra -c "$here/$part.c" -o "$scratch/$part.o"
 done
-quietly "${tools}g++" -static -no-pie -L "$scratch/mathematics" "$scratch"/{measure,beside,gemmi}.o "$libraries"/lib{calls,table_calls}.a \
+quietly "${tools}g++" -static -no-pie -L "$scratch/mathematics" "$scratch"/{measure,beside,gemmi}.o "$libraries"/lib{calls,test_tables}.a \
     "$scratch/rust/libharness.a" -o "$scratch/measure"
 echo "The Rust: moyo 0.21.0 by $("$rustc" --version). Gemmi: $(installed gemmi-dev) by $("${tools}g++" --version | head -n 1)."
 echo

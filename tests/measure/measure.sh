@@ -13,5 +13,5 @@ here=$(cd "$(dirname "$0")" && pwd)
 . "$here/../needed.sh"
 . "$here/libraries.sh"
 
-quietly "${tools}gcc" -O2 -Wall -Wextra -static -no-pie "$here/measure.c" "$libraries/libcalls.a" "$libraries/libtable_calls.a" -o "$scratch/measure"
+quietly "${tools}gcc" -O2 -Wall -Wextra -static -no-pie "$here/measure.c" "$libraries/libcalls.a" "$libraries/libtest_tables.a" -o "$scratch/measure"
 python3 "$here/measure.py" "$scratch" "$libraries/libcalls.a" "$tools" "$@"

@@ -1,4 +1,4 @@
--- 01's example, in whole lines.
+-- The example of R9, in whole lines.
 use mathlib.Core.Path.{_≡_, refl}
 use mathlib.Core.List.{List, [], _∷_, _++_, map}
 use Prim.Native.Nat.{ℕ}

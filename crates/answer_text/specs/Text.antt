@@ -1,4 +1,4 @@
--- The text for one line, by 01, "Symbols to try": the symbol, then letter and count and the record's operations in order, or the refusal.
+-- The text for one line, by R9: the symbol, then letter and count and the record's operations in order, or the refusal.
 use mathlib.Core.List.{List, [], _∷_, _++_, map}
 use Prim.Native.Nat.{ℕ, _-_}
 use Prim.Native.String.{String}

@@ -1,4 +1,4 @@
--- How numbers, words and lines are written, in the bytes of 01's example.
+-- How numbers, words and lines are written, in the bytes of the example of R9.
 use mathlib.Core.Path.{_≡_, refl, sym, _∙_, ap}
 use mathlib.Core.Bool.{Bool, true, false, cond}
 use mathlib.Core.List.{List, [], _∷_, _++_}

@@ -1,4 +1,4 @@
--- Which rotations map L onto L (01, "From generators to a group"): decided by the determinant and by where the points go, shown to be the rule about all of L.
+-- Which rotations map L onto L (R3): decided by the determinant and by where the points go, shown to be the rule about all of L.
 use mathlib.Core.Path.{_≡_, refl, sym, _∙_, ap}
 use mathlib.Core.Logic.{_⊎_, inl, inr, _↔_}
 use mathlib.Core.Bool.{Bool, true, false, _&&_, true≢false, false≢true}

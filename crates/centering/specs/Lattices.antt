@@ -1,4 +1,4 @@
--- The centred lattice L of a letter (01, "From generators to a group"): its points plus whole cells, classes modulo L, and the rotations that map L onto L.
+-- The centred lattice L of a letter (R3): its points plus whole cells, classes modulo L, and the rotations that map L onto L.
 use mathlib.Core.Path.{_≡_, refl, sym, _∙_, ap}
 use mathlib.Core.Logic.{_⊎_, inl, inr, _↔_}
 use mathlib.Core.Bool.{Bool, true, false, _&&_, cond}
@@ -62,7 +62,7 @@ containsOf c t = has sameTriple (reduced (vectorOf t)) (pointsOf c)
 unfoldable pub congruentOf : Centering → Translation → Translation → Bool
 congruentOf c s t = has sameTriple (reduced (plus (vectorOf s) (opposite (vectorOf t)))) (pointsOf c)
 
--- The smallest triple 0 to 11, compared x first, in the class of t modulo L (01, "Group record").
+-- The smallest triple 0 to 11, compared x first, in the class of t modulo L (R5.3).
 unfoldable pub smallestOf : Centering → Translation → Translation
 smallestOf c t = translationOf (smallest (pointsOf c) (tripleOf t))
 

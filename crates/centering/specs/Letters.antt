@@ -1,4 +1,4 @@
--- The letters and their centring points in twelfths, as 01, "From generators to a group", lists them: the one place where a letter is data.
+-- The letters and their centring points in twelfths, as R3.4 lists them: the one place where a letter is data.
 use mathlib.Core.Path.{_≡_, refl}
 use mathlib.Core.Bool.{Bool, true, false, cond}
 use mathlib.Core.List.{List, [], _∷_}

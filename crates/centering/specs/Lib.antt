@@ -1,4 +1,4 @@
--- The letters of 01 as data, and what their lattices are.
+-- The letters of R3.4 as data, and what their lattices are.
 pub mod Letters
 pub mod Lattices
 pub mod LatticeLaws

@@ -1,4 +1,4 @@
--- What each answer says: its number of document 01, its place, and its value. What is answered on subgroups is said in the rooms that find it.
+-- What each answer says: its number, its place, and its value. What is answered on subgroups is said in the rooms that find it.
 use mathlib.Core.List.{List}
 use Prim.Native.Nat.{ℕ}
 use Rattle.operation.specs.Answer as answer

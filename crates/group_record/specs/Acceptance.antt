@@ -1,4 +1,4 @@
--- Which buffers are read and which are refused, each of 30 to 35 exactly when and in order: the rules of 01 as a relation between a buffer and its answer,
+-- Which buffers are read and which are refused, each of 30 to 35 exactly when and in order: the rules as a relation between a buffer and its answer,
 -- and that the reading is this relation. The idea: a buffer of ten bytes or more is a front and a trailer, and each rule speaks of one of them.
 use mathlib.Core.Path.{_≡_, refl, sym, _∙_, ap, ap₂, subst}
 use mathlib.Core.Logic.{_↔_}
@@ -358,6 +358,6 @@ read-outcome bytes g = elim (decLt (length bytes) 10) [
         let five : length (drop (length bytes - 5) bytes) ≡ 5 = length-drop (length bytes - 5) bytes ∙ omega arith in
         sym (take-append-drop (length bytes - 5) bytes) ∙ ap (λ (b : List ℕ). front ++ b) (five-of (drop (length bytes - 5) bytes) five)
 
--- The reading is 01's rules: each refusal is given, and each record read, exactly when they say so.
+-- The reading is the rules: each refusal is given, and each record read, exactly when they say so.
 pub read-exactly : (bytes : List ℕ) → Bytes bytes → (g : RecordGroup) → (readOf bytes ≡ g) ↔ Outcome bytes g
 read-exactly bytes g r = ((λ e. subst (Outcome bytes) e (read-outcome bytes g)), outcome-read bytes r)

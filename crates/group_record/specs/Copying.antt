@@ -1,4 +1,4 @@
--- A record from a stated place of a lent buffer, by 01, "Group record" and refusal 20; and the copy of a record: read, then written there.
+-- A record from a stated place of a lent buffer, by R5.6 and refusal 20; and the copy of a record: read, then written there.
 use mathlib.Core.Path.{_≡_, sym, _∙_, ap}
 use mathlib.Core.Bool.{Bool, true, false, cond, _&&_}
 use mathlib.Core.List.{List, _++_}

@@ -1,4 +1,4 @@
--- How a buffer is read, by 01, "Group record" and "Refusal numbers": the record that ends where the buffer ends, or the first refusal of 30 to 35 that applies.
+-- How a buffer is read, by R5 and R8: the record that ends where the buffer ends, or the first refusal of 30 to 35 that applies.
 use mathlib.Core.Bool.{Bool, false, cond, _&&_}
 use mathlib.Core.List.{List, _++_, map}
 use Prim.Native.Nat.{ℕ, _+_, _*_, _-_}

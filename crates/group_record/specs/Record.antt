@@ -1,4 +1,4 @@
--- The bytes of a record, by 01, "Group record": five bytes an operation, ascending by code, each translation the smallest of its class; then the trailer.
+-- The bytes of a record, by R5: five bytes an operation, ascending by code, each translation the smallest of its class; then the trailer.
 use mathlib.Core.Path.{_≡_}
 use mathlib.Core.Bool.{Bool}
 use mathlib.Core.List.{List, [], _∷_, _++_, map}

@@ -1,4 +1,4 @@
--- The refusals of records by 01's numbers and places, each exactly when: 30 to 35 for a record that is read, then 20 for one that is copied;
+-- The refusals of records by number and place, each exactly when: 30 to 35 for a record that is read, then 20 for one that is copied;
 -- and for a symbol's record the symbol's own, 1 to 14, then 20. Number, place and value determine an answer.
 use mathlib.Core.Path.{_≡_, refl, sym, _∙_, ap}
 use mathlib.Core.Logic.{_⊎_, inl, inr, _↔_}

@@ -1,4 +1,4 @@
--- What the table of a list of operations is (01, "Tables and subgroups"): indices in list order, the row being the left factor, products modulo L.
+-- What the table of a list of operations is (R6): indices in list order, the row being the left factor, products modulo L.
 use mathlib.Core.Bool.{Bool, _&&_, cond}
 use mathlib.Core.List.{List, [], _∷_, _++_, map}
 use Prim.Native.Nat.{ℕ}

@@ -1,4 +1,4 @@
--- 01's example: the whole output for the two lines `-P 1` and `P 1a`.
+-- The example of R9: the whole output for the two lines `-P 1` and `P 1a`.
 use mathlib.Core.Path.{_≡_, ap}
 use mathlib.Core.List.{[], _∷_}
 use Rattle.answer_text.specs.Example as text

@@ -1,4 +1,4 @@
--- The lines of a text, by 01, "Symbols to try", and what is written for all of them.
+-- The lines of a text, by R9, and what is written for all of them.
 use mathlib.Core.Path.{_≡_, refl, _∙_, ap}
 use mathlib.Core.Bool.{Bool, true, false, cond}
 use mathlib.Core.List.{List, [], _∷_, _++_, map, append-nil, append-assoc}

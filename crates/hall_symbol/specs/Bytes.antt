@@ -1,4 +1,4 @@
--- The bytes of a symbol by 01, "From text to generators" and refusal 2: which separate tokens, and which may stand there at all.
+-- The bytes of a symbol by R1 and refusal 2: which separate tokens, and which may stand there at all.
 use mathlib.Core.Bool.{Bool, not, _&&_, _||_}
 use Prim.Native.Nat.{ℕ}
 use lib.Dec.{eqb, leb}

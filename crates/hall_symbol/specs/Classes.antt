@@ -1,4 +1,4 @@
--- The two classes of bytes by their numbers in 01, "From text to generators" and refusal 2, so that the tests by which texts are read and spelled are no
+-- The two classes of bytes by their numbers in R1.1 and R1.2, so that the tests by which texts are read and spelled are no
 -- other classes.
 use mathlib.Core.Path.{_≡_, refl, sym}
 use mathlib.Core.Logic.{_⊎_, inl, inr, _↔_}

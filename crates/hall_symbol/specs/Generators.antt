@@ -1,4 +1,4 @@
--- Generators by 01, "From text to generators": the inversion first, and every generator moved to the shifted origin.
+-- Generators by R3.1 and R3.2: the inversion first, and every generator moved to the shifted origin.
 use mathlib.Core.Bool.{Bool, true, false}
 use mathlib.Core.List.{List, [], _∷_, _++_}
 use Prim.Native.Nat.{ℕ, _-_}

@@ -1,4 +1,4 @@
--- The first token by 01, "From text to generators": an optional `-`, then exactly one letter. Which letters there are is the lattices' own table.
+-- The first token by R1.3: an optional `-`, then exactly one letter. Which letters there are is the lattices' own table.
 use mathlib.Core.Path.{_≡_, refl}
 use mathlib.Core.Bool.{Bool, true, false, cond}
 use mathlib.Core.List.{List, [], _∷_}

@@ -1,4 +1,4 @@
--- What a Hall symbol's text means, in the words of 01: bytes, tokens, the lattice token, the shift, generators, refusals, and the reader; and the
+-- What a Hall symbol's text means, in the words of the rules: bytes, tokens, the lattice token, the shift, generators, refusals, and the reader; and the
 -- spelling rules that the reader is held against.
 pub mod Bytes
 pub mod Classes

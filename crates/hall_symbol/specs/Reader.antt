@@ -1,4 +1,4 @@
--- The reader by 01, "From text to generators" and "Refusal numbers": a text's letter and generators, or its refusal, in the order of 01.
+-- The reader by R1, R2 and R8: a text's letter and generators, or its refusal, in the order of R8.
 use mathlib.Core.Path.{_≡_}
 use mathlib.Core.Bool.{true, false, cond}
 use mathlib.Core.List.{List, [], _∷_, _++_, map}

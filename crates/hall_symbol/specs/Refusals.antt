@@ -1,4 +1,4 @@
--- The numbers and places of 01, "Refusal numbers", 1 to 11, and 17 of 02: the one place where they stand, but for those of an N token, which are that room's.
+-- The numbers and places of R8, 1 to 11 and 17: the one place where they stand, but for those of an N token, which are that room's.
 use Prim.Native.Nat.{ℕ}
 use Rattle.hall_token.specs.Refusals as token
 use Rattle.hall_symbol.specs.declared.refusal.Refusal.{Refusal}

@@ -1,4 +1,4 @@
--- The shift by 01, "From text to generators": `(`, three numbers separated by whitespace, `)`, and then only whitespace.
+-- The shift by R1.6: `(`, three numbers separated by whitespace, `)`, and then only whitespace.
 use mathlib.Core.Path.{_≡_, refl}
 use mathlib.Core.Bool.{Bool, cond, _&&_}
 use mathlib.Core.List.{List, [], _∷_}

@@ -1,4 +1,4 @@
--- Tokens by 01, "From text to generators": the longest runs of bytes between whitespace, each with its place.
+-- Tokens by R1.2: the longest runs of bytes between whitespace, each with its place.
 use mathlib.Core.Bool.{Bool, true, cond, _&&_}
 use mathlib.Core.List.{List, [], _∷_}
 use Prim.Native.Nat.{ℕ, suc, _+_}

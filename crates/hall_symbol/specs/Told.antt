@@ -1,4 +1,4 @@
--- Refusals 1 to 11 by 01's numbers and places, and 17 by 02's, each exactly when its rule holds of the text; number and place determine the refusal.
+-- Refusals 1 to 11 and 17 by number and place, each exactly when its rule holds of the text; number and place determine the refusal.
 use mathlib.Core.Path.{_≡_, refl, sym, _∙_, ap}
 use mathlib.Core.Logic.{_↔_}
 use mathlib.Core.Bool.{cond}

@@ -1,4 +1,4 @@
-// Why a text is no Hall symbol: the refusals 1 to 11 of 01 and 17 of 02, each with its place where the text decides it. An N token's refusal is held as that
+// Why a text is no Hall symbol: the refusals 1 to 11 and 17, each with its place where the text decides it. An N token's refusal is held as that
 // room gives it, with its place in the text.
 // New beside moyo 0.21.0, which answers with an `Option` or panics.
 ghost use mathlib.Core.Path.{_≡_};

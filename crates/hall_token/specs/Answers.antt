@@ -499,7 +499,7 @@ one-answer token p = (operationToken token p, answer-holds token p)
 pub no-other-answer : (token : List ℕ) (p : Previous) (r s : ParsedOperation) → Answers token p r → Answers token p s → r ≡ s
 no-other-answer token p r s h k = sym (holds-answer token p r h) ∙ holds-answer token p s k
 
--- ---- by 01's numbers
+-- ---- by number
 
 -- An answer is a refusal with this number at this offset in the token.
 abbrev pub Tells : ParsedOperation → ℕ → ℕ → Type 0

@@ -1,4 +1,4 @@
--- The axis rules of 01, "From text to generators": what an N token's fold, mark and letter, and the token before it, say of its axis.
+-- The axis rules of R2.1 to R2.5: what an N token's fold, mark and letter, and the token before it, say of its axis.
 use mathlib.Core.Bool.{cond}
 use Prim.Native.Nat.{ℕ}
 use lib.Dec.{eqb}

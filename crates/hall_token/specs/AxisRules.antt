@@ -1,4 +1,4 @@
--- The axis rules a second time, sentence by sentence of 01, "From text to generators": a rule settles an axis, and the table `axisOf` has it exactly then.
+-- The axis rules a second time, sentence by sentence of R2.1 to R2.5: a rule settles an axis, and the table `axisOf` has it exactly then.
 use mathlib.Core.Path.{_≡_, refl, sym, _∙_, ap, subst}
 use mathlib.Core.Logic.{_⊎_, inl, inr, _↔_, _≢_}
 use mathlib.Core.Bool.{Bool, true, false, cond, true≢false}

@@ -1,4 +1,4 @@
--- The bytes of an N token, as 01, "From text to generators", lists them: folds, marks, axis letters, and what may stand in the run after them.
+-- The bytes of an N token, as R1.5 lists them: folds, marks, axis letters, and what may stand in the run after them.
 use mathlib.Core.Path.{_≡_, refl}
 use mathlib.Core.Bool.{Bool, true, false, cond, _&&_, and-eq-true-iff}
 use mathlib.Core.List.{List, [], _∷_}

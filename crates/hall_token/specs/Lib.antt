@@ -1,4 +1,4 @@
--- What one N token means, in the words of 01: bytes, axes, matrices, translations, the reader, and the spelling rules it is held against.
+-- What one N token means, in the words of the rules: bytes, axes, matrices, translations, the reader, and the spelling rules it is held against.
 pub mod Front
 pub mod Bytes
 pub mod Runs

@@ -1,4 +1,4 @@
--- The twenty rotations of 01, "From text to generators", as data: for each fold and axis the matrix of the Rust's `parse_rotation_matrix`.
+-- The twenty rotations of R2.6 as data: for each fold and axis the matrix of the Rust's `parse_rotation_matrix`.
 -- One test, computed over the table, says that each is what its name says: a proper rotation of that order about that axis.
 use mathlib.Core.Bool.{Bool, true, false, cond, _&&_}
 use mathlib.Core.List.{List, [], _∷_}

@@ -1,4 +1,4 @@
--- The reader of one N token by 01, "From text to generators": the token cut into its parts, then refusals 5, 8, 6, 7, 17 in this order, then the operation.
+-- The reader of one N token by R1 and R2: the token cut into its parts, then refusals 5, 8, 6, 7, 17 in this order, then the operation.
 use mathlib.Core.Bool.{Bool, true, false, cond}
 use mathlib.Core.List.{List, [], _∷_}
 use Prim.Native.Nat.{ℕ, _+_}

@@ -1,4 +1,4 @@
--- The numbers of 01, "Refusal numbers", and of 02 (viii), that an N token can be refused with: the one place where they stand.
+-- The numbers of R8 that an N token can be refused with: the one place where they stand.
 use mathlib.Core.Path.{_≡_, refl, sym, _∙_, ap}
 use mathlib.Core.Bool.{cond}
 use Prim.Native.Nat.{ℕ}

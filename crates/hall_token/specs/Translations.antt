@@ -1,4 +1,4 @@
--- The translation rules of 01, "From text to generators": the letters of a token's run added in twelfths, and one digit that may stand first.
+-- The translation rules of R2.7 and R2.8: the letters of a token's run added in twelfths, and one digit that may stand first.
 use mathlib.Core.Bool.{Bool, true, false, cond, _&&_}
 use mathlib.Core.List.{List, [], _∷_}
 use Prim.Native.Nat.{ℕ, _+_, _*_, _/_, _%_}

@@ -1,4 +1,4 @@
-// Why an N token is refused: 5, 8, 6, 7 of 01 and 17 of 02, in the order in which they go within a token.
+// Why an N token is refused: 5, 8, 6, 7 and 17, in the order in which they go within a token.
 ghost use mathlib.Core.Path.{_≡_};
 ghost use Rattle.hall_token.specs.Refusals.{numberOf};
 

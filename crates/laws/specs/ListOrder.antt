@@ -1,4 +1,4 @@
--- The list order of sets (document 01, "Tables and subgroups"): more members first; then the set that holds the lowest element in which the
+-- The list order of sets (R7.2): more members first; then the set that holds the lowest element in which the
 -- two differ. It is a strict total order, so given sets stand in one list only.
 use mathlib.Core.Path.{_≡_, refl, sym, ap, _∙_}
 use mathlib.Core.Logic.{_⊎_, inl, inr, _↔_, _≢_}

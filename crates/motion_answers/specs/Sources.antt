@@ -1,4 +1,4 @@
--- What is answered on the group of a symbol or a record (document 01, "Refusal numbers"): its own refusal goes before 26 to 29, with its number and place,
+-- What is answered on the group of a symbol or a record (R8): its own refusal goes before 26 to 29, with its number and place,
 -- and leaves lent lists untouched; otherwise every entry says what it says of the table of that group, which is never refused 21 to 25.
 use mathlib.Core.Path.{_≡_, refl, sym, subst, _∙_}
 use mathlib.Core.List.{List}

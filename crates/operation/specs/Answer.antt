@@ -1,4 +1,4 @@
--- How an entry answers: with what was asked for, or with a refusal of 01.
+-- How an entry answers: with what was asked for, or with a refusal of R8.
 use Prim.Native.Nat.{ℕ}
 
 -- A refusal carries its number, its place, and something of the type C: nothing for most numbers.

@@ -1,4 +1,4 @@
--- The rotation code of 01, "Group record": the sum of (entry+1)·3^(8−i) over the nine entries by rows, i from 0; and the way back.
+-- The rotation code of R4.1: the sum of (entry+1)·3^(8−i) over the nine entries by rows, i from 0; and the way back.
 use mathlib.Core.Path.{_≡_, sym, _∙_, ap}
 use mathlib.Core.Bool.{cond}
 use Prim.Native.Nat.{ℕ, _+_, _*_, _/_, _%_, _^_, _<_}

@@ -59,7 +59,7 @@ numberOf v = placeIn patterns (toBits binary64 v)
 abbrev pub isOnGrid : Float → Bool
 isOnGrid v = ltb (numberOf v) 12
 
--- Refusal 16 of 01: the place is the component's index, and the component comes along.
+-- Refusal 16 of R8: the place is the component's index, and the component comes along.
 abbrev pub offGrid : ℕ → Float → Answer Translation Float
 offGrid index v = refused 16 index v
 
@@ -72,7 +72,7 @@ onGrid d =
     (offGrid 1 (d .y)))
     (offGrid 0 (d .x))
 
--- What each answer of the code says in the numbers of 01.
+-- What each answer of the code says in the numbers of R8.
 unfoldable pub gridAnswer : Grid → Answer Translation Float
 gridAnswer (Twelfths t) = given t
 gridAnswer (Off index v) = offGrid index v

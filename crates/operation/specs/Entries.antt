@@ -1,4 +1,4 @@
--- Entries in −1..1, as 01 asks of the rotations of a group: their digits say them and nothing else, so a rotation and its matrix determine one another.
+-- Entries in −1..1, as R3.5 asks of the rotations of a group: their digits say them and nothing else, so a rotation and its matrix determine one another.
 use mathlib.Core.Path.{_≡_, refl, sym, _∙_, ap}
 use mathlib.Core.Logic.{_⊎_, inl, inr, _↔_}
 use mathlib.Core.Bool.{Bool, true, false, _&&_, false≢true}

@@ -1,4 +1,4 @@
--- Refusal 16 by 01: the first component that has none of the twelve bit patterns is told, its index as the place, and nothing else is refused.
+-- Refusal 16 by R8: the first component that has none of the twelve bit patterns is told, its index as the place, and nothing else is refused.
 -- The rule names the twelve quotients and the three components, and uses nothing of how the way back is defined.
 use mathlib.Core.Path.{_≡_, refl, sym, _∙_, ap}
 use mathlib.Core.Logic.{_↔_}

@@ -1,4 +1,4 @@
--- The product of operations by 01, "From generators to a group": (R,t)(S,u) = (RS, Ru + t), modulo 12, or the answer that an entry of RS has left −1..1.
+-- The product of operations by R3.3: (R,t)(S,u) = (RS, Ru + t), modulo 12, or the answer that an entry of RS has left −1..1.
 use mathlib.Core.Path.{_≡_, refl}
 use mathlib.Core.Bool.{Bool, true, false, cond}
 use Prim.Native.Nat.{ℕ}

@@ -51,7 +51,7 @@ pair t d k = record { trace = t; determinant = d; type = k }
 abbrev minus : ℕ → ℤ
 minus n = negℤ (pos n)
 
--- The ten pairs of 01 ("From generators to a group").
+-- The ten pairs of R4.2.
 unfoldable pub pairs : List Pair
 pairs =
     pair (pos 3) (pos 1) Rotation1 ∷
@@ -66,7 +66,7 @@ pairs =
     pair (minus 2) (minus 1) RotoInversion6 ∷
     []
 
--- Refusal 15 of 01: an entry or a pair that is unknown.
+-- Refusal 15 of R8: an entry or a pair that is unknown.
 abbrev pub unknown : Answer RotationType Nothing
 unknown = refused 15 0 tt
 
@@ -83,7 +83,7 @@ typeOf t d = lookup t d pairs
 unfoldable pub identified : Matrix → Answer RotationType Nothing
 identified A = cond (allInside A) (typeOf (trace A) (determinant A)) unknown
 
--- What each answer of the code says in the numbers of 01.
+-- What each answer of the code says in the numbers of R8.
 unfoldable pub typeAnswer : Identified → Answer RotationType Nothing
 typeAnswer (Known k) = given k
 typeAnswer Refused = unknown

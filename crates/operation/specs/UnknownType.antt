@@ -1,4 +1,4 @@
--- Refusal 15 by 01: an entry outside −1..1, or a pair of trace and determinant that is none of the ten. The ten are said as a rule:
+-- Refusal 15 by R8: an entry outside −1..1, or a pair of trace and determinant that is none of the ten. The ten are said as a rule:
 -- trace −1 to 3 with determinant 1, or the negatives of both.
 use mathlib.Core.Path.{_≡_, refl, sym, _∙_, ap}
 use mathlib.Core.Logic.{_↔_}

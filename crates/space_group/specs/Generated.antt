@@ -1,4 +1,4 @@
--- From generators to a group by 01, of motions of space: what generators generate, when a symbol is accepted, and what it is answered then.
+-- From generators to a group by R3, of motions of space: what generators generate, when a symbol is accepted, and what it is answered then.
 use mathlib.Core.Path.{_≡_}
 use mathlib.Core.Bool.{Bool, cond}
 use mathlib.Core.Option.{Option, some, none}

@@ -1,4 +1,4 @@
--- The numbers and places of 01, "Refusal numbers", 12 to 14, and what the answer of this room is in numbers: the one place where they stand.
+-- The numbers and places of R8, 12 to 14, and what the answer of this room is in numbers: the one place where they stand.
 use mathlib.Core.List.{List}
 use Prim.Native.Nat.{ℕ}
 use lib.ListN.{take}

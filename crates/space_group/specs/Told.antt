@@ -1,4 +1,4 @@
--- What is answered for generators by 01's numbers and places, 12 to 14; number, place and value determine the answer.
+-- What is answered for generators by number and place, 12 to 14; number, place and value determine the answer.
 use mathlib.Core.Path.{_≡_, refl, _∙_, ap}
 use mathlib.Core.Logic.{_⊎_, inl, inr, _↔_}
 use mathlib.Core.List.{List}

@@ -1,4 +1,4 @@
--- The list of operations as 01, "From generators to a group", has it made: breadth first from the identity, right factor running over the generators
+-- The list of operations as R3.6 has it made: breadth first from the identity, right factor running over the generators
 -- in order, first translation reached kept, modulo 12; with the index of each product, until nothing is left to multiply.
 use mathlib.Core.Bool.{Bool, true, false}
 use mathlib.Core.Option.{Option, some, none}

@@ -1,4 +1,4 @@
-// Why generators make no group: the refusals 12 to 14 of 01.
+// Why generators make no group: the refusals 12 to 14 of R8.
 // New beside moyo 0.21.0, which has no such refusals.
 ghost use mathlib.Core.Path.{_≡_};
 ghost use Rattle.space_group.specs.Refusals.{numberOf, placeOf};

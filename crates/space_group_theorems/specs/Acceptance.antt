@@ -1,4 +1,4 @@
--- Acceptance, exactly as 01 has it: a group is answered if every generator maps L onto L, the generated rotations number at most 48 with all entries in
+-- Acceptance, exactly as R3.5 has it: a group is answered if every generator maps L onto L, the generated rotations number at most 48 with all entries in
 -- −1..1, and no generated motion with identity rotation has its translation outside L; and 12, 13, 14 are each answered exactly if, in this order, that fails.
 use mathlib.Core.Path.{_≡_, refl, sym, _∙_, ap, ap₂}
 use mathlib.Core.Logic.{inl, inr, _↔_}
@@ -338,7 +338,7 @@ course-translations (torn keep few small n) = ((λ _. (keep, few, small, n)), λ
 course-translations (whole keep few small one p) = ((λ e. let z : _≡_ {A = ℕ} 0 1 = cc in absurd (omega arith)), λ (_, _, _, n). absurd (n one))
 
 module _ (c : Centering) (gens : List Operation) (small : SmallGenerators gens) where
-  -- A group is answered exactly if 01 accepts the generators.
+  -- A group is answered exactly if R3.5 accepts the generators.
   pub accepted-exactly : ((operations : List Operation) × (steps : List ℕ) × (outcomeOf c gens ≡ group operations steps)) ↔ (AllKeep c gens × FewRotations gens × SmallRotations gens × OneTranslation c gens)
   accepted-exactly = (
     (λ (operations, steps, e). let A = course-group (course c gens small) operations steps e in (A .keep, A .few, A .small, A .one)),

@@ -1,4 +1,4 @@
--- What is answered for generators, exactly: the list if 01 accepts them, and 12, 13 and 14 by number and place, each if its rule holds.
+-- What is answered for generators, exactly: the list if R3.5 accepts them, and 12, 13 and 14 by number and place, each if its rule holds.
 use mathlib.Core.Path.{_≡_}
 use mathlib.Core.Logic.{_⊎_, _↔_}
 use mathlib.Core.List.{List}
@@ -12,7 +12,7 @@ use Rattle.space_group_theorems.specs.Acceptance.{SmallGenerators, First
 use Rattle.space_group_theorems.specs.Witnesses.{ManyRotations, LargeRotation, TwoTranslations, rotations-refused, translations-refused}
 
 module _ (c : Centering) (gens : List Operation) (small : SmallGenerators gens) where
-  -- A list is given exactly if 01 accepts the generators.
+  -- A list is given exactly if R3.5 accepts the generators.
   pub given-exactly : ((operations : List Operation) × (told c gens ≡ given operations))
       ↔ (AllKeep c gens × FewRotations gens × SmallRotations gens × OneTranslation c gens)
   given-exactly = (

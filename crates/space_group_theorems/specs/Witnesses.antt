@@ -1,4 +1,4 @@
--- What 13 and 14 show, in the words of 01's table: over 48 generated rotations or one with an entry outside −1..1, and two translations modulo L for one
+-- What 13 and 14 show, in the words of R8: over 48 generated rotations or one with an entry outside −1..1, and two translations modulo L for one
 -- rotation. The idea: a test that fails of a list fails at a member of it, and what is listed is generated.
 use mathlib.Core.Path.{_≡_, refl, sym, _∙_}
 use mathlib.Core.Logic.{_⊎_, inl, inr, _↔_}

@@ -1,4 +1,4 @@
--- The conjugates of a subgroup (document 01, "Tables and subgroups"): the subgroup first with the identity as its conjugator, the others in list
+-- The conjugates of a subgroup (R7.5): the subgroup first with the identity as its conjugator, the others in list
 -- order, each with its smallest conjugator.
 use mathlib.Core.Bool.{Bool, not, _&&_}
 use mathlib.Core.List.{List, _∷_, map}

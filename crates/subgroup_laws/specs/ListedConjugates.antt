@@ -1,4 +1,4 @@
--- What the list of conjugates, their conjugators and a normalizer are, in the words of group theory (document 01, "Tables and subgroups").
+-- What the list of conjugates, their conjugators and a normalizer are, in the words of group theory (R7.5 and R7.7).
 use mathlib.Core.Path.{_≡_, refl, sym, ap, _∙_}
 use mathlib.Core.Logic.{inl, inr, _↔_}
 use mathlib.Core.Bool.{true}

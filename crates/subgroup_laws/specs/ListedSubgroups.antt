@@ -1,4 +1,4 @@
--- What the lists of subgroups and of class representatives hold, in the words of group theory (document 01, "Tables and subgroups").
+-- What the lists of subgroups and of class representatives hold, in the words of group theory (R7.4 and R7.6).
 use mathlib.Core.Path.{_≡_, refl, sym, ap, _∙_, subst}
 use mathlib.Core.Logic.{inl, inr, _↔_}
 use mathlib.Core.Bool.{Bool, true, false, cond, true≢false}

@@ -1,4 +1,4 @@
--- The list of the sets that pass a test, in list order (document 01, "Tables and subgroups"). It is given as the sorted list of all numbers
+-- The list of the sets that pass a test, in list order (R7.2). It is given as the sorted list of all numbers
 -- below 2 ^ n that pass, which says what it is and not how it is found; it is the only list that holds these sets in this order.
 use mathlib.Core.Path.{_≡_}
 use mathlib.Core.Bool.{Bool, true}

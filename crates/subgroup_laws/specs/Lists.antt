@@ -1,4 +1,4 @@
--- The lists of subgroups and of class representatives (document 01, "Tables and subgroups"), for any product of the numbers below n.
+-- The lists of subgroups and of class representatives (R7.4 and R7.6), for any product of the numbers below n.
 use mathlib.Core.Path.{_≡_, refl, sym, ap, _∙_}
 use mathlib.Core.Bool.{Bool, true, false, not, _&&_, true≢false}
 use mathlib.Core.List.{List}

@@ -1,4 +1,4 @@
--- The permutation of a subgroup's members by an element that conjugates it to itself (document 01, "Tables and subgroups"): entry i is the
+-- The permutation of a subgroup's members by an element that conjugates it to itself (R7.7): entry i is the
 -- position of g⁻¹ x g among the members, x being member i.
 use mathlib.Core.Path.{_≡_, refl, sym, ap, ap₂, _∙_, subst}
 use mathlib.Core.Bool.{Bool, true, false, cond}

@@ -1,4 +1,4 @@
--- A table's bytes by rows, the row being the left factor (document 01, "Tables and subgroups"): row by row from the first, without places.
+-- A table's bytes by rows, the row being the left factor (R6.1): row by row from the first, without places.
 use mathlib.Core.Path.{_≡_, ap, _∙_}
 use mathlib.Core.List.{List, _++_}
 use Prim.Native.Nat.{ℕ, suc, _+_, _*_, _<_}

@@ -1,4 +1,4 @@
--- The bytes of a slot (document 01, "Port order": a set is eight bytes, high byte first), said without the quotients by which they are made.
+-- The bytes of a slot (R7.1: a set is eight bytes, high byte first), said without the quotients by which they are made.
 use mathlib.Core.Path.{_≡_, refl}
 use mathlib.Core.List.{List, [], _∷_}
 use Prim.Native.Nat.{ℕ, zero, suc, _+_, _*_, _-_, _/_, _%_, _<_, _^_}

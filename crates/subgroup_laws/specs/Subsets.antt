@@ -1,4 +1,4 @@
--- Sets of elements as numbers (document 01, "Tables and subgroups"): subgroups, images, conjugates and normalizers, for any product of the numbers below n.
+-- Sets of elements as numbers (R7): subgroups, images, conjugates and normalizers, for any product of the numbers below n.
 use mathlib.Core.Path.{_≡_}
 use mathlib.Core.Bool.{Bool, true, cond, _&&_}
 use Prim.Native.Nat.{ℕ, _^_, _<_}

@@ -1,4 +1,4 @@
--- Tables of groups as bytes (document 01, "Tables and subgroups"): n² cells by rows, the row being the left factor.
+-- Tables of groups as bytes (R6): n² cells by rows, the row being the left factor.
 use mathlib.Core.Path.{_≡_}
 use mathlib.Core.Bool.{Bool, _&&_}
 use mathlib.Core.List.{List}

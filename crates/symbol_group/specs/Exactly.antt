@@ -1,4 +1,4 @@
--- What is answered for a text, exactly: a group if the text spells a symbol that 01 accepts, and each refusal if its rule holds.
+-- What is answered for a text, exactly: a group if the text spells a symbol that R3.5 accepts, and each refusal if its rule holds.
 use mathlib.Core.Path.{_≡_, refl, ap}
 use mathlib.Core.Logic.{_↔_}
 use mathlib.Core.List.{List, _∷_, List·Memᴰ·head as here, List·Memᴰ·tail as there}
@@ -71,7 +71,7 @@ reading-is-text (refusal q) r = ((λ e. let z : q ≡ r = cc in ap refusal z), �
 
 -- ---- by the text
 module _ (bytes : List ℕ) where
-  -- A group is answered exactly if the text spells a symbol and 01 accepts its generators.
+  -- A group is answered exactly if the text spells a symbol and R3.5 accepts its generators.
   pub group-exactly : (symbolAnswer bytes .answer ≡ Group) ↔ ((c : Centering) × (gens : List Operation) × Spells bytes c gens × (AllKeep c gens × FewRotations gens × SmallRotations gens × OneTranslation c gens))
   unfolding symbolAnswer
   group-exactly = (

@@ -1,4 +1,4 @@
--- What is answered for a text, by 01's numbers and places: the list, an operation or a translation exactly if the text is accepted, and each refusal, 1 to 14,
+-- What is answered for a text, by number and place: the list, an operation or a translation exactly if the text is accepted, and each refusal, 1 to 14,
 -- 17 and 28, exactly if its rule holds. Number, place and value determine the answer.
 use mathlib.Core.Path.{_≡_, refl, sym, _∙_, ap, ap₂}
 use mathlib.Core.Logic.{_⊎_, _↔_}
@@ -137,7 +137,7 @@ by-text (reader.refusal r) n k h = (
 )
 
 module _ (bytes : List ℕ) where
-  -- A list is given exactly if the text spells a symbol and 01 accepts its generators,
+  -- A list is given exactly if the text spells a symbol and R3.5 accepts its generators,
   pub given-exactly : ((operations : List Operation) × (told bytes ≡ answer.given operations))
       ↔ ((c : Centering) × (gens : List Operation) × Spells bytes c gens × (AllKeep c gens × FewRotations gens × SmallRotations gens × OneTranslation c gens))
   unfolding told

@@ -1,4 +1,4 @@
--- The two lists of conjugates and conjugators, place by place (document 01, "Tables and subgroups"): the subgroup first with the identity, and at every
+-- The two lists of conjugates and conjugators, place by place (R7.5): the subgroup first with the identity, and at every
 -- other place a conjugate with the smallest element that conjugates to it.
 use mathlib.Core.Path.{_≡_, refl, sym, subst}
 use mathlib.Core.List.{List, [], _∷_, map, List·Memᴰ·tail as there}

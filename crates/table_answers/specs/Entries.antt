@@ -1,4 +1,4 @@
--- What each entry asks of the group of a table (document 01, "Tables and subgroups" and refusals 26 to 29); its definition answers exactly so, and leaves
+-- What each entry asks of the group of a table (R6, R7 and refusals 26 to 29); its definition answers exactly so, and leaves
 -- the lent lists so.
 use mathlib.Core.Path.{_≡_, refl, sym, ap, _∙_}
 use mathlib.Core.Bool.{Bool, true, false, _||_, true≢false}

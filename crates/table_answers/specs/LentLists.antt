@@ -1,4 +1,4 @@
--- What becomes of a list that is lent to a call (document 01, the end of "Refusal numbers"), byte by byte. A slot has one byte, or the eight of a set,
+-- What becomes of a list that is lent to a call (R8.7), byte by byte. A slot has one byte, or the eight of a set,
 -- high byte first; bytes that are left over are no slot.
 use mathlib.Core.Path.{_≡_, refl, sym, ap, ap₂, _∙_}
 use mathlib.Core.List.{List, [], _∷_, _++_, append-assoc}

@@ -1,4 +1,4 @@
--- What is answered on the bytes of a table, said from document 01 and shown of the definitions that the contracts cite.
+-- What is answered on the bytes of a table, said from the rules and shown of the definitions that the contracts cite.
 -- Number, place and value determine the answer.
 pub mod Once
 -- The reasons for 21 to 29, what becomes of lent lists, and that one answer and one content is left.

@@ -1,4 +1,4 @@
--- Why an answer on the bytes of a table is refused (document 01, "Refusal numbers", 21 to 29): a reason for each number, with the reasons that go before
+-- Why an answer on the bytes of a table is refused (R8, 21 to 29): a reason for each number, with the reasons that go before
 -- it ruled out; and what becomes of the lists that were lent. Any bytes leave one answer and one content of each list.
 use mathlib.Core.Path.{_≡_, refl}
 use mathlib.Core.Logic.{_⊎_, _↔_}

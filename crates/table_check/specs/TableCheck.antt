@@ -1,4 +1,4 @@
--- What the check of a table's bytes answers (document 01, "Refusal numbers"): refusals 21 to 25, the first that applies.
+-- What the check of a table's bytes answers (R8): refusals 21 to 25, the first that applies.
 use mathlib.Core.Path.{_≡_}
 use mathlib.Core.Bool.{cond}
 use mathlib.Core.List.{List}

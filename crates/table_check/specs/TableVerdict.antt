@@ -1,4 +1,4 @@
--- When a table is accepted and when it is refused (document 01, refusals 21 to 25), in the words of group theory: of any bytes exactly one of
+-- When a table is accepted and when it is refused (R8, refusals 21 to 25), in the words of group theory: of any bytes exactly one of
 -- the cases holds, and the check gives that one.
 use mathlib.Core.Path.{_≡_, sym, _∙_}
 use mathlib.Core.Logic.{_⊎_, inl, inr, _↔_}

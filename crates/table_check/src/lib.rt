@@ -10,7 +10,7 @@ use table::identity_of;
 mod associativity;
 mod table;
 
-// Why there is no answer: document 01's refusals 21 to 29.
+// Why there is no answer: the refusals 21 to 29.
 pub enum Refusal {
     Order,
     Cells,
