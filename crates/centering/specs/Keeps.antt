@@ -113,7 +113,8 @@ first-test = tt
 
 module _ (c : Centering) where
   first-of : T (sameTriple (getD (pointsOf c) 0 zeroTriple) zeroTriple && (leb 1 (length (pointsOf c)) && leb (length (pointsOf c)) 4))
-  first-of = all-member (λ c. sameTriple (getD (pointsOf c) 0 zeroTriple) zeroTriple && (leb 1 (length (pointsOf c)) && leb (length (pointsOf c)) 4)) first-test (listed c)
+  first-of = all-member (λ c. sameTriple (getD (pointsOf c) 0 zeroTriple) zeroTriple &&
+      (leb 1 (length (pointsOf c)) && leb (length (pointsOf c)) 4)) first-test (listed c)
 
   first-zero : getD (pointsOf c) 0 zeroTriple ≡ zeroTriple
   first-zero = triple-decides .exact _ zeroTriple (and-left (sameTriple (getD (pointsOf c) 0 zeroTriple) zeroTriple) _ first-of)
@@ -130,7 +131,8 @@ module _ (c : Centering) where
       sym (all-step (staysIn c r) (pointsOf c) zeroTriple 0 (count-range .0) (ap (staysIn c r) first-zero ∙ stays-zero c r))
 
   -- The points of the code's list.
-  pub point-at : (p : LatticePoints) → p ≡ latticePointsOf c → (i : ℕ) (d : Translation) → i < length (pointsOf c) → tripleOf (getD (p .points) i d) ≡ getD (pointsOf c) i zeroTriple
+  pub point-at : (p : LatticePoints) → p ≡ latticePointsOf c → (i : ℕ) (d : Translation) → i < length (pointsOf c)
+      → tripleOf (getD (p .points) i d) ≡ getD (pointsOf c) i zeroTriple
   unfolding latticePointsOf
   point-at p e i d h =
       ap (λ (q : LatticePoints). tripleOf (getD (q .points) i d)) e ∙ filled-at 4 (pointsOf c) i d h

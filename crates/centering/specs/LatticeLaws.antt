@@ -103,7 +103,8 @@ unfolding toldApart pointsWithin
 lattice-injective c d same =
     elim (or-cases (eqb (byteOf c) (byteOf d)) _ (all-member (toldApart c) (all-member (λ c. all (toldApart c) letters) pairs-test (listed c)) (listed d))) [
       | inl t ↦ byte-injective c d (eqb→eq _ _ t)
-      | inr t ↦ absurd (T-not (pointsWithin c d && pointsWithin d c) t (both (pointsWithin c d) (pointsWithin d c) (within c d (λ v. same v .0)) (within d c (λ v. same v .1))))
+      | inr t ↦ absurd (T-not (pointsWithin c d && pointsWithin d c) t
+          (both (pointsWithin c d) (pointsWithin d c) (within c d (λ v. same v .0)) (within d c (λ v. same v .1))))
     ]
   where
     within : (c d : Centering) → ((v : Vector) → InLattice (pointsOf c) v → InLattice (pointsOf d) v) → T (pointsWithin c d)

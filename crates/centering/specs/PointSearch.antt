@@ -48,7 +48,8 @@ or-true : (a b : Bool) → b ≡ true → a || b ≡ true
 or-true true b h = refl
 or-true false b h = h
 
-pub found : (l : List Translation) (u : Triple) (d : Translation) (i : ℕ) → i < length l → sameTriple u (tripleOf (getD l i d)) ≡ true → has sameTriple u (map tripleOf l) ≡ true
+pub found : (l : List Translation) (u : Triple) (d : Translation) (i : ℕ) → i < length l → sameTriple u (tripleOf (getD l i d)) ≡ true
+    → has sameTriple u (map tripleOf l) ≡ true
 unfolding has
 found (t ∷ l) u d zero h e = rw e refl
 found (t ∷ l) u d (suc i) h e = or-true (sameTriple u (tripleOf t)) _ (found l u d i (omega arith) e)
@@ -58,7 +59,9 @@ or-false : (a : Bool) → a || false ≡ a
 or-false true = refl
 or-false false = refl
 
-pub fourth : (l : List Translation) (u : Triple) (d : Translation) → length l ≡ 4 → sameTriple u (tripleOf (getD l 0 d)) ≡ false → sameTriple u (tripleOf (getD l 1 d)) ≡ false → sameTriple u (tripleOf (getD l 2 d)) ≡ false → has sameTriple u (map tripleOf l) ≡ sameTriple u (tripleOf (getD l 3 d))
+pub fourth : (l : List Translation) (u : Triple) (d : Translation) → length l ≡ 4 → sameTriple u (tripleOf (getD l 0 d)) ≡ false
+    → sameTriple u (tripleOf (getD l 1 d)) ≡ false → sameTriple u (tripleOf (getD l 2 d)) ≡ false
+    → has sameTriple u (map tripleOf l) ≡ sameTriple u (tripleOf (getD l 3 d))
 unfolding has
 fourth (p ∷ q ∷ r ∷ s ∷ []) u d h e f g = rw (e, f, g) (or-false (sameTriple u (tripleOf s)))
 fourth [] u d h e f g = absurd (omega arith)
@@ -78,7 +81,8 @@ module _ (c : Centering) (r : LatticePoints) (answer : r ≡ latticePointsOf c) 
   pub search-found : (i : ℕ) → i < 4 → sameTriple u (tripleOf (getD (r .points) i d)) ≡ true → true ≡ has sameTriple u (pointsOf c)
   search-found i h e = sym (sym among ∙ found (r .points) u d i (omega (arith, four)) e)
 
-  pub search-fourth : sameTriple u (tripleOf (getD (r .points) 0 d)) ≡ false → sameTriple u (tripleOf (getD (r .points) 1 d)) ≡ false → sameTriple u (tripleOf (getD (r .points) 2 d)) ≡ false → sameTriple u (tripleOf (getD (r .points) 3 d)) ≡ has sameTriple u (pointsOf c)
+  pub search-fourth : sameTriple u (tripleOf (getD (r .points) 0 d)) ≡ false → sameTriple u (tripleOf (getD (r .points) 1 d)) ≡ false
+      → sameTriple u (tripleOf (getD (r .points) 2 d)) ≡ false → sameTriple u (tripleOf (getD (r .points) 3 d)) ≡ has sameTriple u (pointsOf c)
   search-fourth e f g = sym (sym among ∙ fourth (r .points) u d four e f g)
 
 -- ---- the smallest triple
@@ -87,7 +91,9 @@ unfolding latticePointsOf smallest
 smallest-points c u = ap (λ l. unrank (leastRank l u)) (back-again (filled 4 (pointsOf c))) ∙ smallest-filled (pointsOf c) (points c) 4 u
 
 -- The least rank over four is the least of the four ranks.
-least-of-four : (l : List Translation) (u : Triple) (d : Translation) → length l ≡ 4 → leastRank (map tripleOf l) u ≡ min (rank (u ⊕ tripleOf (getD l 0 d))) (min (rank (u ⊕ tripleOf (getD l 1 d))) (min (rank (u ⊕ tripleOf (getD l 2 d))) (rank (u ⊕ tripleOf (getD l 3 d)))))
+least-of-four : (l : List Translation) (u : Triple) (d : Translation) → length l ≡ 4
+    → leastRank (map tripleOf l) u ≡ min (rank (u ⊕ tripleOf (getD l 0 d))) (min (rank (u ⊕ tripleOf (getD l 1 d)))
+    (min (rank (u ⊕ tripleOf (getD l 2 d))) (rank (u ⊕ tripleOf (getD l 3 d)))))
 unfolding leastRank
 least-of-four (p ∷ q ∷ r ∷ s ∷ []) u d h =
     let last : min (rank (u ⊕ tripleOf s)) 1728 ≡ rank (u ⊕ tripleOf s) = omega (arith, rank-lt (u ⊕ tripleOf s) (⊕-reduced u (tripleOf s))) in
@@ -100,7 +106,9 @@ least-of-four (p ∷ q ∷ r ∷ s ∷ t ∷ l) u d h = absurd (omega arith)
 
 module _ (c : Centering) (r : LatticePoints) (answer : r ≡ latticePointsOf c) (t d : Translation) where
   -- What the code makes of the four ranks is the smallest triple of the class.
-  pub smallest-of-four : (n : ℕ) → n ≡ min (rank (tripleOf t ⊕ tripleOf (getD (r .points) 0 d))) (min (rank (tripleOf t ⊕ tripleOf (getD (r .points) 1 d))) (min (rank (tripleOf t ⊕ tripleOf (getD (r .points) 2 d))) (rank (tripleOf t ⊕ tripleOf (getD (r .points) 3 d))))) → translationOf (unrank n) ≡ smallestOf c t
+  pub smallest-of-four : (n : ℕ) → n ≡ min (rank (tripleOf t ⊕ tripleOf (getD (r .points) 0 d))) (min
+      (rank (tripleOf t ⊕ tripleOf (getD (r .points) 1 d))) (min (rank (tripleOf t ⊕ tripleOf (getD (r .points) 2 d)))
+      (rank (tripleOf t ⊕ tripleOf (getD (r .points) 3 d))))) → translationOf (unrank n) ≡ smallestOf c t
   unfolding smallestOf
   smallest-of-four n e =
       ap translationOf

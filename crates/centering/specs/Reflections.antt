@@ -89,7 +89,8 @@ planes-exactly c v = (
       let all-there : T (inPhase c (reduced v)) = rw (agree c (reduced v) (reduced-lt v)) at point-there in
       eqb→eq _ _ (all-member (λ g. eqb (phase g (reduced v)) 0) all-there i)),
   λ h.
-      let all-there : T (inPhase c (reduced v)) = member-all (λ g. eqb (phase g (reduced v)) 0) (planes c) (λ g i. rw (eq-eqb (phase g (reduced v)) 0 (h g i)) tt) in
+      let all-there : T (inPhase c (reduced v)) = member-all (λ g. eqb (phase g (reduced v)) 0) (planes c) (λ g i. rw
+      (eq-eqb (phase g (reduced v)) 0 (h g i)) tt) in
       let point-there : T (has sameTriple (reduced v) (pointsOf c)) = rw (← agree c (reduced v) (reduced-lt v)) at all-there in
       has→Mem sameTriple triple-decides point-there,
 )

@@ -10,7 +10,15 @@ use Rattle.table_check.specs.declared.Refusal.the-variants.{Order, Cells, Ident
 pub use Rattle.table_check.specs.OnGroup.{onGroup, onBytes}
 unfoldable pub use Rattle.subgroup_search.specs.Answers.{listAnswer, listBytes}
 pub use Rattle.subgroup_search.specs.Answers.{subgroupsAnswer, subgroupsBytes, classesAnswer, classesBytes}
-unfoldable pub use Rattle.conjugation.specs.Answers.{conjugateAnswer, normalizerAnswer, permutationAnswer, permutationBytes, conjugatesAnswer, conjugatesBytes, conjugatorsBytes}
+unfoldable pub use Rattle.conjugation.specs.Answers.{
+  conjugateAnswer,
+  normalizerAnswer,
+  permutationAnswer,
+  permutationBytes,
+  conjugatesAnswer,
+  conjugatesBytes,
+  conjugatorsBytes,
+}
 pub use Rattle.conjugation.specs.Answers.{ofNormalizer, conjugateEntry, normalizerEntry, permutationEntry, permutationList, conjugatesEntry, conjugatesList, conjugatorsList}
 
 -- the numbers of the refusals

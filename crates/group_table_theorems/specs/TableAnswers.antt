@@ -1,4 +1,5 @@
--- What the answers say: a table is given for every accepted symbol and for every record that is read, it is that of a group, and it is the table of their sets of motions.
+-- What the answers say: a table is given for every accepted symbol and for every record that is read, it is that of a group, and it is the table of their sets
+-- of motions.
 use mathlib.Core.Path.{_≡_, refl, _∙_, subst}
 use mathlib.Core.Logic.{_↔_}
 use mathlib.Core.List.{List, map}
@@ -70,7 +71,9 @@ record-answer bytes = by-answer (readOf bytes .answer) (readOf bytes .centering)
     by-answer (RecordRefused r) c l = refl
 
 -- The table of a record that is read is that of its set of motions.
-pub record-motions : (bytes : List ℕ) → Bytes bytes → readOf bytes .answer ≡ Accepted → TableOfMotions (InSet (readOf bytes .centering) (map motionOf (take (readOf bytes .count) (readOf bytes .operations)))) (readOf bytes .centering) (take (readOf bytes .count) (readOf bytes .operations)) (recordTable bytes .order) (take (recordTable bytes .order * recordTable bytes .order) (recordTable bytes .cells))
+pub record-motions : (bytes : List ℕ) → Bytes bytes → readOf bytes .answer ≡ Accepted
+    → TableOfMotions (InSet (readOf bytes .centering) (map motionOf
+    (take (readOf bytes .count) (readOf bytes .operations)))) (readOf bytes .centering) (take (readOf bytes .count) (readOf bytes .operations)) (recordTable bytes .order) (take (recordTable bytes .order * recordTable bytes .order) (recordTable bytes .cells))
 unfolding recordTable
 record-motions bytes b e =
     let g = readOf bytes in
@@ -98,19 +101,24 @@ module _ (text : List ℕ) (e : symbolAnswer text .answer ≡ Group) where
 
   -- They are a listing,
   symbol-listing : Listing operations
-  symbol-listing = let T = accepted-text text e in rw (T .same-operations) (accepted-listing (T .letter) (T .generators) (T .operations) (T .steps) (T .accepted))
+  symbol-listing = let T = accepted-text text e in rw (T .same-operations) (accepted-listing (T .letter) (T .generators) (T .operations) (T .steps)
+      (T .accepted))
 
   -- and allowed.
   symbol-allowed : Allowed letter (map motionOf operations)
   symbol-allowed =
-      let T = accepted-text text e in rw (T .same-letter, T .same-operations) (accepted-allowed (T .letter) (T .generators) (T .operations) (T .steps) (T .accepted))
+      let T = accepted-text text e in rw (
+        T .same-letter,
+        T .same-operations,
+      ) (accepted-allowed (T .letter) (T .generators) (T .operations) (T .steps) (T .accepted))
 
   -- The text's set of motions is theirs with L added.
   symbol-inside : (f : SpaceMotion) → InSetOf text f ↔ InSet letter (map motionOf operations) f
   symbol-inside f = let T = accepted-text text e in rw (T .same-letter, T .same-operations) (set-of-list text T f)
 
   -- The table of an accepted symbol is that of its set of motions: all finite products of generators and translations by L.
-  pub symbol-motions : TableOfMotions (InSetOf text) letter operations (symbolTable text .order) (take (symbolTable text .order * symbolTable text .order) (symbolTable text .cells))
+  pub symbol-motions : TableOfMotions (InSetOf text) letter operations (symbolTable text .order) (take (symbolTable text .order * symbolTable text .order)
+      (symbolTable text .cells))
   unfolding symbolTable
   symbol-motions = rw e (motions-table (InSetOf text) letter operations symbol-listing symbol-allowed symbol-inside)
 
@@ -127,27 +135,33 @@ pub symbol-cells-group : (text : List ℕ) (n : ℕ) → orderOf text ≡ Is n �
 unfolding orderOf symbolCells
 symbol-cells-group text n = by-answer (symbolAnswer text .answer) refl
   where
-    by-answer : (a : symbol.Answer) → symbolAnswer text .answer ≡ a → orderBy a (symbolAnswer text .count) ≡ Is n → GroupTable n (symbolCellsBy a (symbolAnswer text .centering) (take (symbolAnswer text .count) (symbolAnswer text .operations))) 0
+    by-answer : (a : symbol.Answer) → symbolAnswer text .answer ≡ a → orderBy a (symbolAnswer text .count) ≡ Is n
+        → GroupTable n (symbolCellsBy a (symbolAnswer text .centering) (take (symbolAnswer text .count) (symbolAnswer text .operations))) 0
     by-answer Group e p =
         let g = symbolAnswer text in
         let l = take (g .count) (g .operations) in
         let same : g .count ≡ n = cc in
         let T = group-table (g .centering) (symbol-listing text e) (symbol-allowed text e) in
-        subst (λ (k : ℕ). GroupTable k (tableOf (g .centering) l) 0) (symbol-order text g refl ∙ same) (subst (GroupTable (length l) (tableOf (g .centering) l)) (symbol-identity text e) T)
+        subst (λ (k : ℕ). GroupTable k (tableOf (g .centering) l) 0) (symbol-order text g refl
+        ∙ same) (subst (GroupTable (length l) (tableOf (g .centering) l)) (symbol-identity text e) T)
     by-answer (Refused r) e p = let z : _≡_ {A = ℕ} 0 1 = cc in absurd (omega arith)
 
 -- The cells of a record that is read are the table of a group.
-pub record-cells-group : (bytes : List ℕ) → Bytes bytes → (n : ℕ) → recordOrder bytes ≡ RecordIs n → GroupTable n (recordCells bytes) (identityIndex (readOf bytes .centering) (take (readOf bytes .count) (readOf bytes .operations)))
+pub record-cells-group : (bytes : List ℕ) → Bytes bytes → (n : ℕ) → recordOrder bytes ≡ RecordIs n
+    → GroupTable n (recordCells bytes) (identityIndex (readOf bytes .centering) (take (readOf bytes .count) (readOf bytes .operations)))
 unfolding recordOrder recordCells
 record-cells-group bytes b n = by-answer (readOf bytes .answer) refl
   where
-    by-answer : (a : Reading) → readOf bytes .answer ≡ a → recordOrderBy a (readOf bytes .count) ≡ RecordIs n → GroupTable n (recordCellsBy a (readOf bytes .centering) (take (readOf bytes .count) (readOf bytes .operations))) (identityIndex (readOf bytes .centering) (take (readOf bytes .count) (readOf bytes .operations)))
+    by-answer : (a : Reading) → readOf bytes .answer ≡ a → recordOrderBy a (readOf bytes .count) ≡ RecordIs n
+        → GroupTable n (recordCellsBy a (readOf bytes .centering) (take (readOf bytes .count) (readOf bytes .operations))) (identityIndex
+        (readOf bytes .centering) (take (readOf bytes .count) (readOf bytes .operations)))
     by-answer Accepted e p =
         let g = readOf bytes in
         let l = take (g .count) (g .operations) in
         let same : g .count ≡ n = cc in
         let (w, A) = read-allowed bytes g refl b e in
-        subst (λ (k : ℕ). GroupTable k (tableOf (g .centering) l) (identityIndex (g .centering) l)) (read-order bytes b e .0 ∙ same) (group-table (g .centering) (w .listing) A)
+        subst (λ (k : ℕ). GroupTable k (tableOf (g .centering) l) (identityIndex (g .centering) l)) (read-order bytes b e .0
+        ∙ same) (group-table (g .centering) (w .listing) A)
     by-answer (RecordRefused r) e p = let z : _≡_ {A = ℕ} 0 1 = cc in absurd (omega arith)
 
 -- They are the first n² slots of the table by value, so what is said of motions there holds for the cells alone.
@@ -155,7 +169,9 @@ pub symbol-cells-same : (text : List ℕ) (n : ℕ) → orderOf text ≡ Is n �
 unfolding orderOf symbolTable symbolCells
 symbol-cells-same text n = by-answer (symbolAnswer text .answer)
   where
-    by-answer : (a : symbol.Answer) → orderBy a (symbolAnswer text .count) ≡ Is n → take (n * n) (symbolTableBy a (symbolAnswer text .centering) (take (symbolAnswer text .count) (symbolAnswer text .operations)) .cells) ≡ symbolCellsBy a (symbolAnswer text .centering) (take (symbolAnswer text .count) (symbolAnswer text .operations))
+    by-answer : (a : symbol.Answer) → orderBy a (symbolAnswer text .count) ≡ Is n
+        → take (n * n) (symbolTableBy a (symbolAnswer text .centering) (take (symbolAnswer text .count) (symbolAnswer text .operations)) .cells)
+        ≡ symbolCellsBy a (symbolAnswer text .centering) (take (symbolAnswer text .count) (symbolAnswer text .operations))
     by-answer Group p =
         let g = symbolAnswer text in
         let l = take (g .count) (g .operations) in
@@ -167,7 +183,9 @@ pub record-cells-same : (bytes : List ℕ) → Bytes bytes → (n : ℕ) → rec
 unfolding recordOrder recordTable recordCells
 record-cells-same bytes b n = by-answer (readOf bytes .answer) refl
   where
-    by-answer : (a : Reading) → readOf bytes .answer ≡ a → recordOrderBy a (readOf bytes .count) ≡ RecordIs n → take (n * n) (recordTableBy a (readOf bytes .centering) (take (readOf bytes .count) (readOf bytes .operations)) .cells) ≡ recordCellsBy a (readOf bytes .centering) (take (readOf bytes .count) (readOf bytes .operations))
+    by-answer : (a : Reading) → readOf bytes .answer ≡ a → recordOrderBy a (readOf bytes .count) ≡ RecordIs n
+        → take (n * n) (recordTableBy a (readOf bytes .centering) (take (readOf bytes .count) (readOf bytes .operations)) .cells)
+        ≡ recordCellsBy a (readOf bytes .centering) (take (readOf bytes .count) (readOf bytes .operations))
     by-answer Accepted e p =
         let g = readOf bytes in
         let l = take (g .count) (g .operations) in

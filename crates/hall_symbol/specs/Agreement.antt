@@ -52,7 +52,8 @@ opens-first (b ∷ t) after h = h
 
 -- ---- forwards
 -- What begins well is read up to there.
-pub begins-read : (text : List ℕ) {c : Centering} {found : List Operation} {previous : Previous} {p : ℕ} {s : List ℕ} → Begins text c found previous p s → readSymbol text ≡ operations (length text) c found previous (tokensFrom p true s)
+pub begins-read : (text : List ℕ) {c : Centering} {found : List Operation} {previous : Previous} {p : ℕ} {s : List ℕ} → Begins text c found previous p s
+    → readSymbol text ≡ operations (length text) c found previous (tokensFrom p true s)
 unfolding readSymbol
 begins-read text (lattice {w} {after} inverted c fit cut) =
     let t = latticeSpelling inverted c in
@@ -69,28 +70,33 @@ begins-read text (lattice {w} {after} inverted c fit cut) =
 begins-read text {c} (rotation {found = found} {previous} {p} {s} {w} {t} {after} o f a begins cut start few says) =
     begins-read text begins
     ∙ ap (λ (ts : List Token). operations (length text) c found previous ts) (tokens-cut p s w t after cut)
-    ∙ step-rotation (length text) c found previous (tokenAt (p + length w) (t ++ after)) (tokensFrom (p + length w + length t) true after) (stops-first t after (cut .some) start) few
+    ∙ step-rotation (length text) c found previous (tokenAt (p + length w) (t ++ after)) (tokensFrom
+    (p + length w + length t) true after) (stops-first t after (cut .some) start) few
     ∙ rw (cut-word s w t after cut, answers-exact t previous (IsOperation o f a) .1 says)
 
 -- Up to the next token the text is read.
-next-read : (text : List ℕ) (previous : Previous) (place : ℕ) (t after : List ℕ) (n : Next text previous place t after) → readSymbol text ≡ operations (length text) (n .c) (n .found) previous (tokenAt place (t ++ after) ∷ tokensFrom (place + length t) true after)
+next-read : (text : List ℕ) (previous : Previous) (place : ℕ) (t after : List ℕ) (n : Next text previous place t after)
+    → readSymbol text ≡ operations (length text) (n .c) (n .found) previous (tokenAt place (t ++ after) ∷ tokensFrom (place + length t) true after)
 next-read text previous place t after n =
     begins-read text (n .begins)
     ∙ ap (λ (ts : List Token). operations (length text) (n .c) (n .found) previous ts) (tokens-cut (n .p) (n .s) (n .w) t after (n .cut))
     ∙ rw (← n .stands)
 
 -- At the end, with N tokens and without.
-end-some : (n : ℕ) (c : Centering) (found : List Operation) (previous : Previous) → 0 < previous .count → operations n c found previous [] ≡ symbol c (map (shifted noShift) found)
+end-some : (n : ℕ) (c : Centering) (found : List Operation) (previous : Previous) → 0 < previous .count
+    → operations n c found previous [] ≡ symbol c (map (shifted noShift) found)
 unfolding operations atEnd
 end-some n c found previous h = rw (ne-eqb (previous .count) 0 (omega arith))
 
 -- Without an N token.
-end-none : (n : ℕ) (c : Centering) (found : List Operation) (previous : Previous) → previous .count ≡ 0 → operations n c found previous [] ≡ refusal (NoRotation n)
+end-none : (n : ℕ) (c : Centering) (found : List Operation) (previous : Previous) → previous .count ≡ 0
+    → operations n c found previous [] ≡ refusal (NoRotation n)
 unfolding operations atEnd
 end-none n c found previous h = rw (eq-eqb (previous .count) 0 h)
 
 -- At a shift, with N tokens and without.
-shift-some : (c : Centering) (found : List Operation) (count : ℕ) (t : Token) → 0 < count → atShift c found count t ≡ onShift (t .place) c found (shiftOf (t .rest))
+shift-some : (c : Centering) (found : List Operation) (count : ℕ) (t : Token) → 0 < count
+    → atShift c found count t ≡ onShift (t .place) c found (shiftOf (t .rest))
 unfolding atShift
 shift-some c found count t h = rw (ne-eqb count 0 (omega arith))
 
@@ -117,7 +123,8 @@ spells-read text c gs h = begins-read text (h .begins) ∙ go (h .v) (h .ending)
     n : ℕ
     n = length text
 
-    go : (v : Vector) → Ending (h .s) v → gs ≡ map (shifted (shiftBy v)) (h .found) → operations n c (h .found) (h .previous) (tokensFrom (h .p) true (h .s)) ≡ symbol c gs
+    go : (v : Vector) → Ending (h .s) v → gs ≡ map (shifted (shiftBy v)) (h .found)
+        → operations n c (h .found) (h .previous) (tokensFrom (h .p) true (h .s)) ≡ symbol c gs
     go v (plain e) g = rw (tokens-none (h .p) (h .s) e, g) (end-some n c (h .found) (h .previous) (h .some))
     go v′ (moved {w} {t} {after} v cut spelled) g =
         rw (tokens-cut (h .p) (h .s) w t after cut, g)
@@ -165,7 +172,12 @@ refuses-read text (ForbiddenByte p) h =
     rw (le-ltb 80 (length text) (h .short), e, lt-ltb p (length text) (h .within))
 refuses-read text NoToken h = fit-read text (h .0) ∙ rw (tokens-none 0 text (h .1))
 refuses-read text (BadLattice p) h =
-    fit-read text (h .fit) ∙ rw (tokens-cut 0 text (h .w) (h .t) (h .after) (h .cut), cut-word text (h .w) (h .t) (h .after) (h .cut), no-lattice (h .t) (h .wrong), h .stands) (ap (λ (q : ℕ). refusal (BadLattice q)) (omega arith))
+    fit-read text (h .fit) ∙ rw (
+      tokens-cut 0 text (h .w) (h .t) (h .after) (h .cut),
+      cut-word text (h .w) (h .t) (h .after) (h .cut),
+      no-lattice (h .t) (h .wrong),
+      h .stands,
+    ) (ap (λ (q : ℕ). refusal (BadLattice q)) (omega arith))
 refuses-read text (BadToken p r) h = token-refused-read text p r h
 refuses-read text (BadShift p) h =
     let m = h .next in
@@ -194,7 +206,8 @@ says-read text (refusal r) h = refuses-read text r h
 
 -- ---- backwards
 -- At most eight N tokens begin a text well.
-begins-few : (text : List ℕ) {c : Centering} {found : List Operation} {previous : Previous} {p : ℕ} {s : List ℕ} → Begins text c found previous p s → previous .count ≤ 8
+begins-few : (text : List ℕ) {c : Centering} {found : List Operation} {previous : Previous} {p : ℕ} {s : List ℕ} → Begins text c found previous p s
+    → previous .count ≤ 8
 begins-few text (lattice inverted c fit cut) = omega arith
 begins-few text (rotation o f a begins cut start few says) = omega arith
 
@@ -218,7 +231,17 @@ module _ (text : List ℕ) (c : Centering) (found : List Operation) (previous : 
       go true h = ends begins (eqb-true (previous .count) 0 h) e
       go false h =
           let none = eqb-false (previous .count) 0 h in
-          record { found = found; previous = previous; p = p; s = s; v = record { x = pos 0; y = pos 0; z = pos 0 }; begins = begins; some = omega (arith, none); ending = plain e; generators = refl }
+          record {
+            found = found;
+            previous = previous;
+            p = p;
+            s = s;
+            v = record { x = pos 0; y = pos 0; z = pos 0 };
+            begins = begins;
+            some = omega (arith, none);
+            ending = plain e;
+            generators = refl;
+          }
 
   module _ (w t after : List ℕ) (cut : Cut s w t after) where
     -- The next token, at its place.
@@ -255,12 +278,18 @@ module _ (text : List ℕ) (c : Centering) (found : List Operation) (previous : 
               malformed = λ v spelled. let other = shift-read (t ++ after) v spelled in let z : _≡_ {A = ℕ} 0 1 = cc in absurd (omega arith);
             }
 
-        go : (b : Bool) → eqb (previous .count) 0 ≡ b → Says text (cond b (refusal (NoRotation (p + length w))) (onShift (p + length w) c found (shiftOf (t ++ after))))
+        go : (b : Bool) → eqb (previous .count) 0 ≡ b → Says text (cond b (refusal (NoRotation (p + length w)))
+            (onShift (p + length w) c found (shiftOf (t ++ after))))
         go true h = opens here (eqb-true (previous .count) 0 h) o
         go false h = let none = eqb-false (previous .count) 0 h in read (omega (arith, none)) (shiftOf (t ++ after)) refl
 
     -- At any other token, where what follows an operation is known to be read by the rules.
-    rotation-says : Stops opening t → ((o : Operation) (f : Fold) (a : Axis) → Begins text c (found ++ (o ∷ [])) (nextPrevious previous f a) (p + length w + length t) after → Says text (operations (length text) c (found ++ (o ∷ [])) (nextPrevious previous f a) (tokensFrom (p + length w + length t) true after))) → (few : previous .count < 8) (answer : ParsedOperation) → operationToken t previous ≡ answer → Says text (onOperation (p + length w) answer (λ o f a. operations (length text) c (found ++ (o ∷ [])) (nextPrevious previous f a) (tokensFrom (p + length w + length t) true after)))
+    rotation-says : Stops opening t → ((o : Operation) (f : Fold) (a : Axis)
+        → Begins text c (found ++ (o ∷ [])) (nextPrevious previous f a) (p + length w + length t) after
+        → Says text (operations (length text) c (found ++ (o ∷ [])) (nextPrevious previous f a) (tokensFrom (p + length w + length t) true after)))
+        → (few : previous .count < 8) (answer : ParsedOperation) → operationToken t previous ≡ answer
+        → Says text (onOperation (p + length w) answer (λ o f a. operations (length text) c (found ++ (o ∷ [])) (nextPrevious previous f a)
+        (tokensFrom (p + length w + length t) true after)))
     rotation-says start later few (IsOperation o f a) e = later o f a (rotation o f a begins cut start few (answers-exact t previous (IsOperation o f a) .0 e))
     rotation-says start later few (IsRefused k r) e =
         record {
@@ -277,13 +306,16 @@ module _ (text : List ℕ) (c : Centering) (found : List Operation) (previous : 
         }
 
     -- At any token.
-    token-says : ((o : Operation) (f : Fold) (a : Axis) → Begins text c (found ++ (o ∷ [])) (nextPrevious previous f a) (p + length w + length t) after → Says text (operations (length text) c (found ++ (o ∷ [])) (nextPrevious previous f a) (tokensFrom (p + length w + length t) true after))) → Says text (operations (length text) c found previous (tokenAt (p + length w) (t ++ after) ∷ tokensFrom (p + length w + length t) true after))
+    token-says : ((o : Operation) (f : Fold) (a : Axis) → Begins text c (found ++ (o ∷ [])) (nextPrevious previous f a) (p + length w + length t) after
+        → Says text (operations (length text) c (found ++ (o ∷ [])) (nextPrevious previous f a) (tokensFrom (p + length w + length t) true after)))
+        → Says text (operations (length text) c found previous (tokenAt (p + length w) (t ++ after) ∷ tokensFrom (p + length w + length t) true after))
     token-says later = go (opening (getD (t ++ after) 0 0)) refl
       where
         ts : List Token
         ts = tokensFrom (p + length w + length t) true after
 
-        other : opening (getD (t ++ after) 0 0) ≡ false → (b : Bool) → leb 8 (previous .count) ≡ b → Says text (operations (length text) c found previous (tokenAt (p + length w) (t ++ after) ∷ ts))
+        other : opening (getD (t ++ after) 0 0) ≡ false → (b : Bool) → leb 8 (previous .count) ≡ b
+            → Says text (operations (length text) c found previous (tokenAt (p + length w) (t ++ after) ∷ ts))
         other e true h =
             let most = leb-true 8 (previous .count) h in
             rw (step-ninth (length text) c found previous (tokenAt (p + length w) (t ++ after)) ts e most)
@@ -298,7 +330,8 @@ module _ (text : List ℕ) (c : Centering) (found : List Operation) (previous : 
         go false e = other e (leb 8 (previous .count)) refl
 
 -- What begins well is read on by the rules, by induction on a bound of what is left.
-operations-says : (k : ℕ) (text : List ℕ) (c : Centering) (found : List Operation) (previous : Previous) (p : ℕ) (s : List ℕ) → length s ≤ k → Begins text c found previous p s → Says text (operations (length text) c found previous (tokensFrom p true s))
+operations-says : (k : ℕ) (text : List ℕ) (c : Centering) (found : List Operation) (previous : Previous) (p : ℕ) (s : List ℕ) → length s ≤ k
+    → Begins text c found previous p s → Says text (operations (length text) c found previous (tokensFrom p true s))
 operations-says zero text c found previous p s l begins = go (first-token s)
   where
     go : FirstToken s → Says text (operations (length text) c found previous (tokensFrom p true s))
@@ -307,20 +340,26 @@ operations-says zero text c found previous p s l begins = go (first-token s)
 operations-says (suc k) text c found previous p s l begins =
     go (first-token s) (λ o f a q after m b. operations-says k text c (found ++ (o ∷ [])) (nextPrevious previous f a) q after m b)
   where
-    go : FirstToken s → ((o : Operation) (f : Fold) (a : Axis) (q : ℕ) (after : List ℕ) → length after ≤ k → Begins text c (found ++ (o ∷ [])) (nextPrevious previous f a) q after → Says text (operations (length text) c (found ++ (o ∷ [])) (nextPrevious previous f a) (tokensFrom q true after))) → Says text (operations (length text) c found previous (tokensFrom p true s))
+    go : FirstToken s → ((o : Operation) (f : Fold) (a : Axis) (q : ℕ) (after : List ℕ) → length after ≤ k
+        → Begins text c (found ++ (o ∷ [])) (nextPrevious previous f a) q after
+        → Says text (operations (length text) c (found ++ (o ∷ [])) (nextPrevious previous f a) (tokensFrom q true after)))
+        → Says text (operations (length text) c found previous (tokensFrom p true s))
     go (blank e) later = rw (tokens-none p s e) (end-says text c found previous p s begins e)
     go (token w t after cut) later =
         rw (tokens-cut p s w t after cut)
-        (token-says text c found previous p s begins w t after cut (λ o f a b. later o f a (p + length w + length t) after (omega (arith, cut-length s w t after cut, cut .some)) b))
+        (token-says text c found previous p s begins w t after cut
+        (λ o f a b. later o f a (p + length w + length t) after (omega (arith, cut-length s w t after cut, cut .some)) b))
 
 -- A fit text is read by the rules.
 fit-says : (text : List ℕ) → Fit text → Says text (readTokens (length text) (tokens text))
 fit-says text fit = go (first-token text)
   where
-    lattice-says : (w t after : List ℕ) → Cut text w t after → (l : Lattice) → latticeToken t ≡ l → Says text (onLattice (length text) (length w) l (tokensFrom (length w + length t) true after))
+    lattice-says : (w t after : List ℕ) → Cut text w t after → (l : Lattice) → latticeToken t ≡ l
+        → Says text (onLattice (length text) (length w) l (tokensFrom (length w + length t) true after))
     lattice-says w t after cut (Is inverted c) e =
         let same = lattice-spelled t inverted c e in
-        operations-says (length after) text c (leading inverted) noPrevious (length w + length t) after (omega arith) (rw same (lattice inverted c fit (rw same at cut)))
+        operations-says (length after) text c (leading inverted) noPrevious (length w + length t) after (omega arith) (rw same
+        (lattice inverted c fit (rw same at cut)))
     lattice-says w t after cut Wrong e =
         record {
           w = w;
@@ -329,7 +368,8 @@ fit-says text fit = go (first-token text)
           fit = fit;
           cut = cut;
           stands = refl;
-          wrong = λ inverted c same. let other : latticeToken t ≡ Is inverted c = ap latticeToken same ∙ lattice-read inverted c in let z : _≡_ {A = ℕ} 0 1 = cc in absurd (omega arith);
+          wrong = λ inverted c same. let other : latticeToken t ≡ Is inverted c = ap latticeToken same ∙ lattice-read inverted c in
+              let z : _≡_ {A = ℕ} 0 1 = cc in absurd (omega arith);
         }
 
     go : FirstToken text → Says text (readTokens (length text) (tokens text))
@@ -343,13 +383,15 @@ pub read-says : (text : List ℕ) → Says text (readSymbol text)
 unfolding readSymbol
 read-says text = go (ltb 80 (length text)) refl
   where
-    allowed-says : length text ≤ 80 → (b : Bool) → ltb (run allowed text) (length text) ≡ b → Says text (cond b (refusal (ForbiddenByte (run allowed text))) (readTokens (length text) (tokens text)))
+    allowed-says : length text ≤ 80 → (b : Bool) → ltb (run allowed text) (length text) ≡ b
+        → Says text (cond b (refusal (ForbiddenByte (run allowed text))) (readTokens (length text) (tokens text)))
     allowed-says short true e =
         let within = ltb-true (run allowed text) (length text) e in
         record { short = short; within = within; forbidden = run-at allowed text within; first = run-below allowed text }
     allowed-says short false e = fit-says text (short, run-all allowed text (ltb-false (run allowed text) (length text) e))
 
-    go : (b : Bool) → ltb 80 (length text) ≡ b → Says text (cond b (refusal TooLong) (cond (ltb (run allowed text) (length text)) (refusal (ForbiddenByte (run allowed text))) (readTokens (length text) (tokens text))))
+    go : (b : Bool) → ltb 80 (length text) ≡ b → Says text (cond b (refusal TooLong)
+        (cond (ltb (run allowed text) (length text)) (refusal (ForbiddenByte (run allowed text))) (readTokens (length text) (tokens text))))
     go true e = ltb-true 80 (length text) e
     go false e = allowed-says (ltb-false 80 (length text) e) (ltb (run allowed text) (length text)) refl
 

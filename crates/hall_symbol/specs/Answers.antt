@@ -73,7 +73,8 @@ leading-few true = omega arith
 leading-few false = omega arith
 
 -- As many generators as N tokens, and one more with the inversion.
-begins-count : (text : List ℕ) {c : Centering} {found : List Operation} {previous : Previous} {p : ℕ} {s : List ℕ} → Begins text c found previous p s → (previous .count ≤ length found) × (length found ≤ previous .count + 1) × (previous .count ≤ 8)
+begins-count : (text : List ℕ) {c : Centering} {found : List Operation} {previous : Previous} {p : ℕ} {s : List ℕ} → Begins text c found previous p s
+    → (previous .count ≤ length found) × (length found ≤ previous .count + 1) × (previous .count ≤ 8)
 begins-count text (lattice inverted c fit cut) = let few = leading-few inverted in (omega arith, omega arith, omega arith)
 begins-count text (rotation {found = found} o f a begins cut start few says) =
     let (low, high, most) = begins-count text begins in
@@ -101,7 +102,8 @@ nine-slots text = go (readSymbol text) (read-says text)
 
 -- ---- the place
 -- The place up to which a text begins well is the length of what stands before the rest.
-pub begins-place : (text : List ℕ) {c : Centering} {found : List Operation} {previous : Previous} {p : ℕ} {s : List ℕ} → Begins text c found previous p s → (before : List ℕ) × (text ≡ before ++ s) × (length before ≡ p)
+pub begins-place : (text : List ℕ) {c : Centering} {found : List Operation} {previous : Previous} {p : ℕ} {s : List ℕ} → Begins text c found previous p s
+    → (before : List ℕ) × (text ≡ before ++ s) × (length before ≡ p)
 begins-place text (lattice {w} {after} inverted c fit cut) =
     let t = latticeSpelling inverted c in
     (w ++ t, cut .text ∙ sym (append-assoc w t after), length-append w t)
@@ -134,7 +136,8 @@ leading-reduced true = (
 )
 leading-reduced false = tt
 
-begins-reduced : (text : List ℕ) {c : Centering} {found : List Operation} {previous : Previous} {p : ℕ} {s : List ℕ} → Begins text c found previous p s → AllReduced found
+begins-reduced : (text : List ℕ) {c : Centering} {found : List Operation} {previous : Previous} {p : ℕ} {s : List ℕ} → Begins text c found previous p s
+    → AllReduced found
 begins-reduced text (lattice inverted c fit cut) = leading-reduced inverted
 begins-reduced text (rotation {found = found} {previous} {t = t} o f a begins cut start few says) =
     reduced-snoc found o (begins-reduced text begins) (read-reduced t previous o f a (answers-exact t previous (IsOperation o f a) .1 says))

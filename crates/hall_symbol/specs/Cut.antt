@@ -134,20 +134,25 @@ tokens-inside p (b ∷ t) after h k =
     rw (solid-not-whitespace b (h .0)) (tokens-inside (suc p) t after (h .1) k ∙ ap (λ (q : ℕ). tokensFrom q true after) e)
 
 -- A token, and then those of what follows.
-tokens-word : (p : ℕ) (t after : List ℕ) → 0 < length t → Every solid t → Stops solid after → tokensFrom p true (t ++ after) ≡ tokenAt p (t ++ after) ∷ tokensFrom (p + length t) true after
+tokens-word : (p : ℕ) (t after : List ℕ) → 0 < length t → Every solid t → Stops solid after
+    → tokensFrom p true (t ++ after) ≡ tokenAt p (t ++ after) ∷ tokensFrom (p + length t) true after
 unfolding tokensFrom
 tokens-word p [] after l h k = absurd (omega arith)
 tokens-word p (b ∷ t) after l h k =
     let e : suc p + length t ≡ p + suc (length t) = omega arith in
-    rw (h .0, solid-not-whitespace b (h .0)) (ap (λ (ts : List Token). tokenAt p (b ∷ (t ++ after)) ∷ ts) (tokens-inside (suc p) t after (h .1) k ∙ ap (λ (q : ℕ). tokensFrom q true after) e))
+    rw (h .0, solid-not-whitespace b (h .0)) (ap (λ (ts : List Token). tokenAt p (b ∷ (t ++ after)) ∷ ts)
+    (tokens-inside (suc p) t after (h .1) k ∙ ap (λ (q : ℕ). tokensFrom q true after) e))
 
 -- A cut text's tokens: the first, and then those of what follows.
-pub tokens-cut : (p : ℕ) (s w t after : List ℕ) → Cut s w t after → tokensFrom p true s ≡ tokenAt (p + length w) (t ++ after) ∷ tokensFrom (p + length w + length t) true after
+pub tokens-cut : (p : ℕ) (s w t after : List ℕ) → Cut s w t after
+    → tokensFrom p true s ≡ tokenAt (p + length w) (t ++ after) ∷ tokensFrom (p + length w + length t) true after
 tokens-cut p s w t after cut =
-    ap (λ (l : List ℕ). tokensFrom p true l) (cut .text) ∙ tokens-blank p w (t ++ after) (cut .blank) ∙ tokens-word (p + length w) t after (cut .some) (cut .whole) (cut .apart)
+    ap (λ (l : List ℕ). tokensFrom p true l) (cut .text) ∙ tokens-blank p w (t ++ after) (cut .blank)
+    ∙ tokens-word (p + length w) t after (cut .some) (cut .whole) (cut .apart)
 
 -- The same in the numbers that a scan finds.
-pub tokens-scan : (p : ℕ) (s : List ℕ) → run whitespace s < length s → tokensFrom p true s ≡ tokenAt (p + run whitespace s) (trimmed s) ∷ tokensFrom (p + run whitespace s + run solid (trimmed s)) true (behindWord s)
+pub tokens-scan : (p : ℕ) (s : List ℕ) → run whitespace s < length s
+    → tokensFrom p true s ≡ tokenAt (p + run whitespace s) (trimmed s) ∷ tokensFrom (p + run whitespace s + run solid (trimmed s)) true (behindWord s)
 tokens-scan p s h =
     let r = trimmed s in
     let w : length (take (run whitespace s) s) ≡ run whitespace s = length-take-le (run whitespace s) s (run-within whitespace s) in

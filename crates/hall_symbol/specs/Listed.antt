@@ -26,7 +26,8 @@ pub record Pushed (g : Generators) (o : Operation) (h : Generators) : Type 0 whe
   pub listed : listOf h ≡ listOf g ++ (o ∷ [])
   pub slots : length (h .operations) ≡ 9
 
-pub pushed-slot : (g : Generators) (o : Operation) → length (g .operations) ≡ 9 → g .count < 9 → Pushed g o (record { count = g .count + 1; operations = set (g .operations) (g .count) o })
+pub pushed-slot : (g : Generators) (o : Operation) → length (g .operations) ≡ 9 → g .count < 9
+    → Pushed g o (record { count = g .count + 1; operations = set (g .operations) (g .count) o })
 pushed-slot g o long few =
     record {
       count = refl;
@@ -61,7 +62,8 @@ replicate-next zero o h = absurd (omega arith)
 replicate-next (suc n) o h = let e : suc n - 1 ≡ n = omega arith in rw e
 
 -- One slot more is moved.
-pub moved-next : (v : Translation) (os : List Operation) (i : ℕ) (d : Operation) → i < length os → i < 9 → set (movedSlots v os i) i (shifted v (getD os i d)) ≡ movedSlots v os (i + 1)
+pub moved-next : (v : Translation) (os : List Operation) (i : ℕ) (d : Operation) → i < length os → i < 9
+    → set (movedSlots v os i) i (shifted v (getD os i d)) ≡ movedSlots v os (i + 1)
 moved-next v os i d h k =
     let front : length (map (shifted v) (take i os)) ≡ i = length-map (take i os) (shifted v) ∙ length-take-le i os (omega arith) in
     let e : 9 - i - 1 ≡ 9 - (i + 1) = omega arith in
@@ -71,13 +73,16 @@ moved-next v os i d h k =
     (sym (append-assoc (map (shifted v) (take i os)) (shifted v (getD os i d) ∷ []) (replicate (9 - suc i) identityOperation))))
 
 -- All of them are moved.
-pub moved-all : (g : Generators) (v : Translation) → g .count ≤ length (g .operations) → movedSlots v (g .operations) (g .count) ≡ slots (map (shifted v) (listOf g))
+pub moved-all : (g : Generators) (v : Translation) → g .count ≤ length (g .operations)
+    → movedSlots v (g .operations) (g .count) ≡ slots (map (shifted v) (listOf g))
 moved-all g v h =
     let long : length (map (shifted v) (listOf g)) ≡ g .count = length-map (listOf g) (shifted v) ∙ length-take-le (g .count) (g .operations) h in
     rw long
 
 -- A moved list is the symbol's answer.
-pub accepted-answer : (c : Centering) (g : Generators) (v : Translation) (h : Generators) → g .count ≤ length (g .operations) → Moved g v h → record { answer = Symbol; centering = c; count = h .count; generators = h .operations } ≡ answerOf (shiftedSymbol c (listOf g) v)
+pub accepted-answer : (c : Centering) (g : Generators) (v : Translation) (h : Generators) → g .count ≤ length (g .operations) → Moved g v h
+    → record { answer = Symbol; centering = c; count = h .count; generators = h .operations } ≡ answerOf (shiftedSymbol c (listOf g) v)
 accepted-answer c g v h l m =
-    let count : h .count ≡ length (map (shifted v) (listOf g)) = m .count ∙ sym (length-map (listOf g) (shifted v) ∙ length-take-le (g .count) (g .operations) l) in
+    let count : h .count ≡ length (map (shifted v) (listOf g)) =
+    m .count ∙ sym (length-map (listOf g) (shifted v) ∙ length-take-le (g .count) (g .operations) l) in
     λ i. record { answer = Symbol; centering = c; count = count i; generators = m .moved i }

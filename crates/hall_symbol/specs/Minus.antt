@@ -25,7 +25,8 @@ pub record Shifted (text : List ℕ) (c : Centering) (found : List Operation) (v
   pub ending : Ending s v
 
 -- It is read as its generators, shifted.
-pub shifted-read : (text : List ℕ) (c : Centering) (found : List Operation) (v : Vector) → Shifted text c found v → readSymbol text ≡ symbol c (map (shifted (shiftBy v)) found)
+pub shifted-read : (text : List ℕ) (c : Centering) (found : List Operation) (v : Vector) → Shifted text c found v
+    → readSymbol text ≡ symbol c (map (shifted (shiftBy v)) found)
 shifted-read text c found v h =
     symbol-exactly text c (map (shifted (shiftBy v)) found) .1
     (record { found = found; previous = h .previous; p = h .p; s = h .s; v = v; begins = h .begins; some = h .some; ending = h .ending; generators = refl })
@@ -39,7 +40,9 @@ whole-cells a k =
     residue-add a (pos 12 *ℤ k) ∙ rw (cells, twelve) (omega arith)
 
 -- Two texts with one letter and one list of generators, whose shifts differ by whole cells, have one reading.
-pub minus-same : (text other : List ℕ) (c : Centering) (found : List Operation) (v w cells : Vector) → v .x ≡ w .x +ℤ pos 12 *ℤ cells .x → v .y ≡ w .y +ℤ pos 12 *ℤ cells .y → v .z ≡ w .z +ℤ pos 12 *ℤ cells .z → Shifted text c found v → Shifted other c found w → readSymbol text ≡ readSymbol other
+pub minus-same : (text other : List ℕ) (c : Centering) (found : List Operation) (v w cells : Vector) → v .x ≡ w .x +ℤ pos 12 *ℤ cells .x
+    → v .y ≡ w .y +ℤ pos 12 *ℤ cells .y → v .z ≡ w .z +ℤ pos 12 *ℤ cells .z → Shifted text c found v → Shifted other c found w
+    → readSymbol text ≡ readSymbol other
 minus-same text other c found v w cells ex ey ez h k =
     let x : residue (v .x) ≡ residue (w .x) = ap residue ex ∙ whole-cells (w .x) (cells .x) in
     let y : residue (v .y) ≡ residue (w .y) = ap residue ey ∙ whole-cells (w .y) (cells .y) in

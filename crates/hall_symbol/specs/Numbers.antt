@@ -129,11 +129,20 @@ module _ (text : List ℕ) (p close : ℕ) (found : close ≡ p + 1 + run unclos
   pub text-follows : close < length text → close + 1 + run whitespace (drop (close + 1) text) < length text → Malformed ≡ shiftOf (drop p text)
   unfolding closedShift inner
   text-follows h k =
-      sym (opened ∙ rw (lt-ltb (run unclosed inner) (length inner) (omega (arith, length-drop (p + 1) text)), rest, lt-leb (length (drop (close + 1) text)) (run whitespace (drop (close + 1) text)) (omega (arith, length-drop (close + 1) text))))
+      sym (opened ∙ rw (
+        lt-ltb (run unclosed inner) (length inner) (omega (arith, length-drop (p + 1) text)),
+        rest,
+        lt-leb (length (drop (close + 1) text)) (run whitespace (drop (close + 1) text)) (omega (arith, length-drop (close + 1) text)),
+      ))
 
   -- Only whitespace stands behind it.
-  pub brackets-close : close < length text → length text ≤ close + 1 + run whitespace (drop (close + 1) text) → numbersOf (take (close - (p + 1)) (drop (p + 1) text)) ≡ shiftOf (drop p text)
+  pub brackets-close : close < length text → length text ≤ close + 1 + run whitespace (drop (close + 1) text)
+      → numbersOf (take (close - (p + 1)) (drop (p + 1) text)) ≡ shiftOf (drop p text)
   unfolding closedShift inner
   brackets-close h k =
       let e : close - (p + 1) ≡ run unclosed inner = omega arith in
-      rw e (sym (opened ∙ rw (lt-ltb (run unclosed inner) (length inner) (omega (arith, length-drop (p + 1) text)), rest, le-leb (length (drop (close + 1) text)) (run whitespace (drop (close + 1) text)) (omega (arith, length-drop (close + 1) text)))))
+      rw e (sym (opened ∙ rw (
+        lt-ltb (run unclosed inner) (length inner) (omega (arith, length-drop (p + 1) text)),
+        rest,
+        le-leb (length (drop (close + 1) text)) (run whitespace (drop (close + 1) text)) (omega (arith, length-drop (close + 1) text)),
+      )))

@@ -28,16 +28,19 @@ row-shifted : (a b c x y z t w : ℤ) → dot a b c (negℤ x) (negℤ y) (neg�
 row-shifted a b c x y z t w = simp ring
 
 -- Modulo 12 each coordinate of the shift may be taken by its residue.
-row-residue : (a b c x y z t w : ℤ) → residue (t +ℤ pos (residue w) -ℤ dot a b c (pos (residue x)) (pos (residue y)) (pos (residue z))) ≡ residue (t +ℤ w -ℤ dot a b c x y z)
+row-residue : (a b c x y z t w : ℤ) → residue (t +ℤ pos (residue w) -ℤ dot a b c (pos (residue x)) (pos (residue y)) (pos (residue z)))
+    ≡ residue (t +ℤ w -ℤ dot a b c x y z)
 row-residue a b c x y z t w = simp (residue-add, residue-neg, residue-mul, residue-again)
 
 -- The translation of (I,v)(R,t)(I,−v).
-origin-translation : (v : Vector) (g : Operation) → compose (forth v) (compose (motionOf g) (back v)) .translation ≡ plus (plus (act (matrixOf (g .rotation)) (opposite v)) (vectorOf (g .translation))) v
+origin-translation : (v : Vector) (g : Operation) → compose (forth v) (compose (motionOf g) (back v)) .translation
+    ≡ plus (plus (act (matrixOf (g .rotation)) (opposite v)) (vectorOf (g .translation))) v
 unfolding product motionOf
 origin-translation v g = rw (act-unit (plus (act (matrixOf (g .rotation)) (opposite v)) (vectorOf (g .translation))))
 
 -- Modulo 12 it is the shifted generator's.
-shifted-translation : (v : Vector) (g : Operation) → reduced (vectorOf (shifted (shiftBy v) g .translation)) ≡ reduced (plus (plus (act (matrixOf (g .rotation)) (opposite v)) (vectorOf (g .translation))) v)
+shifted-translation : (v : Vector) (g : Operation)
+    → reduced (vectorOf (shifted (shiftBy v) g .translation)) ≡ reduced (plus (plus (act (matrixOf (g .rotation)) (opposite v)) (vectorOf (g .translation))) v)
 unfolding shifted shiftedCoordinate matrixOf vectorOf plus act opposite
 shifted-translation v g =
     let r = g .rotation in
@@ -47,7 +50,9 @@ shifted-translation v g =
     (residue-again _ ∙ row (r .yx) (r .yy) (r .yz) (t .y) (v .y))
     (residue-again _ ∙ row (r .zx) (r .zy) (r .zz) (t .z) (v .z))
   where
-    row : (a b c t : ℕ) (w : ℤ) → residue (pos t +ℤ pos (residue w) -ℤ dot (entryOf a) (entryOf b) (entryOf c) (pos (residue (v .x))) (pos (residue (v .y))) (pos (residue (v .z)))) ≡ residue (dot (entryOf a) (entryOf b) (entryOf c) (negℤ (v .x)) (negℤ (v .y)) (negℤ (v .z)) +ℤ pos t +ℤ w)
+    row : (a b c t : ℕ) (w : ℤ) → residue (pos t +ℤ pos (residue w) -ℤ dot (entryOf a) (entryOf b) (entryOf c) (pos (residue (v .x)))
+        (pos (residue (v .y))) (pos (residue (v .z)))) ≡ residue (dot (entryOf a) (entryOf b) (entryOf c) (negℤ (v .x)) (negℤ (v .y)) (negℤ
+        (v .z)) +ℤ pos t +ℤ w)
     row a b c t w =
         row-residue (entryOf a) (entryOf b) (entryOf c) (v .x) (v .y) (v .z) (pos t) w
         ∙ ap residue (sym (row-shifted (entryOf a) (entryOf b) (entryOf c) (v .x) (v .y) (v .z) (pos t) w))
@@ -63,7 +68,8 @@ shift-of-origin v g =
     }
 
 -- The inversion becomes (−I, 2v mod 12).
-pub inversion-shifted : (v : Translation) → shifted v inversionOperation ≡ record { rotation = inversionOperation .rotation; translation = record { x = 2 * v .x % 12; y = 2 * v .y % 12; z = 2 * v .z % 12 } }
+pub inversion-shifted : (v : Translation) → shifted v inversionOperation
+    ≡ record { rotation = inversionOperation .rotation; translation = record { x = 2 * v .x % 12; y = 2 * v .y % 12; z = 2 * v .z % 12 } }
 unfolding shifted
 inversion-shifted v =
     let x : shiftedCoordinate 0 1 1 v (v .x) 0 ≡ 2 * v .x % 12 = shifted-sum 0 1 1 v (v .x) 0 ∙ omega arith in

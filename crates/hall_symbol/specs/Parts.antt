@@ -210,8 +210,11 @@ below-spelled w n (Is k) e h = go (leb 1 k && leb k 11) refl h
     go true f g =
         let (low, high) = and-both (leb 1 k) (leb k 11) f in
         let (small, same) = digits-spelled w k e in
-        let value : 12 - k ≡ n = cc in
-        (negℤ (pos k), below k (leb-true 1 k low) (leb-true k 11 high) (ap (λ (l : List ℕ). 45 ∷ l) same), minus-residue k (leb-true 1 k low) (leb-true k 11 high) ∙ value)
+        let value : 12 - k ≡ n = cc in (
+          negℤ (pos k),
+          below k (leb-true 1 k low) (leb-true k 11 high) (ap (λ (l : List ℕ). 45 ∷ l) same),
+          minus-residue k (leb-true 1 k low) (leb-true k 11 high) ∙ value,
+        )
     go false f g = let z : _≡_ {A = ℕ} 0 1 = cc in absurd (omega arith)
 
 -- What is read without one.
@@ -241,7 +244,8 @@ plain-numbers (b ∷ w) n h =
 -- ---- three numbers
 triple-by : (x y z : Number) (v : Translation) → triple x y z ≡ By v → (x ≡ Is (v .x)) × (y ≡ Is (v .y)) × (z ≡ Is (v .z))
 triple-by (Is x) (Is y) (Is z) v h =
-    let same : record { x = x; y = y; z = z } ≡ v = cc in (ap (λ (u : Translation). Is (u .x)) same, ap (λ (u : Translation). Is (u .y)) same, ap (λ (u : Translation). Is (u .z)) same)
+    let same : record { x = x; y = y; z = z } ≡ v = cc in
+    (ap (λ (u : Translation). Is (u .x)) same, ap (λ (u : Translation). Is (u .y)) same, ap (λ (u : Translation). Is (u .z)) same)
 -- Three numbers, if all are there.
 triple-by (Is x) (Is y) None v h = let z : _≡_ {A = ℕ} 0 1 = cc in absurd (omega arith)
 -- Three numbers, if all are there.
@@ -291,7 +295,9 @@ numbers-spelled s t h = go (leb (length r) (run whitespace r)) refl h
     r : List ℕ
     r = behindWord q
 
-    go : (b : Bool) → leb (length r) (run whitespace r) ≡ b → cond b (triple (numberOf (firstWord s)) (numberOf (firstWord (behindWord s))) (numberOf (firstWord q))) Malformed ≡ By t → (v : Vector) × NumbersSpelled s v × (shiftBy v ≡ t)
+    go : (b : Bool) → leb (length r) (run whitespace r) ≡ b
+        → cond b (triple (numberOf (firstWord s)) (numberOf (firstWord (behindWord s))) (numberOf (firstWord q))) Malformed ≡ By t → (v : Vector)
+        × NumbersSpelled s v × (shiftBy v ≡ t)
     go true e k =
         let (x, y, z) = triple-by (numberOf (firstWord s)) (numberOf (firstWord (behindWord s))) (numberOf (firstWord q)) t k in
         let (wx, cx) = word-cut s (t .x) x in
@@ -411,7 +417,8 @@ closed-spelled s t h = go (ltb close (length s) && leb (length after) (run white
     after : List ℕ
     after = drop (suc close) s
 
-    go : (b : Bool) → ltb close (length s) && leb (length after) (run whitespace after) ≡ b → cond b (numbersOf (take close s)) Malformed ≡ By t → (v : Vector) × ShiftSpelled (40 ∷ s) v × (shiftBy v ≡ t)
+    go : (b : Bool) → ltb close (length s) && leb (length after) (run whitespace after) ≡ b → cond b (numbersOf (take close s)) Malformed ≡ By t
+        → (v : Vector) × ShiftSpelled (40 ∷ s) v × (shiftBy v ≡ t)
     go true e k =
         let (there, only) = and-both (ltb close (length s)) (leb (length after) (run whitespace after)) e in
         let within = ltb-true close (length s) there in

@@ -95,7 +95,9 @@ module _ (n : ℕ) (c : Centering) (found : List Operation) (previous : Previous
   step-ninth h k = rw (h, le-leb 8 (previous .count) k)
 
   -- At any other token.
-  pub step-rotation : opening (getD (t .rest) 0 0) ≡ false → previous .count < 8 → operations n c found previous (t ∷ ts) ≡ onOperation (t .place) (operationToken (bytesOf t) previous) (λ o f a. operations n c (found ++ (o ∷ [])) (nextPrevious previous f a) ts)
+  pub step-rotation : opening (getD (t .rest) 0 0) ≡ false → previous .count < 8
+      → operations n c found previous (t ∷ ts) ≡ onOperation (t .place) (operationToken (bytesOf t) previous) (λ o f a. operations n c (found ++ (o ∷ []))
+      (nextPrevious previous f a) ts)
   unfolding operations
   step-rotation h k = rw (h, lt-leb 8 (previous .count) k)
 

@@ -98,7 +98,8 @@ unfolding run
 run-at f [] h = absurd (omega arith)
 run-at f (b ∷ s) h = go (f b) refl h (run-at f s)
   where
-    go : (t : Bool) → f b ≡ t → cond t (suc (run f s)) 0 < suc (length s) → (run f s < length s → f (getD s (run f s) 0) ≡ false) → f (getD (b ∷ s) (cond t (suc (run f s)) 0) 0) ≡ false
+    go : (t : Bool) → f b ≡ t → cond t (suc (run f s)) 0 < suc (length s) → (run f s < length s → f (getD s (run f s) 0) ≡ false)
+        → f (getD (b ∷ s) (cond t (suc (run f s)) 0) 0) ≡ false
     go true e k r = r (omega arith)
     go false e k r = e
 

@@ -26,6 +26,7 @@ negative-term a u =
     ∙ rw (negative-residue a, residue-pos u) (remainder-product (11 * a + 1) u)
 
 -- One coordinate of t + v − Rv modulo 12.
-pub shifted-sum : (a b c : ℕ) (v : Translation) (w t : ℕ) → shiftedCoordinate a b c v w t ≡ (t + w + (11 * a + 1) * v .x + (11 * b + 1) * v .y + (11 * c + 1) * v .z) % 12
+pub shifted-sum : (a b c : ℕ) (v : Translation) (w t : ℕ)
+    → shiftedCoordinate a b c v w t ≡ (t + w + (11 * a + 1) * v .x + (11 * b + 1) * v .y + (11 * c + 1) * v .z) % 12
 unfolding shiftedCoordinate
 shifted-sum a b c v w t = simp (negℤ-+ℤ, residue-add, negative-term, residue-pos, remainder-sum) (omega arith)

@@ -81,8 +81,11 @@ Fit text = (length text ≤ 80) × Every allowed text
 -- The text begins well: up to place p stand a first token with the letter c and at most 8 N tokens, each an operation after those to its left, and
 -- s follows. `found` are the generators so far, and `previous` is what the next N token has to its left.
 pub data Begins (text : List ℕ) : Centering → List Operation → Previous → ℕ → List ℕ → Type 0 where
-  lattice : {w after : List ℕ} (inverted : Bool) (c : Centering) → Fit text → Cut text w (latticeSpelling inverted c) after → Begins text c (leading inverted) noPrevious (length w + length (latticeSpelling inverted c)) after
-  rotation : {c : Centering} {found : List Operation} {previous : Previous} {p : ℕ} {s w t after : List ℕ} (o : Operation) (f : Fold) (a : Axis) → Begins text c found previous p s → Cut s w t after → Stops opening t → previous .count < 8 → Answers t previous (IsOperation o f a) → Begins text c (found ++ (o ∷ [])) (nextPrevious previous f a) (p + length w + length t) after
+  lattice : {w after : List ℕ} (inverted : Bool) (c : Centering) → Fit text → Cut text w (latticeSpelling inverted c) after
+      → Begins text c (leading inverted) noPrevious (length w + length (latticeSpelling inverted c)) after
+  rotation : {c : Centering} {found : List Operation} {previous : Previous} {p : ℕ} {s w t after : List ℕ} (o : Operation) (f : Fold) (a : Axis)
+      → Begins text c found previous p s → Cut s w t after → Stops opening t → previous .count < 8 → Answers t previous (IsOperation o f a)
+      → Begins text c (found ++ (o ∷ [])) (nextPrevious previous f a) (p + length w + length t) after
 
 -- The end of a symbol: only whitespace, or a shift.
 pub data Ending (s : List ℕ) : Vector → Type 0 where
@@ -156,7 +159,8 @@ pub record ShiftMalformed (text : List ℕ) (place : ℕ) : Type 0 where
 
 -- 10: behind the first token comes the text's end, the place being its length, or at the place a token that starts with `(`.
 pub data RotationMissing (text : List ℕ) : ℕ → Type 0 where
-  ends : {c : Centering} {found : List Operation} {previous : Previous} {p : ℕ} {s : List ℕ} → Begins text c found previous p s → previous .count ≡ 0 → Every whitespace s → RotationMissing text (length text)
+  ends : {c : Centering} {found : List Operation} {previous : Previous} {p : ℕ} {s : List ℕ} → Begins text c found previous p s → previous .count ≡ 0
+      → Every whitespace s → RotationMissing text (length text)
   opens : {previous : Previous} {place : ℕ} {t after : List ℕ} → Next text previous place t after → previous .count ≡ 0 → Opens t → RotationMissing text place
 
 -- 11: the ninth N token stands at the place, however it reads.

@@ -76,7 +76,8 @@ tells-exactly text r = (
 
 module _ (text : List ℕ) (k : ℕ) where
   -- One with a fixed place.
-  fixed-exactly : (r : Refusal) → ((s : Refusal) → numberOf s ≡ numberOf r → s ≡ r) → Tells (answerOf (readSymbol text)) (numberOf r) k ↔ (Refuses text r × (k ≡ placeOf r))
+  fixed-exactly : (r : Refusal) → ((s : Refusal) → numberOf s ≡ numberOf r → s ≡ r)
+      → Tells (answerOf (readSymbol text)) (numberOf r) k ↔ (Refuses text r × (k ≡ placeOf r))
   fixed-exactly r only = (
     (λ (s, e, n, p). (answer-refused text r .0 (e ∙ ap Refused (only s n)), sym p ∙ ap placeOf (only s n))),
     λ (h, p). (r, answer-refused text r .1 h, refl, sym p),

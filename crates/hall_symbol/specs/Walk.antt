@@ -43,10 +43,12 @@ module _ (text : List ℕ) (p : ℕ) (w : Word) (found : w ≡ wordFrom p text) 
   none-left h k = tokens-scan-none p (drop p text) (omega (arith, starts, length-drop p text))
 
   -- The next token, and those behind it.
-  next-left : w .start < length text → tokensFrom p true (drop p text) ≡ tokenAt (w .start) (drop (w .start) text) ∷ tokensFrom (w .end) true (drop (w .end) text)
+  next-left : w .start < length text → tokensFrom p true (drop p text)
+      ≡ tokenAt (w .start) (drop (w .start) text) ∷ tokensFrom (w .end) true (drop (w .end) text)
   next-left h =
       let s = drop p text in
-      let last : p + run whitespace s + run solid (trimmed s) ≡ w .end = ap (λ (n : ℕ). n + run solid (trimmed s)) (sym starts) ∙ ap (λ (l : List ℕ). w .start + run solid l) (sym (word-trimmed text p w found)) ∙ sym ends in
+      let last : p + run whitespace s + run solid (trimmed s) ≡ w .end =
+      ap (λ (n : ℕ). n + run solid (trimmed s)) (sym starts) ∙ ap (λ (l : List ℕ). w .start + run solid l) (sym (word-trimmed text p w found)) ∙ sym ends in
       tokens-scan p s (omega (arith, starts, length-drop p text))
       ∙ rw (last, ← starts, ← word-behind text p w found, ← word-trimmed text p w found)
 
@@ -79,20 +81,27 @@ module _ (text : List ℕ) (p : ℕ) (w : Word) (found : w ≡ wordFrom p text) 
     step = ap (λ (ts : List Token). operations n c gs previous ts) (next-left there)
 
     -- At a token that starts with `(`.
-    walk-shift : opening (getD text (w .start) 0) ≡ true → operations n c gs previous (tokensFrom p true (drop p text)) ≡ atShift c gs (previous .count) (tokenAt (w .start) (drop (w .start) text))
+    walk-shift : opening (getD text (w .start) 0) ≡ true
+        → operations n c gs previous (tokensFrom p true (drop p text)) ≡ atShift c gs (previous .count) (tokenAt (w .start) (drop (w .start) text))
     unfolding here
     walk-shift h = step ∙ step-shift n c gs previous here later (ap opening first-byte ∙ h)
 
     -- At the ninth N token.
-    walk-ninth : opening (getD text (w .start) 0) ≡ false → 8 ≤ previous .count → operations n c gs previous (tokensFrom p true (drop p text)) ≡ refusal (TooMany (w .start))
+    walk-ninth : opening (getD text (w .start) 0) ≡ false → 8 ≤ previous .count
+        → operations n c gs previous (tokensFrom p true (drop p text)) ≡ refusal (TooMany (w .start))
     unfolding here
     walk-ninth h k = step ∙ step-ninth n c gs previous here later (ap opening first-byte ∙ h) k
 
     -- At any other token.
-    walk-rotation : opening (getD text (w .start) 0) ≡ false → previous .count < 8 → (answer : ParsedOperation) → answer ≡ operationToken (take (w .end - w .start) (drop (w .start) text)) previous → operations n c gs previous (tokensFrom p true (drop p text)) ≡ onOperation (w .start) answer (λ o f a. operations n c (gs ++ (o ∷ [])) (nextPrevious previous f a) (tokensFrom (w .end) true (drop (w .end) text)))
+    walk-rotation : opening (getD text (w .start) 0) ≡ false → previous .count < 8 → (answer : ParsedOperation)
+        → answer ≡ operationToken (take (w .end - w .start) (drop (w .start) text)) previous
+        → operations n c gs previous (tokensFrom p true (drop p text))
+        ≡ onOperation (w .start) answer (λ o f a. operations n c (gs ++ (o ∷ [])) (nextPrevious previous f a)
+        (tokensFrom (w .end) true (drop (w .end) text)))
     unfolding here later
     walk-rotation h k answer e =
-        let same : word (drop (w .start) text) ≡ take (w .end - w .start) (drop (w .start) text) = ap word (word-trimmed text p w found) ∙ sym (word-bytes text p w found) in
+        let same : word (drop (w .start) text) ≡ take (w .end - w .start) (drop (w .start) text) =
+        ap word (word-trimmed text p w found) ∙ sym (word-bytes text p w found) in
         step ∙ step-rotation n c gs previous here later (ap opening first-byte ∙ h) k ∙ rw (same, ← e)
 
 -- ---- the code's walk over the N tokens
@@ -120,7 +129,8 @@ module _ {text : List ℕ} {c : Centering} {whole : Reading} {p : ℕ} {list : G
       reached .same ∙ ap (operations (length text) c (listOf list) previous) (none-left text p w found (reached .within) h)
 
   -- At a token that starts with `(`.
-  pub reached-shift : w .start < length text → opening (getD text (w .start) 0) ≡ true → whole ≡ atShift c (listOf list) (previous .count) (tokenAt (w .start) (drop (w .start) text))
+  pub reached-shift : w .start < length text → opening (getD text (w .start) 0) ≡ true
+      → whole ≡ atShift c (listOf list) (previous .count) (tokenAt (w .start) (drop (w .start) text))
   reached-shift there h = reached .same ∙ walk-shift text p w found (length text) c (listOf list) previous there h
 
   -- At the ninth N token.
@@ -128,12 +138,16 @@ module _ {text : List ℕ} {c : Centering} {whole : Reading} {p : ℕ} {list : G
   reached-ninth there h k = reached .same ∙ walk-ninth text p w found (length text) c (listOf list) previous there h k
 
   -- At any other token the reading goes by its answer.
-  pub reached-rotation : w .start < length text → opening (getD text (w .start) 0) ≡ false → previous .count < 8 → (answer : ParsedOperation) → answer ≡ operationToken (take (w .end - w .start) (drop (w .start) text)) previous → whole ≡ onOperation (w .start) answer (λ o f a. operations (length text) c (listOf list ++ (o ∷ [])) (nextPrevious previous f a) (tokensFrom (w .end) true (drop (w .end) text)))
+  pub reached-rotation : w .start < length text → opening (getD text (w .start) 0) ≡ false → previous .count < 8 → (answer : ParsedOperation)
+      → answer ≡ operationToken (take (w .end - w .start) (drop (w .start) text)) previous
+      → whole ≡ onOperation (w .start) answer (λ o f a. operations (length text) c (listOf list ++ (o ∷ [])) (nextPrevious previous f a)
+      (tokensFrom (w .end) true (drop (w .end) text)))
   reached-rotation there h k answer e =
       reached .same ∙ walk-rotation text p w found (length text) c (listOf list) previous there h k answer e
 
   -- A refused token's offset stays within the text.
-  pub reached-offset : (k : ℕ) (r : token.Refusal) → IsRefused k r ≡ operationToken (take (w .end - w .start) (drop (w .start) text)) previous → w .start + k ≤ length text
+  pub reached-offset : (k : ℕ) (r : token.Refusal) → IsRefused k r ≡ operationToken (take (w .end - w .start) (drop (w .start) text)) previous
+      → w .start + k ≤ length text
   reached-offset k r e =
       let own = take (w .end - w .start) (drop (w .start) text) in
       let within = refused-within own previous k r (answers-exact own previous (IsRefused k r) .0 (sym e)) in
@@ -170,7 +184,9 @@ module _ (text : List ℕ) where
       read-blank h = read-fit fit ∙ ap (readTokens (length text)) (none-left text 0 w first (omega arith) h)
 
       -- The first token's answer decides.
-      pub read-lattice : w .start < length text → (answer : Lattice) → answer ≡ latticeToken (take (w .end - w .start) (drop (w .start) text)) → readSymbol text ≡ onLattice (length text) (w .start) answer (tokensFrom (w .end) true (drop (w .end) text))
+      pub read-lattice : w .start < length text → (answer : Lattice) → answer ≡ latticeToken (take (w .end - w .start) (drop (w .start) text))
+          → readSymbol text ≡ onLattice (length text) (w .start) answer (tokensFrom (w .end) true (drop (w .end) text))
       read-lattice h answer e =
-          let same : word (drop (w .start) text) ≡ take (w .end - w .start) (drop (w .start) text) = ap word (word-trimmed text 0 w first) ∙ sym (word-bytes text 0 w first) in
+          let same : word (drop (w .start) text) ≡ take (w .end - w .start) (drop (w .start) text) =
+          ap word (word-trimmed text 0 w first) ∙ sym (word-bytes text 0 w first) in
           read-fit fit ∙ ap (readTokens (length text)) (next-left text 0 w first h) ∙ rw (same, ← e)

@@ -119,7 +119,8 @@ fn no_previous() -> Previous
 // The tokens behind the first, which ends at a place: N tokens, each read in the light of those to its left, and the shift.
 fn parse(text: &[u8], from: usize, centering: Centering, leading: Generators) -> HallSymbol
     requires { ⌜ (from ≤ length (now text)) × (leading .count ≤ 1) ⌝ }
-    ensures { λ r. ⌜ r ≡ answerOf (operations (length (now (text .entry))) centering (listOf leading) noPrevious (tokensFrom from true (drop from (now (text .entry))))) ⌝ }
+    ensures { λ r. ⌜ r ≡ answerOf (operations (length (now (text .entry))) centering (listOf leading) noPrevious
+        (tokensFrom from true (drop from (now (text .entry))))) ⌝ }
 {
     let mut at = from;
     let mut list = leading;

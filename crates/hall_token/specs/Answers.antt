@@ -98,7 +98,8 @@ HasWrongDigit token p k = (s : Spelling token) × ¬ (HasPrime s) × (t : Turnin
 
 -- Refusal 17: no wrong digit, and at offset k the first letter that repeats an earlier one.
 abbrev pub HasRepeat : List ℕ → Previous → ℕ → Type 0
-HasRepeat token p k = (s : Spelling token) × ¬ (HasPrime s) × (t : Turning s p) × ¬ (DigitWrong (s .fold) (t .about) (s .run)) × (i : ℕ) × FirstRepeated (s .run) i × InRun s i k
+HasRepeat token p k = (s : Spelling token) × ¬ (HasPrime s) × (t : Turning s p) × ¬ (DigitWrong (s .fold) (t .about) (s .run)) × (i : ℕ)
+    × FirstRepeated (s .run) i × InRun s i k
 
 -- Read: the token's fold and settled axis, the matrix with its sign, and the translation of its run.
 pub record IsOperation (token : List ℕ) (p : Previous) (o : operation.Operation) (f : Fold) (a : Axis) : Type 0 where
@@ -185,7 +186,8 @@ unfolding screwRight
 right-screw f a s e h = rw (e, lt-ltb s (foldNumber f) h)
 
 -- A front that is not right is a wrong digit.
-front-wrong : (f : Fold) (a : Axis) (b : ℕ) (bs : List ℕ) (v : RunByte) → runByteOf b ≡ v → frontRight f a v ≡ false → (d : DigitWrong f a (b ∷ bs)) × (length (d .before) ≡ 0)
+front-wrong : (f : Fold) (a : Axis) (b : ℕ) (bs : List ℕ) (v : RunByte) → runByteOf b ≡ v → frontRight f a v ≡ false → (d : DigitWrong f a (b ∷ bs))
+    × (length (d .before) ≡ 0)
 unfolding frontRight
 front-wrong f a b bs (Screw s) e h =
     let w = screw-byte b s e in (
@@ -205,7 +207,8 @@ front-wrong f a b bs Prime e h = absurd (true≢false h)
 front-wrong f a b bs Foreign e h = absurd (true≢false h)
 
 -- A digit after the first byte is a wrong digit.
-later-wrong : (f : Fold) (a : Axis) (b : ℕ) (bs : List ℕ) (w : FirstFails noScrew bs) → (d : DigitWrong f a (b ∷ bs)) × (length (d .before) ≡ suc (length (w .before)))
+later-wrong : (f : Fold) (a : Axis) (b : ℕ) (bs : List ℕ) (w : FirstFails noScrew bs) → (d : DigitWrong f a (b ∷ bs))
+    × (length (d .before) ≡ suc (length (w .before)))
 later-wrong f a b bs w = go (runByteOf (w .byte)) refl (w .fails)
   where
     not-first : (l : List ℕ) → b ∷ l ≡ [] → ⊥
@@ -230,7 +233,8 @@ later-wrong f a b bs w = go (runByteOf (w .byte)) refl (w .fails)
     go Foreign e h = absurd (true≢false h)
 
 -- With a right front, a wrong digit stands behind it, and none before the first digit there.
-later-first : (f : Fold) (a : Axis) (b : ℕ) (bs : List ℕ) → frontRight f a (runByteOf b) ≡ true → (d : DigitWrong f a (b ∷ bs)) → 1 + passing noScrew bs ≤ length (d .before)
+later-first : (f : Fold) (a : Axis) (b : ℕ) (bs : List ℕ) → frontRight f a (runByteOf b) ≡ true → (d : DigitWrong f a (b ∷ bs))
+    → 1 + passing noScrew bs ≤ length (d .before)
 unfolding frontRight
 later-first f a b bs right d = go (d .before) refl
   where
@@ -306,7 +310,9 @@ in-run {token} s i =
     let m = markBytes (s .mark) in
     let l = letterBytes (s .letter) in
     let front = signBytes (s .negative) ++ (foldByte (s .fold) ∷ (m ++ l)) in
-    let parted : signBytes (s .negative) ++ (foldByte (s .fold) ∷ (m ++ (l ++ s .run))) ≡ front ++ s .run = ap (λ (t : List ℕ). signBytes (s .negative) ++ (foldByte (s .fold) ∷ t)) (sym (append-assoc m l (s .run))) ∙ sym (append-assoc (signBytes (s .negative)) (foldByte (s .fold) ∷ (m ++ l)) (s .run)) in
+    let parted : signBytes (s .negative) ++ (foldByte (s .fold) ∷ (m ++ (l ++ s .run))) ≡ front ++ s .run =
+    ap (λ (t : List ℕ). signBytes (s .negative) ++ (foldByte (s .fold) ∷ t)) (sym (append-assoc m l (s .run)))
+    ∙ sym (append-assoc (signBytes (s .negative)) (foldByte (s .fold) ∷ (m ++ l)) (s .run)) in
     let long = length-append (signBytes (s .negative)) (foldByte (s .fold) ∷ (m ++ l)) in
     let rest = length-append m l in
     (front, s .spells .text ∙ parted, omega (arith, sign-long (s .negative), mark-long (s .mark), letter-long (s .letter)))
@@ -320,11 +326,15 @@ in-run-once {token} s i k (front, split, place) =
 
 -- ---- the reader's answer holds
 
-once-holds : (token : List ℕ) (p : Previous) (s : Spelling token) → ¬ (HasPrime s) → (t : Turning s p) → ¬ (DigitWrong (s .fold) (t .about) (s .run)) → Answers token p (onceThen (startOf s) (s .run) (Operation (record { rotation = signed (s .negative) (t .rotation); translation = translationOf (s .fold) (s .run) }) (s .fold) (t .about)))
+once-holds : (token : List ℕ) (p : Previous) (s : Spelling token) → ¬ (HasPrime s) → (t : Turning s p) → ¬ (DigitWrong (s .fold) (t .about) (s .run))
+    → Answers token p (onceThen (startOf s) (s .run) (Operation
+    (record { rotation = signed (s .negative) (t .rotation); translation = translationOf (s .fold) (s .run) }) (s .fold) (t .about)))
 unfolding onceThen
 once-holds token p s u t d = go (ltb (repeatAt (s .run)) (length (s .run))) refl
   where
-    go : (b : Bool) → ltb (repeatAt (s .run)) (length (s .run)) ≡ b → Answers token p (cond b (Refused (startOf s + repeatAt (s .run)) Doubled) (Operation (record { rotation = signed (s .negative) (t .rotation); translation = translationOf (s .fold) (s .run) }) (s .fold) (t .about)))
+    go : (b : Bool) → ltb (repeatAt (s .run)) (length (s .run)) ≡ b
+        → Answers token p (cond b (Refused (startOf s + repeatAt (s .run)) Doubled)
+        (Operation (record { rotation = signed (s .negative) (t .rotation); translation = translationOf (s .fold) (s .run) }) (s .fold) (t .about)))
     go true h = (s, u, t, d, repeatAt (s .run), repeat-found (s .run) (ltb-true (repeatAt (s .run)) (length (s .run)) h), in-run s (repeatAt (s .run)))
     go false h =
         record {
@@ -338,17 +348,21 @@ once-holds token p s u t d = go (ltb (repeatAt (s .run)) (length (s .run))) refl
           is-operation = refl;
         }
 
-moved-holds : (token : List ℕ) (p : Previous) (s : Spelling token) → ¬ (HasPrime s) → (t : Turning s p) → Answers token p (movedThen (startOf s) (s .negative) (s .fold) (t .about) (s .run) (t .rotation) (movedBy (s .fold) (t .about) (s .run)))
+moved-holds : (token : List ℕ) (p : Previous) (s : Spelling token) → ¬ (HasPrime s) → (t : Turning s p)
+    → Answers token p (movedThen (startOf s) (s .negative) (s .fold) (t .about) (s .run) (t .rotation) (movedBy (s .fold) (t .about) (s .run)))
 unfolding movedThen movedBy
 moved-holds token p s u t = go (digitsRight (s .fold) (t .about) (s .run)) refl
   where
-    go : (b : Bool) → digitsRight (s .fold) (t .about) (s .run) ≡ b → Answers token p (movedThen (startOf s) (s .negative) (s .fold) (t .about) (s .run) (t .rotation) (cond b (By (translationOf (s .fold) (s .run))) WrongDigit))
+    go : (b : Bool) → digitsRight (s .fold) (t .about) (s .run) ≡ b
+        → Answers token p (movedThen (startOf s) (s .negative) (s .fold) (t .about) (s .run) (t .rotation)
+        (cond b (By (translationOf (s .fold) (s .run))) WrongDigit))
     go true h = once-holds token p s u t (none-wrong (s .fold) (t .about) (s .run) h)
     go false h =
         let i = wrongDigitAt (s .fold) (t .about) (s .run) in
         (s, u, t, i, some-wrong (s .fold) (t .about) (s .run) h, in-run s i)
 
-turn-holds : (token : List ℕ) (p : Previous) (s : Spelling token) → ¬ (HasPrime s) → (a : Axis) → axisOf (s .fold) (s .mark) (s .letter) p ≡ Settled a → Answers token p (turnThen (startOf s) (s .negative) (s .fold) a (s .run) (turnOf (s .fold) a))
+turn-holds : (token : List ℕ) (p : Previous) (s : Spelling token) → ¬ (HasPrime s) → (a : Axis) → axisOf (s .fold) (s .mark) (s .letter) p ≡ Settled a
+    → Answers token p (turnThen (startOf s) (s .negative) (s .fold) a (s .run) (turnOf (s .fold) a))
 unfolding turnThen
 turn-holds token p s u a e = go (turnOf (s .fold) a) refl
   where
@@ -365,7 +379,8 @@ turn-holds token p s u a e = go (turnOf (s .fold) a) refl
             let z : _≡_ {A = ℕ} 0 1 = cc in
             absurd (omega arith)
 
-axis-holds : (token : List ℕ) (p : Previous) (s : Spelling token) → ¬ (HasPrime s) → Answers token p (axisThen (startOf s) (s .negative) (s .fold) (s .run) (axisOf (s .fold) (s .mark) (s .letter) p))
+axis-holds : (token : List ℕ) (p : Previous) (s : Spelling token) → ¬ (HasPrime s)
+    → Answers token p (axisThen (startOf s) (s .negative) (s .fold) (s .run) (axisOf (s .fold) (s .mark) (s .letter) p))
 unfolding axisThen
 axis-holds token p s u = go (axisOf (s .fold) (s .mark) (s .letter) p) refl
   where
@@ -397,7 +412,9 @@ answer-holds token p = go (readToken token) refl
 
 -- ---- what holds is the reader's answer
 
-spelt-answer : (token : List ℕ) (p : Previous) (s : Spelling token) → operationToken token p ≡ cond (every noPrime (s .run)) (axisThen (startOf s) (s .negative) (s .fold) (s .run) (axisOf (s .fold) (s .mark) (s .letter) p)) (Refused 0 Primed)
+spelt-answer : (token : List ℕ) (p : Previous) (s : Spelling token)
+    → operationToken token p ≡ cond (every noPrime (s .run)) (axisThen (startOf s) (s .negative) (s .fold) (s .run)
+    (axisOf (s .fold) (s .mark) (s .letter) p)) (Refused 0 Primed)
 unfolding operationToken operationOfParts
 spelt-answer token p s =
     ap (λ (w : Parts). operationOfParts w p) (read-exact token (s .negative) (s .fold) (s .mark) (s .letter) (s .run) .1 (s .spells))
@@ -405,14 +422,17 @@ spelt-answer token p s =
 primed-answer : (token : List ℕ) (p : Previous) (s : Spelling token) → HasPrime s → operationToken token p ≡ Refused 0 Primed
 primed-answer token p s h = spelt-answer token p s ∙ go (every noPrime (s .run)) refl
   where
-    go : (t : Bool) → every noPrime (s .run) ≡ t → cond t (axisThen (startOf s) (s .negative) (s .fold) (s .run) (axisOf (s .fold) (s .mark) (s .letter) p)) (Refused 0 Primed) ≡ Refused 0 Primed
+    go : (t : Bool) → every noPrime (s .run) ≡ t → cond t (axisThen (startOf s) (s .negative) (s .fold) (s .run)
+        (axisOf (s .fold) (s .mark) (s .letter) p)) (Refused 0 Primed) ≡ Refused 0 Primed
     go true e = absurd (prime-there (s .run) h e)
     go false e = refl
 
-unprimed-answer : (token : List ℕ) (p : Previous) (s : Spelling token) → ¬ (HasPrime s) → operationToken token p ≡ axisThen (startOf s) (s .negative) (s .fold) (s .run) (axisOf (s .fold) (s .mark) (s .letter) p)
+unprimed-answer : (token : List ℕ) (p : Previous) (s : Spelling token) → ¬ (HasPrime s)
+    → operationToken token p ≡ axisThen (startOf s) (s .negative) (s .fold) (s .run) (axisOf (s .fold) (s .mark) (s .letter) p)
 unprimed-answer token p s u = spelt-answer token p s ∙ rw (no-prime (s .run) u)
 
-turning-answer : (token : List ℕ) (p : Previous) (s : Spelling token) → ¬ (HasPrime s) → (t : Turning s p) → operationToken token p ≡ movedThen (startOf s) (s .negative) (s .fold) (t .about) (s .run) (t .rotation) (movedBy (s .fold) (t .about) (s .run))
+turning-answer : (token : List ℕ) (p : Previous) (s : Spelling token) → ¬ (HasPrime s) → (t : Turning s p)
+    → operationToken token p ≡ movedThen (startOf s) (s .negative) (s .fold) (t .about) (s .run) (t .rotation) (movedBy (s .fold) (t .about) (s .run))
 unfolding axisThen turnThen
 turning-answer token p s u t =
     unprimed-answer token p s u
@@ -423,7 +443,8 @@ unsettled-answer : (token : List ℕ) (p : Previous) (s : Spelling token) → ¬
 unfolding axisThen turnThen
 unsettled-answer token p s u n = unprimed-answer token p s u ∙ go (axisOf (s .fold) (s .mark) (s .letter) p) refl
   where
-    turn : (a : Axis) → axisOf (s .fold) (s .mark) (s .letter) p ≡ Settled a → (r : Turn) → turnOf (s .fold) a ≡ r → turnThen (startOf s) (s .negative) (s .fold) a (s .run) r ≡ Refused 0 Unsettled
+    turn : (a : Axis) → axisOf (s .fold) (s .mark) (s .letter) p ≡ Settled a → (r : Turn) → turnOf (s .fold) a ≡ r
+        → turnThen (startOf s) (s .negative) (s .fold) a (s .run) r ≡ Refused 0 Unsettled
     turn a e (Matrix r) h = absurd (n (record { about = a; rotation = r; settled = settles-exact (s .fold) (s .mark) (s .letter) p a .0 e; listed = h }))
     turn a e NoMatrix h = refl
 
@@ -435,26 +456,42 @@ digit-answer : (token : List ℕ) (p : Previous) (k : ℕ) → HasWrongDigit tok
 unfolding movedThen movedBy
 digit-answer token p k (s, u, t, i, w, run) = turning-answer token p s u t ∙ go (digitsRight (s .fold) (t .about) (s .run)) refl
   where
-    go : (b : Bool) → digitsRight (s .fold) (t .about) (s .run) ≡ b → movedThen (startOf s) (s .negative) (s .fold) (t .about) (s .run) (t .rotation) (cond b (By (translationOf (s .fold) (s .run))) WrongDigit) ≡ Refused k Digit
+    go : (b : Bool) → digitsRight (s .fold) (t .about) (s .run) ≡ b
+        → movedThen (startOf s) (s .negative) (s .fold) (t .about) (s .run) (t .rotation) (cond b (By (translationOf (s .fold) (s .run))) WrongDigit)
+        ≡ Refused k Digit
     go true h = absurd (none-wrong (s .fold) (t .about) (s .run) h (w .digit))
     go false h =
         let own = some-wrong (s .fold) (t .about) (s .run) h in
         let same : i ≡ wrongDigitAt (s .fold) (t .about) (s .run) = omega (arith, w .first (own .digit), own .place, own .first (w .digit), w .place) in
         ap (λ (o : ℕ). Refused o Digit) (ap (λ (o : ℕ). startOf s + o) (sym same) ∙ in-run-once s i k run)
 
-right-answer : (token : List ℕ) (p : Previous) (s : Spelling token) → ¬ (HasPrime s) → (t : Turning s p) → ¬ (DigitWrong (s .fold) (t .about) (s .run)) → operationToken token p ≡ onceThen (startOf s) (s .run) (Operation (record { rotation = signed (s .negative) (t .rotation); translation = translationOf (s .fold) (s .run) }) (s .fold) (t .about))
+right-answer : (token : List ℕ) (p : Previous) (s : Spelling token) → ¬ (HasPrime s) → (t : Turning s p) → ¬ (DigitWrong (s .fold) (t .about) (s .run))
+    → operationToken token p ≡ onceThen (startOf s) (s .run) (Operation
+    (record { rotation = signed (s .negative) (t .rotation); translation = translationOf (s .fold) (s .run) }) (s .fold) (t .about))
 unfolding movedThen movedBy
 right-answer token p s u t w = turning-answer token p s u t ∙ go (digitsRight (s .fold) (t .about) (s .run)) refl
   where
-    go : (b : Bool) → digitsRight (s .fold) (t .about) (s .run) ≡ b → movedThen (startOf s) (s .negative) (s .fold) (t .about) (s .run) (t .rotation) (cond b (By (translationOf (s .fold) (s .run))) WrongDigit) ≡ onceThen (startOf s) (s .run) (Operation (record { rotation = signed (s .negative) (t .rotation); translation = translationOf (s .fold) (s .run) }) (s .fold) (t .about))
+    go : (b : Bool) → digitsRight (s .fold) (t .about) (s .run) ≡ b
+        → movedThen (startOf s) (s .negative) (s .fold) (t .about) (s .run) (t .rotation) (cond b (By (translationOf (s .fold) (s .run))) WrongDigit)
+        ≡ onceThen (startOf s) (s .run) (Operation (record {
+          rotation = signed (s .negative) (t .rotation);
+          translation = translationOf (s .fold) (s .run);
+        }) (s .fold) (t .about))
     go true h = refl
     go false h = absurd (w (some-wrong (s .fold) (t .about) (s .run) h .digit))
 
-moved-answer : (token : List ℕ) (p : Previous) (s : Spelling token) → ¬ (HasPrime s) → (t : Turning s p) → ¬ (DigitWrong (s .fold) (t .about) (s .run)) → ¬ (Repeated (s .run)) → operationToken token p ≡ Operation (record { rotation = signed (s .negative) (t .rotation); translation = translationOf (s .fold) (s .run) }) (s .fold) (t .about)
+moved-answer : (token : List ℕ) (p : Previous) (s : Spelling token) → ¬ (HasPrime s) → (t : Turning s p) → ¬ (DigitWrong (s .fold) (t .about) (s .run))
+    → ¬ (Repeated (s .run)) → operationToken token p ≡ Operation (record {
+      rotation = signed (s .negative) (t .rotation);
+      translation = translationOf (s .fold) (s .run);
+    }) (s .fold) (t .about)
 unfolding onceThen
 moved-answer token p s u t w once = right-answer token p s u t w ∙ go (ltb (repeatAt (s .run)) (length (s .run))) refl
   where
-    go : (b : Bool) → ltb (repeatAt (s .run)) (length (s .run)) ≡ b → cond b (Refused (startOf s + repeatAt (s .run)) Doubled) (Operation (record { rotation = signed (s .negative) (t .rotation); translation = translationOf (s .fold) (s .run) }) (s .fold) (t .about)) ≡ Operation (record { rotation = signed (s .negative) (t .rotation); translation = translationOf (s .fold) (s .run) }) (s .fold) (t .about)
+    go : (b : Bool) → ltb (repeatAt (s .run)) (length (s .run)) ≡ b
+        → cond b (Refused (startOf s + repeatAt (s .run)) Doubled) (Operation
+        (record { rotation = signed (s .negative) (t .rotation); translation = translationOf (s .fold) (s .run) }) (s .fold) (t .about))
+        ≡ Operation (record { rotation = signed (s .negative) (t .rotation); translation = translationOf (s .fold) (s .run) }) (s .fold) (t .about)
     go true h = absurd (once (repeat-found (s .run) (ltb-true (repeatAt (s .run)) (length (s .run)) h) .repeated))
     go false h = refl
 
@@ -462,7 +499,9 @@ repeat-answer : (token : List ℕ) (p : Previous) (k : ℕ) → HasRepeat token 
 unfolding onceThen
 repeat-answer token p k (s, u, t, d, i, w, run) = right-answer token p s u t d ∙ go (ltb (repeatAt (s .run)) (length (s .run))) refl
   where
-    go : (b : Bool) → ltb (repeatAt (s .run)) (length (s .run)) ≡ b → cond b (Refused (startOf s + repeatAt (s .run)) Doubled) (Operation (record { rotation = signed (s .negative) (t .rotation); translation = translationOf (s .fold) (s .run) }) (s .fold) (t .about)) ≡ Refused k Doubled
+    go : (b : Bool) → ltb (repeatAt (s .run)) (length (s .run)) ≡ b
+        → cond b (Refused (startOf s + repeatAt (s .run)) Doubled) (Operation
+        (record { rotation = signed (s .negative) (t .rotation); translation = translationOf (s .fold) (s .run) }) (s .fold) (t .about)) ≡ Refused k Doubled
     go true h =
         let own = repeat-found (s .run) (ltb-true (repeatAt (s .run)) (length (s .run)) h) in
         let same : i ≡ repeatAt (s .run) = omega (arith, w .first (own .repeated), own .place, own .first (w .repeated), w .place) in
@@ -475,11 +514,22 @@ misspelt-answer token p k w = go (readToken token) refl
   where
     go : (q : Parts) → readToken token ≡ q → operationOfParts q p ≡ Refused k Misspelt
     go (parts n f m l run) h =
-        absurd (offending-misspelt Spelling token k w (record { negative = n; fold = f; mark = m; letter = l; run = run; spells = read-exact token n f m l run .0 h }))
+        absurd (offending-misspelt Spelling token k w (record {
+          negative = n;
+          fold = f;
+          mark = m;
+          letter = l;
+          run = run;
+          spells = read-exact token n f m l run .0 h;
+        }))
     go (no-parts j) h = ap (λ (o : ℕ). Refused o Misspelt) (first-unique Spelling token j k (offending token j h) w)
 
 holds-answer : (token : List ℕ) (p : Previous) (r : ParsedOperation) → Answers token p r → operationToken token p ≡ r
-holds-answer token p (Operation o f a) h = rw (h .is-fold, h .is-axis, h .is-operation) (moved-answer token p (h .spelling) (h .unprimed) (h .turning) (h .digits) (h .once))
+holds-answer token p (Operation o f a) h = rw (
+  h .is-fold,
+  h .is-axis,
+  h .is-operation,
+) (moved-answer token p (h .spelling) (h .unprimed) (h .turning) (h .digits) (h .once))
 holds-answer token p (Refused k Misspelt) h = misspelt-answer token p k h
 holds-answer token p (Refused k Primed) h = rw (h .0) (primed-answer token p (h .1 .0) (h .1 .1))
 holds-answer token p (Refused k Unsettled) h = rw (h .0) (unsettled-answer token p (h .1 .0) (h .1 .1) (h .1 .2))
@@ -544,10 +594,14 @@ refused-within token p k Doubled (s, u, t, d, i, w, (front, split, place)) =
     omega (arith, w .place)
 
 -- An accepted token has each letter at most once.
-pub once-each : (token : List ℕ) (p : Previous) (o : operation.Operation) (f : Fold) (a : Axis) → operationToken token p ≡ Operation o f a → (s : Spelling token) × ((before : List ℕ) (b : ℕ) (after : List ℕ) → s .run ≡ before ++ (b ∷ after) → Mem b letters → ¬ (Mem b before))
+pub once-each : (token : List ℕ) (p : Previous) (o : operation.Operation) (f : Fold) (a : Axis) → operationToken token p ≡ Operation o f a
+    → (s : Spelling token) × ((before : List ℕ) (b : ℕ) (after : List ℕ) → s .run ≡ before ++ (b ∷ after) → Mem b letters → ¬ (Mem b before))
 once-each token p o f a e =
-    let h = answers-exact token p (Operation o f a) .0 e in
-    (h .spelling, λ before b after split letter again. h .once (record { before = before; byte = b; after = after; split = split; letter = letter; again = again }))
+    let h = answers-exact token p (Operation o f a) .0 e in (
+      h .spelling,
+      λ before b after split letter again. h .once
+          (record { before = before; byte = b; after = after; split = split; letter = letter; again = again }),
+    )
 
 -- 5 is told of the token's end exactly if the fold is missing there.
 pub missing-exactly : (token : List ℕ) (p : Previous) → Tells (operationToken token p) 5 (length token) ↔ FoldMissing token
@@ -557,7 +611,8 @@ missing-exactly token p = ((λ (r, e, n). go (readToken token) refl (e ∙ ap (R
     go : (q : Parts) → readToken token ≡ q → operationToken token p ≡ Refused (length token) Misspelt → FoldMissing token
     go (parts n f m l run) h e =
         let w = answers-exact token p (Refused (length token) Misspelt) .0 e in
-        absurd (offending-misspelt Spelling token (length token) w (record { negative = n; fold = f; mark = m; letter = l; run = run; spells = read-exact token n f m l run .0 h }))
+        absurd (offending-misspelt Spelling token (length token) w
+        (record { negative = n; fold = f; mark = m; letter = l; run = run; spells = read-exact token n f m l run .0 h }))
     go (no-parts k) h e =
         let w = answers-exact token p (Refused (length token) Misspelt) .0 e in
         missing-end token k h (first-unique Spelling token k (length token) (offending token k h) w)

@@ -122,11 +122,14 @@ handed a = go (a .mark) refl (a .direction) refl
     go None e Y i = (at e i, not-diagonal Y refl)
     go None e Z i = (at e i, not-diagonal Z refl)
     go None e Diagonal i = λ d h k. k (sym (ap (λ (b : Axis). b .direction) h) ∙ i)
-    go Single e d i = λ c h k. let z : _≡_ {A = Mark} None Single = sym (ap (λ (b : Axis). b .mark) h) ∙ e in let w : _≡_ {A = ℕ} 0 1 = cc in absurd (omega arith)
-    go Double e d i = λ c h k. let z : _≡_ {A = Mark} None Double = sym (ap (λ (b : Axis). b .mark) h) ∙ e in let w : _≡_ {A = ℕ} 0 1 = cc in absurd (omega arith)
+    go Single e d i = λ c h k. let z : _≡_ {A = Mark} None Single = sym (ap (λ (b : Axis). b .mark) h) ∙ e in let w : _≡_ {A = ℕ} 0 1 = cc in
+        absurd (omega arith)
+    go Double e d i = λ c h k. let z : _≡_ {A = Mark} None Double = sym (ap (λ (b : Axis). b .mark) h) ∙ e in let w : _≡_ {A = ℕ} 0 1 = cc in
+        absurd (omega arith)
 
 -- With a mark and no letter.
-marked-by-rule : (own : Fold) → own ≢ One → (m : Mark) → m ≢ None → (p : Previous) → ByRule own m Absent p (withMark m (markedDirection (placeOf (p .count)) (p .fold) (p .axis)))
+marked-by-rule : (own : Fold) → own ≢ One → (m : Mark) → m ≢ None → (p : Previous)
+    → ByRule own m Absent p (withMark m (markedDirection (placeOf (p .count)) (p .fold) (p .axis)))
 unfolding PlacedAt
 marked-by-rule own t m k p = go (placeOf (p .count)) (placed (p .count))
   where
@@ -134,7 +137,8 @@ marked-by-rule own t m k p = go (placeOf (p .count)) (placed (p .count))
     passed-on h (Along d) g = mark-handed t k refl d (record { stands = h; is-plain = g .0; is-letter = g .1 }) refl
     passed-on h Absent g = tt
 
-    second : p .count ≡ 1 → (l : AxisLetter) → Handed (p .axis) l → (before : Fold) → p .fold ≡ before → ByRule own m Absent p (withMark m (secondDirection l before))
+    second : p .count ≡ 1 → (l : AxisLetter) → Handed (p .axis) l → (before : Fold) → p .fold ≡ before
+        → ByRule own m Absent p (withMark m (secondDirection l before))
     second h (Along d) g before e = passed-on (omega arith) (Along d) g
     second h Absent g One e = tt
     second h Absent g Two e = mark-second t k refl (λ d w. g d (w .is-plain) (w .is-letter)) h e refl
@@ -195,17 +199,20 @@ turning-axis Three t m l p = refl
 turning-axis Four t m l p = refl
 turning-axis Six t m l p = refl
 
-marked-axis : (own : Fold) (m : Mark) → m ≢ None → (p : Previous) → turningAxis own m Absent p ≡ withMark m (markedDirection (placeOf (p .count)) (p .fold) (p .axis))
+marked-axis : (own : Fold) (m : Mark) → m ≢ None → (p : Previous)
+    → turningAxis own m Absent p ≡ withMark m (markedDirection (placeOf (p .count)) (p .fold) (p .axis))
 marked-axis own None k p = absurd (k refl)
 marked-axis own Single k p = refl
 marked-axis own Double k p = refl
 
 -- The axis of folds 2, 3, 4, 6 with a mark and no letter.
-marked-table : (own : Fold) (m : Mark) (l : AxisLetter) (p : Previous) → own ≢ One → m ≢ None → l ≡ Absent → (w : AxisLetter) → markedDirection (placeOf (p .count)) (p .fold) (p .axis) ≡ w → axisOf own m l p ≡ withMark m w
+marked-table : (own : Fold) (m : Mark) (l : AxisLetter) (p : Previous) → own ≢ One → m ≢ None → l ≡ Absent → (w : AxisLetter)
+    → markedDirection (placeOf (p .count)) (p .fold) (p .axis) ≡ w → axisOf own m l p ≡ withMark m w
 marked-table own m l p t k e w h = ap (λ (x : AxisLetter). axisOf own m x p) e ∙ turning-axis own t m Absent p ∙ marked-axis own m k p ∙ ap (withMark m) h
 
 -- The same without a mark.
-bare-table : (own : Fold) (m : Mark) (l : AxisLetter) (p : Previous) → own ≢ One → m ≡ None → l ≡ Absent → axisOf own m l p ≡ defaultAxis (placeOf (p .count)) (p .fold) own
+bare-table : (own : Fold) (m : Mark) (l : AxisLetter) (p : Previous) → own ≢ One → m ≡ None → l ≡ Absent
+    → axisOf own m l p ≡ defaultAxis (placeOf (p .count)) (p .fold) own
 bare-table own m l p t k e = rw (e, k) (turning-axis own t None Absent p)
 
 handed-direction : (a : Axis) (d : Direction) → a ≡ plain d → d ≢ Diagonal → plainDirection (a .mark) (a .direction) ≡ Along d
@@ -232,7 +239,8 @@ handed-marked p d h = go (placeOf (p .count)) (placed (p .count))
     go Later k = e
 
 -- Where none is, a second token after fold 2 takes x.
-second-marked : (p : Previous) → ((d : Direction) → ¬ (HandsOn p d)) → p .count ≡ 1 → p .fold ≡ Two → markedDirection (placeOf (p .count)) (p .fold) (p .axis) ≡ Along X
+second-marked : (p : Previous) → ((d : Direction) → ¬ (HandsOn p d)) → p .count ≡ 1 → p .fold ≡ Two
+    → markedDirection (placeOf (p .count)) (p .fold) (p .axis) ≡ Along X
 unfolding placeOf
 second-marked p n h f = rw (h, f) (go (plainDirection (p .axis .mark) (p .axis .direction)) (handed (p .axis)))
   where

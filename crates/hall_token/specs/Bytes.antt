@@ -81,10 +81,12 @@ passes test [] = true
 passes test (e ∷ es) = test (e .byte) (e .says) && passes test es
 
 -- A test that each entry passes, and every byte with `other`, is passed by every byte with what it says.
-pub valueAt-passes : {A : Type 0} (test : ℕ → A → Bool) (other : A) (es : List (Entry A)) → ((b : ℕ) → test b other ≡ true) → passes test es ≡ true → (b : ℕ) → test b (valueAt other es b) ≡ true
+pub valueAt-passes : {A : Type 0} (test : ℕ → A → Bool) (other : A) (es : List (Entry A)) → ((b : ℕ) → test b other ≡ true) → passes test es ≡ true
+    → (b : ℕ) → test b (valueAt other es b) ≡ true
 unfolding valueAt passes
 valueAt-passes test other [] o p b = o b
-valueAt-passes test other (e ∷ es) o p b = go (eqb b (e .byte)) refl (valueAt-passes test other es o (and-eq-true-iff (test (e .byte) (e .says)) (passes test es) .0 p .1) b)
+valueAt-passes test other (e ∷ es) o p b = go (eqb b (e .byte)) refl (valueAt-passes test other es o
+    (and-eq-true-iff (test (e .byte) (e .says)) (passes test es) .0 p .1) b)
   where
     go : (t : Bool) → eqb b (e .byte) ≡ t → test b (valueAt other es b) ≡ true → test b (cond (eqb b (e .byte)) (e .says) (valueAt other es b)) ≡ true
     go true h below = rw h (rw (eqb-true b (e .byte) h) (and-eq-true-iff (test (e .byte) (e .says)) (passes test es) .0 p .0))

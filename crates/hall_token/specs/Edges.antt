@@ -69,7 +69,8 @@ unfolding translationOf rise sumX sumY sumZ
 unmoved f = refl
 
 -- A digit below the fold moves along z alone, by its rise.
-pub digit-first : (f : Fold) (s : ℕ) → 1 ≤ s → s ≤ 6 → s < foldNumber f → (z : ℕ) × (translationOf f ((48 + s) ∷ []) ≡ triple 0 0 z) × (foldNumber f * z ≡ 12 * s)
+pub digit-first : (f : Fold) (s : ℕ) → 1 ≤ s → s ≤ 6 → s < foldNumber f → (z : ℕ) × (translationOf f ((48 + s) ∷ []) ≡ triple 0 0 z)
+    × (foldNumber f * z ≡ 12 * s)
 unfolding translationOf rise sumX sumY sumZ
 digit-first f s h k l =
     rw (digit-byte s h k)
@@ -79,7 +80,8 @@ digit-first f s h k l =
     below = let small = rise-lt f s l in omega arith
 
 -- Each letter behind adds what it moves by, modulo 12.
-pub letter-added : (f : Fold) (run : List ℕ) (b : ℕ) → noScrew (runByteOf b) ≡ true → translationOf f (run ++ (b ∷ [])) ≡ triple ((translationOf f run .x + by b .x) % 12) ((translationOf f run .y + by b .y) % 12) ((translationOf f run .z + by b .z) % 12)
+pub letter-added : (f : Fold) (run : List ℕ) (b : ℕ) → noScrew (runByteOf b) ≡ true
+    → translationOf f (run ++ (b ∷ [])) ≡ triple ((translationOf f run .x + by b .x) % 12) ((translationOf f run .y + by b .y) % 12) ((translationOf f run .z + by b .z) % 12)
 unfolding translationOf rise sumX sumY sumZ
 letter-added f run b h =
     let x : sumX (run ++ (b ∷ [])) % 12 ≡ (sumX run % 12 + by b .x) % 12 = let e = along-x run in omega arith in

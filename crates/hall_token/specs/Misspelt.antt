@@ -54,7 +54,8 @@ record Fault (stage : List ℕ → Parts) (start : ℕ) (left : List ℕ) (k : �
   stays : (w : List ℕ) → stage (take (suc at) left ++ w) ≡ no-parts k
 
 -- A stage that takes a byte and hands on what is behind it.
-taken : (outer inner : List ℕ → Parts) (start b : ℕ) (bs : List ℕ) (k : ℕ) → ((w : List ℕ) → outer (b ∷ w) ≡ inner w) → Fault inner (start + 1) bs k → Fault outer start (b ∷ bs) k
+taken : (outer inner : List ℕ → Parts) (start b : ℕ) (bs : List ℕ) (k : ℕ) → ((w : List ℕ) → outer (b ∷ w) ≡ inner w) → Fault inner (start + 1) bs k
+    → Fault outer start (b ∷ bs) k
 taken outer inner start b bs k same h =
     record {
       at = suc (h .at);
@@ -66,7 +67,8 @@ taken outer inner start b bs k same h =
     }
 
 -- A stage that hands on the byte too; `fresh` makes it parts by itself.
-handed : (outer inner : List ℕ → Parts) (start b : ℕ) (bs : List ℕ) (k : ℕ) → ((w : List ℕ) → outer (b ∷ w) ≡ inner (b ∷ w)) → (fresh : List ℕ) → IsParts (outer fresh) → Fault inner start (b ∷ bs) k → Fault outer start (b ∷ bs) k
+handed : (outer inner : List ℕ → Parts) (start b : ℕ) (bs : List ℕ) (k : ℕ) → ((w : List ℕ) → outer (b ∷ w) ≡ inner (b ∷ w)) → (fresh : List ℕ)
+    → IsParts (outer fresh) → Fault inner start (b ∷ bs) k → Fault outer start (b ∷ bs) k
 handed outer inner start b bs k same fresh alone h = go (h .at) refl
   where
     stays : (w : List ℕ) → outer (take (suc (h .at)) (b ∷ bs) ++ w) ≡ no-parts k
@@ -74,7 +76,14 @@ handed outer inner start b bs k same fresh alone h = go (h .at) refl
 
     go : (i : ℕ) → h .at ≡ i → Fault outer start (b ∷ bs) k
     go zero e =
-        record { at = h .at; offset = h .offset; within = h .within; behind = fresh; good = subst (λ (i : ℕ). IsParts (outer (take i (b ∷ bs) ++ fresh))) (sym e) alone; stays = stays }
+        record {
+          at = h .at;
+          offset = h .offset;
+          within = h .within;
+          behind = fresh;
+          good = subst (λ (i : ℕ). IsParts (outer (take i (b ∷ bs) ++ fresh))) (sym e) alone;
+          stays = stays;
+        }
     go (suc i) e =
         let given = subst (λ (j : ℕ). IsParts (inner (take j (b ∷ bs) ++ h .behind))) e (h .good) in
         record {
@@ -86,11 +95,13 @@ handed outer inner start b bs k same fresh alone h = go (h .at) refl
           stays = stays;
         }
 
-run-fault : (n : Bool) (f : Fold) (m : Mark) (l : AxisLetter) (run : List ℕ) (k : ℕ) → readRun n f m l run ≡ no-parts k → Fault (readRun n f m l) (runStart n m l) run k
+run-fault : (n : Bool) (f : Fold) (m : Mark) (l : AxisLetter) (run : List ℕ) (k : ℕ) → readRun n f m l run ≡ no-parts k
+    → Fault (readRun n f m l) (runStart n m l) run k
 unfolding readRun
 run-fault n f m l run k e = go (every mayStand run) refl e
   where
-    go : (t : Bool) → every mayStand run ≡ t → cond t (parts n f m l run) (no-parts (runStart n m l + passing mayStand run)) ≡ no-parts k → Fault (readRun n f m l) (runStart n m l) run k
+    go : (t : Bool) → every mayStand run ≡ t → cond t (parts n f m l run) (no-parts (runStart n m l + passing mayStand run)) ≡ no-parts k
+        → Fault (readRun n f m l) (runStart n m l) run k
     go true h d = absurd (parts-not n f m l run k d)
     go false h d =
         record {
@@ -102,7 +113,8 @@ run-fault n f m l run k e = go (every mayStand run) refl e
           stays = λ w. rw (passing-stays mayStand run w h .0, passing-stays mayStand run w h .1) d;
         }
 
-letter-fault : (n : Bool) (f : Fold) (m : Mark) (left : List ℕ) (k : ℕ) → readLetter n f m left ≡ no-parts k → Fault (readLetter n f m) (signLength n + 1 + markLength m) left k
+letter-fault : (n : Bool) (f : Fold) (m : Mark) (left : List ℕ) (k : ℕ) → readLetter n f m left ≡ no-parts k
+    → Fault (readLetter n f m) (signLength n + 1 + markLength m) left k
 unfolding readLetter letterThen readRun every
 letter-fault n f m [] k e = absurd (parts-not n f m Absent [] k e)
 letter-fault n f m (b ∷ bs) k e = go (letterOf b) refl
@@ -115,7 +127,8 @@ letter-fault n f m (b ∷ bs) k e = go (letterOf b) refl
 
     go : (l : AxisLetter) → letterOf b ≡ l → Fault (readLetter n f m) (signLength n + 1 + markLength m) (b ∷ bs) k
     go (Along d) h =
-        taken (readLetter n f m) (readRun n f m (Along d)) (signLength n + 1 + markLength m) b bs k (same (Along d) h) (run-fault n f m (Along d) bs k (own (Along d) h))
+        taken (readLetter n f m) (readRun n f m (Along d)) (signLength n + 1 + markLength m) b bs k (same (Along d) h) (run-fault n f m (Along d) bs k
+        (own (Along d) h))
     go Absent h =
         let s : signLength n + 1 + markLength m + 0 ≡ signLength n + 1 + markLength m = omega arith in
         handed (readLetter n f m) (readRun n f m Absent) (signLength n + 1 + markLength m) b bs k (same Absent h) [] tt
@@ -193,7 +206,8 @@ token-fault (b ∷ bs) k e = go (eqb b 45) refl
             inr (inr (ap (λ (c : ℕ). c ∷ bs) (eqb-true b 45 h) ∙ ap (λ (l : List ℕ). 45 ∷ l) none), last ∙ sym (ap (λ (l : List ℕ). suc (length l)) none))
     go false h = no-sign (fold-fault false (b ∷ bs) k (own false h))
       where
-        no-sign : Fault (readFold false) 0 (b ∷ bs) k ⊎ ((b ∷ bs ≡ []) × (k ≡ 0)) → Fault readToken 0 (b ∷ bs) k ⊎ (FoldMissing (b ∷ bs) × (k ≡ length (b ∷ bs)))
+        no-sign : Fault (readFold false) 0 (b ∷ bs) k ⊎ ((b ∷ bs ≡ []) × (k ≡ 0)) → Fault readToken 0 (b ∷ bs) k
+            ⊎ (FoldMissing (b ∷ bs) × (k ≡ length (b ∷ bs)))
         no-sign (inl f) = inl (handed readToken (readFold false) 0 b bs k (same false h) (49 ∷ []) (fold-alone false) f)
         no-sign (inr (none, last)) = let z : _≡_ {A = ℕ} 0 1 = cc in absurd (omega arith)
 
@@ -207,7 +221,8 @@ parts-spelling token h = go (readToken token) refl h
 
 no-spelling : (token : List ℕ) (k : ℕ) → readToken token ≡ no-parts k → ¬ (Spelling token)
 no-spelling token k e s =
-    parts-not (s .negative) (s .fold) (s .mark) (s .letter) (s .run) k (sym (read-exact token (s .negative) (s .fold) (s .mark) (s .letter) (s .run) .1 (s .spells)) ∙ e)
+    parts-not (s .negative) (s .fold) (s .mark) (s .letter) (s .run) k (sym
+    (read-exact token (s .negative) (s .fold) (s .mark) (s .letter) (s .run) .1 (s .spells)) ∙ e)
 
 -- The reader points at the first offending byte.
 pub offending : (token : List ℕ) (k : ℕ) → readToken token ≡ no-parts k → FirstOffending Spelling token k
@@ -220,7 +235,8 @@ offending token k e = go (token-fault token k e)
         record {
           within = omega (arith, f .within);
           good = rw here (f .behind, parts-spelling (take (f .at) token ++ f .behind) (f .good));
-          offends = λ less (rest, s). no-spelling (take (suc k) token ++ rest) k (ap (λ (o : ℕ). readToken (take (suc o) token ++ rest)) here ∙ f .stays rest) s;
+          offends = λ less (rest, s). no-spelling (take (suc k) token ++ rest) k (ap (λ (o : ℕ). readToken (take (suc o) token ++ rest)) here
+              ∙ f .stays rest) s;
           breaks-off = λ last. absurd (omega (arith, f .within, last));
         }
     go (inr (inl none, last)) =

@@ -66,7 +66,8 @@ pub passing-stop : (p : RunByte → Bool) (run : List ℕ) (i : ℕ) → i < len
 unfolding passing
 passing-stop p run i h e = rw (drop-cons run i 0, e)
 
-pub passing-next : (p : RunByte → Bool) (run : List ℕ) (i : ℕ) → i < length run → p (runByteOf (getD run i 0)) ≡ true → passing p (drop i run) ≡ 1 + passing p (drop (i + 1) run)
+pub passing-next : (p : RunByte → Bool) (run : List ℕ) (i : ℕ) → i < length run → p (runByteOf (getD run i 0)) ≡ true
+    → passing p (drop i run) ≡ 1 + passing p (drop (i + 1) run)
 unfolding passing
 passing-next p run i h e = rw (drop-cons run i 0, e, add-one i) (omega arith)
 
@@ -101,7 +102,8 @@ passing-good p (b ∷ bs) = go (p (runByteOf b)) refl (passing-good p bs)
     go false h below = refl
 
 -- and with the next one, whatever follows, the run fails at the same place.
-pub passing-stays : (p : RunByte → Bool) (run w : List ℕ) → every p run ≡ false → (every p (take (suc (passing p run)) run ++ w) ≡ false) × (passing p (take (suc (passing p run)) run ++ w) ≡ passing p run)
+pub passing-stays : (p : RunByte → Bool) (run w : List ℕ) → every p run ≡ false → (every p (take (suc (passing p run)) run ++ w) ≡ false)
+    × (passing p (take (suc (passing p run)) run ++ w) ≡ passing p run)
 unfolding passing every
 passing-stays p [] w e = absurd (true≢false e)
 passing-stays p (b ∷ bs) w e = go (p (runByteOf b)) refl (passing-stays p bs w)
@@ -109,7 +111,8 @@ passing-stays p (b ∷ bs) w e = go (p (runByteOf b)) refl (passing-stays p bs w
     Stays : ℕ → Type 0
     Stays k = (every p (take (suc k) (b ∷ bs) ++ w) ≡ false) × (passing p (take (suc k) (b ∷ bs) ++ w) ≡ k)
 
-    go : (t : Bool) → p (runByteOf b) ≡ t → (every p bs ≡ false → (every p (take (suc (passing p bs)) bs ++ w) ≡ false) × (passing p (take (suc (passing p bs)) bs ++ w) ≡ passing p bs)) → Stays (cond t (suc (passing p bs)) 0)
+    go : (t : Bool) → p (runByteOf b) ≡ t → (every p bs ≡ false → (every p (take (suc (passing p bs)) bs ++ w) ≡ false)
+        × (passing p (take (suc (passing p bs)) bs ++ w) ≡ passing p bs)) → Stays (cond t (suc (passing p bs)) 0)
     go true h below =
         let s = below (sym (ap (λ (x : Bool). x && every p bs) h) ∙ e) in
         (rw (h, s .0), rw (h, s .1))
@@ -132,11 +135,19 @@ first-fails p (c ∷ cs) e = go (p (runByteOf c)) refl (first-fails p cs)
     go : (t : Bool) → p (runByteOf c) ≡ t → (every p cs ≡ false → FirstFails p cs) → FirstFails p (c ∷ cs)
     go true h below =
         let w = below (sym (ap (λ (x : Bool). x && every p cs) h) ∙ e) in
-        record { before = c ∷ w .before; byte = w .byte; after = w .after; split = ap (λ (l : List ℕ). c ∷ l) (w .split); fails = w .fails; place = ap (λ (x : Bool). cond x (suc (passing p cs)) 0) h ∙ ap (λ (n : ℕ). suc n) (w .place) }
+        record {
+          before = c ∷ w .before;
+          byte = w .byte;
+          after = w .after;
+          split = ap (λ (l : List ℕ). c ∷ l) (w .split);
+          fails = w .fails;
+          place = ap (λ (x : Bool). cond x (suc (passing p cs)) 0) h ∙ ap (λ (n : ℕ). suc n) (w .place);
+        }
     go false h below = record { before = []; byte = c; after = cs; split = refl; fails = h; place = ap (λ (x : Bool). cond x (suc (passing p cs)) 0) h }
 
 -- A byte that fails is not passed.
-pub passing-before : (p : RunByte → Bool) (before : List ℕ) (b : ℕ) (after : List ℕ) → p (runByteOf b) ≡ false → passing p (before ++ (b ∷ after)) ≤ length before
+pub passing-before : (p : RunByte → Bool) (before : List ℕ) (b : ℕ) (after : List ℕ) → p (runByteOf b) ≡ false
+    → passing p (before ++ (b ∷ after)) ≤ length before
 unfolding passing
 passing-before p [] b after e = rw e (omega arith)
 passing-before p (c ∷ cs) b after e = go (p (runByteOf c)) (passing-before p cs b after e)
@@ -182,7 +193,8 @@ module _ (f : Fold) (a : Axis) (run : List ℕ) (v : Moved) (some : length run �
   pub alone-right : (t : Translation) → v ≡ By t → wrongDigitAt f a run ≡ 1 + passing noScrew (rest run)
   alone-right t e = front-at ∙ go (frontRight f a (runByteOf byte)) (sym front-alone ∙ e)
     where
-      go : (u : Bool) → cond (u && true) (By (translationOf f (byte ∷ []))) WrongDigit ≡ By t → cond u (1 + passing noScrew (rest run)) 0 ≡ 1 + passing noScrew (rest run)
+      go : (u : Bool) → cond (u && true) (By (translationOf f (byte ∷ []))) WrongDigit ≡ By t
+          → cond u (1 + passing noScrew (rest run)) 0 ≡ 1 + passing noScrew (rest run)
       go true h = refl
       go false h = let z : _≡_ {A = ℕ} 0 1 = cc in absurd (omega arith)
 

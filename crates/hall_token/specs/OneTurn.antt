@@ -99,8 +99,11 @@ three-digits a b c x y z e =
 same-rotation : (r s : Rotation) → sameRotation r s ≡ true → r ≡ s
 unfolding sameRotation
 same-rotation r s e =
-    let first = and-eq-true-iff (eqb (r .xx) (s .xx) && (eqb (r .xy) (s .xy) && eqb (r .xz) (s .xz))) ((eqb (r .yx) (s .yx) && (eqb (r .yy) (s .yy) && eqb (r .yz) (s .yz))) && (eqb (r .zx) (s .zx) && (eqb (r .zy) (s .zy) && eqb (r .zz) (s .zz)))) .0 e in
-    let rest = and-eq-true-iff (eqb (r .yx) (s .yx) && (eqb (r .yy) (s .yy) && eqb (r .yz) (s .yz))) (eqb (r .zx) (s .zx) && (eqb (r .zy) (s .zy) && eqb (r .zz) (s .zz))) .0 (first .1) in
+    let first = and-eq-true-iff (eqb (r .xx) (s .xx) &&
+    (eqb (r .xy) (s .xy) && eqb (r .xz) (s .xz))) ((eqb (r .yx) (s .yx) && (eqb (r .yy) (s .yy) && eqb (r .yz) (s .yz))) && (eqb (r .zx) (s .zx) &&
+    (eqb (r .zy) (s .zy) && eqb (r .zz) (s .zz)))) .0 e in
+    let rest = and-eq-true-iff (eqb (r .yx) (s .yx) && (eqb (r .yy) (s .yy) && eqb (r .yz) (s .yz))) (eqb (r .zx) (s .zx) &&
+    (eqb (r .zy) (s .zy) && eqb (r .zz) (s .zz))) .0 (first .1) in
     let p = three-digits (r .xx) (r .xy) (r .xz) (s .xx) (s .xy) (s .xz) (first .0) in
     let q = three-digits (r .yx) (r .yy) (r .yz) (s .yx) (s .yy) (s .yz) (rest .0) in
     let t = three-digits (r .zx) (r .zy) (r .zz) (s .zx) (s .zy) (s .zz) (rest .1) in

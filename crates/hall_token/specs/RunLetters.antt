@@ -77,7 +77,8 @@ pub repeat-stop : (run : List ℕ) (i : ℕ) → i < length run → repeats (get
 unfolding repeatFrom
 repeat-stop run i h e = rw (drop-cons run i 0 h, e)
 
-pub repeat-next : (run : List ℕ) (i : ℕ) → i < length run → repeats (getD run i 0) (take i run) ≡ false → repeatFrom (take i run) (drop i run) ≡ 1 + repeatFrom (take (i + 1) run) (drop (i + 1) run)
+pub repeat-next : (run : List ℕ) (i : ℕ) → i < length run → repeats (getD run i 0) (take i run) ≡ false
+    → repeatFrom (take i run) (drop i run) ≡ 1 + repeatFrom (take (i + 1) run) (drop (i + 1) run)
 unfolding repeatFrom
 repeat-next run i h e = rw (drop-cons run i 0 h, e, add-one i, take-suc run i 0 h) (omega arith)
 
@@ -142,12 +143,16 @@ shown-repeats b before l m = rw (listed-letter b l, member-occurs b before m)
 longer : (run before : List ℕ) (b : ℕ) (bs : List ℕ) → run ≡ before ++ (b ∷ bs) → run ≡ (before ++ (b ∷ [])) ++ bs
 longer run before b bs e = e ∙ sym (append-assoc before (b ∷ []) bs)
 
-found : (run before rest : List ℕ) → run ≡ before ++ rest → repeatFrom before rest < length rest → (r : Repeated run) × (length (r .before) ≡ length before + repeatFrom before rest)
+found : (run before rest : List ℕ) → run ≡ before ++ rest → repeatFrom before rest < length rest → (r : Repeated run)
+    × (length (r .before) ≡ length before + repeatFrom before rest)
 unfolding repeatFrom
 found run before [] e h = absurd (omega arith)
 found run before (b ∷ bs) e h = go (repeats b before) refl h (found run (before ++ (b ∷ [])) bs (longer run before b bs e))
   where
-    go : (t : Bool) → repeats b before ≡ t → cond t 0 (suc (repeatFrom (before ++ (b ∷ [])) bs)) < suc (length bs) → (repeatFrom (before ++ (b ∷ [])) bs < length bs → (r : Repeated run) × (length (r .before) ≡ length (before ++ (b ∷ [])) + repeatFrom (before ++ (b ∷ [])) bs)) → (r : Repeated run) × (length (r .before) ≡ length before + cond t 0 (suc (repeatFrom (before ++ (b ∷ [])) bs)))
+    go : (t : Bool) → repeats b before ≡ t → cond t 0 (suc (repeatFrom (before ++ (b ∷ [])) bs)) < suc (length bs)
+        → (repeatFrom (before ++ (b ∷ [])) bs < length bs → (r : Repeated run)
+        × (length (r .before) ≡ length (before ++ (b ∷ [])) + repeatFrom (before ++ (b ∷ [])) bs)) → (r : Repeated run)
+        × (length (r .before) ≡ length before + cond t 0 (suc (repeatFrom (before ++ (b ∷ [])) bs)))
     go true t less below =
         let (letter, again) = repeats-shown b before t in
         (record { before = before; byte = b; after = bs; split = e; letter = letter; again = again }, omega arith)
@@ -159,11 +164,14 @@ found run before (b ∷ bs) e h = go (repeats b before) refl h (found run (befor
 -- What is split at the same place is split alike.
 same-split : (run s t : List ℕ) (b c : ℕ) (bs cs : List ℕ) → run ≡ s ++ (b ∷ bs) → run ≡ t ++ (c ∷ cs) → length s ≡ length t → (s ≡ t) × (b ≡ c)
 same-split run s t b c bs cs e d h =
-    let front : s ≡ t = sym (take-append-seam s (b ∷ bs)) ∙ ap (take (length s)) (sym e ∙ d) ∙ ap (λ (n : ℕ). take n (t ++ (c ∷ cs))) h ∙ take-append-seam t (c ∷ cs) in
-    let back : b ∷ bs ≡ c ∷ cs = sym (drop-append-seam s (b ∷ bs)) ∙ ap (drop (length s)) (sym e ∙ d) ∙ ap (λ (n : ℕ). drop n (t ++ (c ∷ cs))) h ∙ drop-append-seam t (c ∷ cs) in
+    let front : s ≡ t = sym (take-append-seam s (b ∷ bs)) ∙ ap (take (length s)) (sym e ∙ d) ∙ ap (λ (n : ℕ). take n (t ++ (c ∷ cs))) h
+    ∙ take-append-seam t (c ∷ cs) in
+    let back : b ∷ bs ≡ c ∷ cs = sym (drop-append-seam s (b ∷ bs)) ∙ ap (drop (length s)) (sym e ∙ d) ∙ ap (λ (n : ℕ). drop n (t ++ (c ∷ cs))) h
+    ∙ drop-append-seam t (c ∷ cs) in
     (front, (cc))
 
-not-sooner : (run before rest : List ℕ) → run ≡ before ++ rest → (r : Repeated run) → length before ≤ length (r .before) → length before + repeatFrom before rest ≤ length (r .before)
+not-sooner : (run before rest : List ℕ) → run ≡ before ++ rest → (r : Repeated run) → length before ≤ length (r .before)
+    → length before + repeatFrom before rest ≤ length (r .before)
 unfolding repeatFrom
 not-sooner run before [] e r h = omega arith
 not-sooner run before (b ∷ bs) e r h = go (repeats b before) refl (not-sooner run (before ++ (b ∷ [])) bs (longer run before b bs e) r)
@@ -173,7 +181,9 @@ not-sooner run before (b ∷ bs) e r h = go (repeats b before) refl (not-sooner 
         let (fronts, bytes) = same-split run before (r .before) b (r .byte) bs (r .after) e (r .split) same in
         false≢true (sym t ∙ ap (λ (c : ℕ). repeats c before) bytes ∙ ap (repeats (r .byte)) fronts ∙ shown-repeats (r .byte) (r .before) (r .letter) (r .again))
 
-    go : (t : Bool) → repeats b before ≡ t → (length (before ++ (b ∷ [])) ≤ length (r .before) → length (before ++ (b ∷ [])) + repeatFrom (before ++ (b ∷ [])) bs ≤ length (r .before)) → length before + cond t 0 (suc (repeatFrom (before ++ (b ∷ [])) bs)) ≤ length (r .before)
+    go : (t : Bool) → repeats b before ≡ t → (length (before ++ (b ∷ [])) ≤ length (r .before)
+        → length (before ++ (b ∷ [])) + repeatFrom (before ++ (b ∷ [])) bs ≤ length (r .before))
+        → length before + cond t 0 (suc (repeatFrom (before ++ (b ∷ [])) bs)) ≤ length (r .before)
     go true t below = omega arith
     go false t below =
         let long = length-append before (b ∷ []) in

@@ -109,7 +109,8 @@ pub every-stop : (p : RunByte → Bool) (run : List ℕ) (i : ℕ) → i < lengt
 unfolding every
 every-stop p run i h e = rw (drop-cons run i 0, e)
 
-pub every-next : (p : RunByte → Bool) (run : List ℕ) (i : ℕ) → i < length run → p (runByteOf (getD run i 0)) ≡ true → every p (drop i run) ≡ every p (drop (i + 1) run)
+pub every-next : (p : RunByte → Bool) (run : List ℕ) (i : ℕ) → i < length run → p (runByteOf (getD run i 0)) ≡ true
+    → every p (drop i run) ≡ every p (drop (i + 1) run)
 unfolding every
 every-next p run i h e = rw (drop-cons run i 0, e, add-one i)
 

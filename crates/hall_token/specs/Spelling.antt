@@ -168,7 +168,8 @@ abbrev Spelt : List ℕ → Parts → Type 0
 Spelt token (parts n f m l run) = Spells token n f m l run
 Spelt token (no-parts k) = Unit {0}
 
-run-read : (token : List ℕ) (n : Bool) (f : Fold) (m : Mark) (l : AxisLetter) (run : List ℕ) → token ≡ signBytes n ++ (foldByte f ∷ (markBytes m ++ (letterBytes l ++ run))) → Spelt token (readRun n f m l run)
+run-read : (token : List ℕ) (n : Bool) (f : Fold) (m : Mark) (l : AxisLetter) (run : List ℕ)
+    → token ≡ signBytes n ++ (foldByte f ∷ (markBytes m ++ (letterBytes l ++ run))) → Spelt token (readRun n f m l run)
 unfolding readRun
 run-read token n f m l run e = go (every mayStand run) refl
   where
@@ -176,13 +177,15 @@ run-read token n f m l run e = go (every mayStand run) refl
     go true h = record { text = e; of-alphabet = λ b i. may-stand-alphabet b (every-member mayStand run h b i) }
     go false h = tt
 
-letter-read : (token : List ℕ) (n : Bool) (f : Fold) (m : Mark) (rest : List ℕ) → token ≡ signBytes n ++ (foldByte f ∷ (markBytes m ++ rest)) → Spelt token (readLetter n f m rest)
+letter-read : (token : List ℕ) (n : Bool) (f : Fold) (m : Mark) (rest : List ℕ) → token ≡ signBytes n ++ (foldByte f ∷ (markBytes m ++ rest))
+    → Spelt token (readLetter n f m rest)
 unfolding readLetter letterThen letterSpelt
 letter-read token n f m [] e = run-read token n f m Absent [] e
 letter-read token n f m (b ∷ bs) e = go (letterOf b) (letter-spelt b)
   where
     go : (l : AxisLetter) → letterSpelt b l ≡ true → Spelt token (letterThen n f m l b bs)
-    go (Along d) h = run-read token n f m (Along d) bs (e ∙ ap (λ (c : ℕ). signBytes n ++ (foldByte f ∷ (markBytes m ++ (c ∷ bs)))) (eqb-true b (directionByte d) h))
+    go (Along d) h = run-read token n f m (Along d) bs (e
+        ∙ ap (λ (c : ℕ). signBytes n ++ (foldByte f ∷ (markBytes m ++ (c ∷ bs)))) (eqb-true b (directionByte d) h))
     go Absent h = run-read token n f m Absent (b ∷ bs) e
 
 mark-read : (token : List ℕ) (n : Bool) (f : Fold) (rest : List ℕ) → token ≡ signBytes n ++ (foldByte f ∷ rest) → Spelt token (readMark n f rest)
@@ -229,7 +232,8 @@ sign-fold-again false Four rest = refl
 sign-fold-again false Six rest = refl
 
 -- Where no mark stands, none is read: a letter is no mark, and no byte of the alphabet is one.
-no-mark-again : (n : Bool) (f : Fold) (l : AxisLetter) (run : List ℕ) → ((b : ℕ) → Mem b run → Mem b runAlphabet) → readMark n f (letterBytes l ++ run) ≡ readLetter n f None (letterBytes l ++ run)
+no-mark-again : (n : Bool) (f : Fold) (l : AxisLetter) (run : List ℕ) → ((b : ℕ) → Mem b run → Mem b runAlphabet)
+    → readMark n f (letterBytes l ++ run) ≡ readLetter n f None (letterBytes l ++ run)
 unfolding readMark markThen markOf valueAt
 no-mark-again n f (Along X) run h = refl
 no-mark-again n f (Along Y) run h = refl
@@ -238,13 +242,15 @@ no-mark-again n f (Along Diagonal) run h = refl
 no-mark-again n f Absent [] h = refl
 no-mark-again n f Absent (b ∷ bs) h = ap (λ (m : Mark). markThen n f m b bs) (alphabet-no-mark b (h b (here refl)))
 
-mark-again : (n : Bool) (f : Fold) (m : Mark) (l : AxisLetter) (run : List ℕ) → ((b : ℕ) → Mem b run → Mem b runAlphabet) → readMark n f (markBytes m ++ (letterBytes l ++ run)) ≡ readLetter n f m (letterBytes l ++ run)
+mark-again : (n : Bool) (f : Fold) (m : Mark) (l : AxisLetter) (run : List ℕ) → ((b : ℕ) → Mem b run → Mem b runAlphabet)
+    → readMark n f (markBytes m ++ (letterBytes l ++ run)) ≡ readLetter n f m (letterBytes l ++ run)
 unfolding readMark markThen markOf valueAt
 mark-again n f None l run h = no-mark-again n f l run h
 mark-again n f Single l run h = refl
 mark-again n f Double l run h = refl
 
-letter-again : (n : Bool) (f : Fold) (m : Mark) (l : AxisLetter) (run : List ℕ) → ((b : ℕ) → Mem b run → Mem b runAlphabet) → readLetter n f m (letterBytes l ++ run) ≡ readRun n f m l run
+letter-again : (n : Bool) (f : Fold) (m : Mark) (l : AxisLetter) (run : List ℕ) → ((b : ℕ) → Mem b run → Mem b runAlphabet)
+    → readLetter n f m (letterBytes l ++ run) ≡ readRun n f m l run
 unfolding readLetter letterThen letterOf valueAt
 letter-again n f m (Along X) run h = refl
 letter-again n f m (Along Y) run h = refl
@@ -253,23 +259,27 @@ letter-again n f m (Along Diagonal) run h = refl
 letter-again n f m Absent [] h = refl
 letter-again n f m Absent (b ∷ bs) h = ap (λ (l : AxisLetter). letterThen n f m l b bs) (alphabet-no-letter b (h b (here refl)))
 
-run-again : (n : Bool) (f : Fold) (m : Mark) (l : AxisLetter) (run : List ℕ) → ((b : ℕ) → Mem b run → Mem b runAlphabet) → readRun n f m l run ≡ parts n f m l run
+run-again : (n : Bool) (f : Fold) (m : Mark) (l : AxisLetter) (run : List ℕ) → ((b : ℕ) → Mem b run → Mem b runAlphabet)
+    → readRun n f m l run ≡ parts n f m l run
 unfolding readRun
 run-again n f m l run h = rw (member-every mayStand run (λ b i. alphabet-may-stand b (h b i)))
 
-spelt-again : (n : Bool) (f : Fold) (m : Mark) (l : AxisLetter) (run : List ℕ) → ((b : ℕ) → Mem b run → Mem b runAlphabet) → readToken (signBytes n ++ (foldByte f ∷ (markBytes m ++ (letterBytes l ++ run)))) ≡ parts n f m l run
+spelt-again : (n : Bool) (f : Fold) (m : Mark) (l : AxisLetter) (run : List ℕ) → ((b : ℕ) → Mem b run → Mem b runAlphabet)
+    → readToken (signBytes n ++ (foldByte f ∷ (markBytes m ++ (letterBytes l ++ run)))) ≡ parts n f m l run
 spelt-again n f m l run h =
     sign-fold-again n f (markBytes m ++ (letterBytes l ++ run)) ∙ mark-again n f m l run h ∙ letter-again n f m l run h ∙ run-again n f m l run h
 
 -- ---- the two are one
 
 -- A token is read into parts exactly if it spells them.
-pub read-exact : (token : List ℕ) (n : Bool) (f : Fold) (m : Mark) (l : AxisLetter) (run : List ℕ) → (readToken token ≡ parts n f m l run) ↔ Spells token n f m l run
+pub read-exact : (token : List ℕ) (n : Bool) (f : Fold) (m : Mark) (l : AxisLetter) (run : List ℕ)
+    → (readToken token ≡ parts n f m l run) ↔ Spells token n f m l run
 read-exact token n f m l run =
     (λ e. subst (Spelt token) e (token-read token), λ s. ap readToken (s .text) ∙ spelt-again n f m l run (s .of-alphabet))
 
 -- A token's parts are unique.
-pub spells-once : (token : List ℕ) (n n′ : Bool) (f f′ : Fold) (m m′ : Mark) (l l′ : AxisLetter) (run run′ : List ℕ) → Spells token n f m l run → Spells token n′ f′ m′ l′ run′ → (n ≡ n′) × (f ≡ f′) × (m ≡ m′) × (l ≡ l′) × (run ≡ run′)
+pub spells-once : (token : List ℕ) (n n′ : Bool) (f f′ : Fold) (m m′ : Mark) (l l′ : AxisLetter) (run run′ : List ℕ) → Spells token n f m l run
+    → Spells token n′ f′ m′ l′ run′ → (n ≡ n′) × (f ≡ f′) × (m ≡ m′) × (l ≡ l′) × (run ≡ run′)
 spells-once token n n′ f f′ m m′ l l′ run run′ s t =
     let e = read-exact token n f m l run .1 s in
     let e′ = read-exact token n′ f′ m′ l′ run′ .1 t in

@@ -59,7 +59,8 @@ pub mark-nothing : (n : Bool) (f : Fold) (t : List ℕ) → length t ≡ 0 → r
 unfolding readMark
 mark-nothing n f t h = ap (readMark n f) (nothing t h) ∙ ap (readLetter n f None) (sym (nothing t h))
 
-mark-front : (n : Bool) (f : Fold) (t : List ℕ) (v w : Mark) → (length t ≡ 0 → ⊥) → v ≡ markOf (getD t 0 0) → v ≡ w → readMark n f t ≡ markThen n f w (getD t 0 0) (rest t)
+mark-front : (n : Bool) (f : Fold) (t : List ℕ) (v w : Mark) → (length t ≡ 0 → ⊥) → v ≡ markOf (getD t 0 0) → v ≡ w
+    → readMark n f t ≡ markThen n f w (getD t 0 0) (rest t)
 unfolding readMark
 mark-front n f t v w h e i = ap (readMark n f) (front t h) ∙ ap (λ (m : Mark). markThen n f m (getD t 0 0) (rest t)) (sym e ∙ i)
 
@@ -67,11 +68,13 @@ pub mark-none : (n : Bool) (f : Fold) (t : List ℕ) (v : Mark) → (length t �
 unfolding markThen
 mark-none n f t v h e i = mark-front n f t v None h e i ∙ ap (readLetter n f None) (sym (front t h))
 
-pub mark-single : (n : Bool) (f : Fold) (t : List ℕ) (v : Mark) → (length t ≡ 0 → ⊥) → v ≡ markOf (getD t 0 0) → v ≡ Single → readMark n f t ≡ readLetter n f Single (rest t)
+pub mark-single : (n : Bool) (f : Fold) (t : List ℕ) (v : Mark) → (length t ≡ 0 → ⊥) → v ≡ markOf (getD t 0 0) → v ≡ Single
+    → readMark n f t ≡ readLetter n f Single (rest t)
 unfolding markThen
 mark-single n f t v h e i = mark-front n f t v Single h e i
 
-pub mark-double : (n : Bool) (f : Fold) (t : List ℕ) (v : Mark) → (length t ≡ 0 → ⊥) → v ≡ markOf (getD t 0 0) → v ≡ Double → readMark n f t ≡ readLetter n f Double (rest t)
+pub mark-double : (n : Bool) (f : Fold) (t : List ℕ) (v : Mark) → (length t ≡ 0 → ⊥) → v ≡ markOf (getD t 0 0) → v ≡ Double
+    → readMark n f t ≡ readLetter n f Double (rest t)
 unfolding markThen
 mark-double n f t v h e i = mark-front n f t v Double h e i
 
@@ -81,14 +84,17 @@ pub letter-nothing : (n : Bool) (f : Fold) (m : Mark) (t : List ℕ) → length 
 unfolding readLetter
 letter-nothing n f m t h = ap (readLetter n f m) (nothing t h) ∙ ap (readRun n f m Absent) (sym (nothing t h))
 
-letter-front : (n : Bool) (f : Fold) (m : Mark) (t : List ℕ) (v w : AxisLetter) → (length t ≡ 0 → ⊥) → v ≡ letterOf (getD t 0 0) → v ≡ w → readLetter n f m t ≡ letterThen n f m w (getD t 0 0) (rest t)
+letter-front : (n : Bool) (f : Fold) (m : Mark) (t : List ℕ) (v w : AxisLetter) → (length t ≡ 0 → ⊥) → v ≡ letterOf (getD t 0 0) → v ≡ w
+    → readLetter n f m t ≡ letterThen n f m w (getD t 0 0) (rest t)
 unfolding readLetter
 letter-front n f m t v w h e i = ap (readLetter n f m) (front t h) ∙ ap (λ (l : AxisLetter). letterThen n f m l (getD t 0 0) (rest t)) (sym e ∙ i)
 
-pub letter-absent : (n : Bool) (f : Fold) (m : Mark) (t : List ℕ) (v : AxisLetter) → (length t ≡ 0 → ⊥) → v ≡ letterOf (getD t 0 0) → v ≡ Absent → readLetter n f m t ≡ readRun n f m Absent t
+pub letter-absent : (n : Bool) (f : Fold) (m : Mark) (t : List ℕ) (v : AxisLetter) → (length t ≡ 0 → ⊥) → v ≡ letterOf (getD t 0 0) → v ≡ Absent
+    → readLetter n f m t ≡ readRun n f m Absent t
 unfolding letterThen
 letter-absent n f m t v h e i = letter-front n f m t v Absent h e i ∙ ap (readRun n f m Absent) (sym (front t h))
 
-pub letter-along : (n : Bool) (f : Fold) (m : Mark) (t : List ℕ) (v : AxisLetter) (d : Direction) → (length t ≡ 0 → ⊥) → v ≡ letterOf (getD t 0 0) → v ≡ Along d → readLetter n f m t ≡ readRun n f m v (rest t)
+pub letter-along : (n : Bool) (f : Fold) (m : Mark) (t : List ℕ) (v : AxisLetter) (d : Direction) → (length t ≡ 0 → ⊥) → v ≡ letterOf (getD t 0 0)
+    → v ≡ Along d → readLetter n f m t ≡ readRun n f m v (rest t)
 unfolding letterThen
 letter-along n f m t v d h e i = letter-front n f m t v (Along d) h e i ∙ ap (λ (l : AxisLetter). readRun n f m l (rest t)) (sym i)

@@ -64,7 +64,9 @@ pub letters-stop : (run : List ℕ) (i x y z : ℕ) → i < length run → noScr
 unfolding lettersFrom
 letters-stop run i x y z h e = rw (every-stop noScrew run i h e)
 
-letters-cons : (b : ℕ) (bs : List ℕ) (x y z : ℕ) → noScrew (runByteOf b) ≡ true → lettersFrom (b ∷ bs) x y z ≡ lettersFrom bs ((x + letterVector (runByteOf b) .x) % 12) ((y + letterVector (runByteOf b) .y) % 12) ((z + letterVector (runByteOf b) .z) % 12)
+letters-cons : (b : ℕ) (bs : List ℕ) (x y z : ℕ) → noScrew (runByteOf b) ≡ true
+    → lettersFrom (b ∷ bs) x y z ≡ lettersFrom bs ((x + letterVector (runByteOf b) .x) % 12) ((y + letterVector (runByteOf b) .y) % 12) ((z + letterVector
+    (runByteOf b) .z) % 12)
 unfolding lettersFrom every sumX sumY sumZ
 letters-cons b bs x y z e =
     rw e
@@ -74,11 +76,14 @@ letters-cons b bs x y z e =
     (early-remainder z (letterVector (runByteOf b) .z) (sumZ bs) i))) WrongDigit)
 
 -- Any other byte, which says v, adds its translation u.
-pub letters-next : (run : List ℕ) (i x y z : ℕ) (v : RunByte) (u : Translation) → i < length run → noScrew (runByteOf (getD run i 0)) ≡ true → v ≡ runByteOf (getD run i 0) → u ≡ letterVector v → lettersFrom (drop i run) x y z ≡ lettersFrom (drop (i + 1) run) ((x + u .x) % 12) ((y + u .y) % 12) ((z + u .z) % 12)
+pub letters-next : (run : List ℕ) (i x y z : ℕ) (v : RunByte) (u : Translation) → i < length run → noScrew (runByteOf (getD run i 0)) ≡ true
+    → v ≡ runByteOf (getD run i 0) → u ≡ letterVector v
+    → lettersFrom (drop i run) x y z ≡ lettersFrom (drop (i + 1) run) ((x + u .x) % 12) ((y + u .y) % 12) ((z + u .z) % 12)
 letters-next run i x y z v u h e w k = rw (k, w, add-one i, drop-cons run i 0) (letters-cons (getD run i 0) (drop (suc i) run) x y z e)
 
 -- That translation is small.
-pub vector-bound : (run : List ℕ) (i : ℕ) (v : RunByte) (u : Translation) → v ≡ runByteOf (getD run i 0) → u ≡ letterVector v → (u .x ≤ 6) × (u .y ≤ 6) × (u .z ≤ 6)
+pub vector-bound : (run : List ℕ) (i : ℕ) (v : RunByte) (u : Translation) → v ≡ runByteOf (getD run i 0) → u ≡ letterVector v → (u .x ≤ 6) × (u .y ≤ 6)
+    × (u .z ≤ 6)
 vector-bound run i v u w k = rw (k, w) (vector-small (getD run i 0))
 
 -- ---- the front
@@ -102,16 +107,21 @@ unfolding movedBy lettersFrom digitsRight frontRight every translationOf rise
 moved-letters f a b bs e = simp (e, no-digit (runByteOf b) e, no-rise, zero-add)
 
 -- A wrong digit in front refuses the run.
-pub moved-wrong : (f : Fold) (a : Axis) (b : ℕ) (bs : List ℕ) → noScrew (runByteOf b) ≡ false → screwRight f a (screwDigit (runByteOf b)) ≡ false → movedBy f a (b ∷ bs) ≡ WrongDigit
+pub moved-wrong : (f : Fold) (a : Axis) (b : ℕ) (bs : List ℕ) → noScrew (runByteOf b) ≡ false → screwRight f a (screwDigit (runByteOf b)) ≡ false
+    → movedBy f a (b ∷ bs) ≡ WrongDigit
 unfolding movedBy digitsRight frontRight
 moved-wrong f a b bs e h = rw (e, h)
 
 -- A right one rises by 12s/fold, and the letters after it are added.
-pub moved-screw : (f : Fold) (a : Axis) (b : ℕ) (bs : List ℕ) → noScrew (runByteOf b) ≡ false → screwRight f a (screwDigit (runByteOf b)) ≡ true → movedBy f a (b ∷ bs) ≡ lettersFrom bs 0 0 (12 * screwDigit (runByteOf b) / foldNumber f)
+pub moved-screw : (f : Fold) (a : Axis) (b : ℕ) (bs : List ℕ) → noScrew (runByteOf b) ≡ false → screwRight f a (screwDigit (runByteOf b)) ≡ true
+    → movedBy f a (b ∷ bs) ≡ lettersFrom bs 0 0 (12 * screwDigit (runByteOf b) / foldNumber f)
 unfolding movedBy lettersFrom digitsRight frontRight translationOf rise sumX sumY sumZ
 moved-screw f a b bs e h = rw (e, h) (go (runByteOf b) e)
   where
-    go : (v : RunByte) → noScrew v ≡ false → cond (every noScrew bs) (By (triple ((letterVector v .x + sumX bs) % 12) ((letterVector v .y + sumY bs) % 12) ((12 * screwDigit v / foldNumber f + (letterVector v .z + sumZ bs)) % 12))) WrongDigit ≡ cond (every noScrew bs) (By (triple ((0 + sumX bs) % 12) ((0 + sumY bs) % 12) ((12 * screwDigit v / foldNumber f + sumZ bs) % 12))) WrongDigit
+    go : (v : RunByte) → noScrew v ≡ false → cond (every noScrew bs) (By
+        (triple ((letterVector v .x + sumX bs) % 12) ((letterVector v .y + sumY bs) % 12)
+        ((12 * screwDigit v / foldNumber f + (letterVector v .z + sumZ bs)) % 12))) WrongDigit
+        ≡ cond (every noScrew bs) (By (triple ((0 + sumX bs) % 12) ((0 + sumY bs) % 12) ((12 * screwDigit v / foldNumber f + sumZ bs) % 12))) WrongDigit
     go (Screw s) i = simp zero-add
     go (Letter t) i = absurd (true≢false i)
     go Prime i = absurd (true≢false i)
@@ -123,18 +133,21 @@ pub moved-nothing : (f : Fold) (a : Axis) (run : List ℕ) → length run ≡ 0 
 unfolding movedBy digitsRight translationOf sumX sumY sumZ rise
 moved-nothing f a run h = ap (movedBy f a) (nothing run h)
 
-pub front-letters : (f : Fold) (a : Axis) (run : List ℕ) (v : RunByte) (t : Bool) → (length run ≡ 0 → ⊥) → v ≡ runByteOf (getD run 0 0) → t ≡ noScrew v → t ≡ true → movedBy f a run ≡ lettersFrom run 0 0 0
+pub front-letters : (f : Fold) (a : Axis) (run : List ℕ) (v : RunByte) (t : Bool) → (length run ≡ 0 → ⊥) → v ≡ runByteOf (getD run 0 0) → t ≡ noScrew v
+    → t ≡ true → movedBy f a run ≡ lettersFrom run 0 0 0
 front-letters f a run v t h w e n =
     ap (movedBy f a) (front run h)
     ∙ moved-letters f a (getD run 0 0) (rest run) (ap noScrew (sym w) ∙ sym e ∙ n)
     ∙ ap (λ (l : List ℕ). lettersFrom l 0 0 0) (sym (front run h))
 
-pub front-wrong : (f : Fold) (a : Axis) (run : List ℕ) (v : RunByte) (t : Bool) → (length run ≡ 0 → ⊥) → v ≡ runByteOf (getD run 0 0) → t ≡ noScrew v → t ≡ false → screwRight f a (screwDigit v) ≡ false → movedBy f a run ≡ WrongDigit
+pub front-wrong : (f : Fold) (a : Axis) (run : List ℕ) (v : RunByte) (t : Bool) → (length run ≡ 0 → ⊥) → v ≡ runByteOf (getD run 0 0) → t ≡ noScrew v
+    → t ≡ false → screwRight f a (screwDigit v) ≡ false → movedBy f a run ≡ WrongDigit
 front-wrong f a run v t h w e n r =
     ap (movedBy f a) (front run h)
     ∙ moved-wrong f a (getD run 0 0) (rest run) (ap noScrew (sym w) ∙ sym e ∙ n) (ap (λ (x : RunByte). screwRight f a (screwDigit x)) (sym w) ∙ r)
 
-pub front-screw : (f : Fold) (a : Axis) (run : List ℕ) (v : RunByte) (t : Bool) → (length run ≡ 0 → ⊥) → v ≡ runByteOf (getD run 0 0) → t ≡ noScrew v → t ≡ false → screwRight f a (screwDigit v) ≡ true → movedBy f a run ≡ lettersFrom (rest run) 0 0 (12 * screwDigit v / foldNumber f)
+pub front-screw : (f : Fold) (a : Axis) (run : List ℕ) (v : RunByte) (t : Bool) → (length run ≡ 0 → ⊥) → v ≡ runByteOf (getD run 0 0) → t ≡ noScrew v
+    → t ≡ false → screwRight f a (screwDigit v) ≡ true → movedBy f a run ≡ lettersFrom (rest run) 0 0 (12 * screwDigit v / foldNumber f)
 front-screw f a run v t h w e n r =
     ap (movedBy f a) (front run h)
     ∙ moved-screw f a (getD run 0 0) (rest run) (ap noScrew (sym w) ∙ sym e ∙ n) (ap (λ (x : RunByte). screwRight f a (screwDigit x)) (sym w) ∙ r)

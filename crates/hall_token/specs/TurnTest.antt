@@ -78,8 +78,10 @@ sameMatrix A B =
 matrix-true : (A B : Matrix) → sameMatrix A B ≡ true → A ≡ B
 unfolding sameMatrix
 matrix-true A B e =
-    let first = and-eq-true-iff (sameThree (A .xx) (A .xy) (A .xz) (B .xx) (B .xy) (B .xz)) (sameThree (A .yx) (A .yy) (A .yz) (B .yx) (B .yy) (B .yz) && sameThree (A .zx) (A .zy) (A .zz) (B .zx) (B .zy) (B .zz)) .0 e in
-    let rest = and-eq-true-iff (sameThree (A .yx) (A .yy) (A .yz) (B .yx) (B .yy) (B .yz)) (sameThree (A .zx) (A .zy) (A .zz) (B .zx) (B .zy) (B .zz)) .0 (first .1) in
+    let first = and-eq-true-iff (sameThree (A .xx) (A .xy) (A .xz) (B .xx) (B .xy) (B .xz)) (sameThree (A .yx) (A .yy) (A .yz) (B .yx) (B .yy)
+    (B .yz) && sameThree (A .zx) (A .zy) (A .zz) (B .zx) (B .zy) (B .zz)) .0 e in
+    let rest = and-eq-true-iff (sameThree (A .yx) (A .yy) (A .yz) (B .yx) (B .yy) (B .yz)) (sameThree (A .zx) (A .zy) (A .zz) (B .zx) (B .zy)
+    (B .zz)) .0 (first .1) in
     let p = three-true (A .xx) (A .xy) (A .xz) (B .xx) (B .xy) (B .xz) (first .0) in
     let q = three-true (A .yx) (A .yy) (A .yz) (B .yx) (B .yy) (B .yz) (rest .0) in
     let r = three-true (A .zx) (A .zy) (A .zz) (B .zx) (B .zy) (B .zz) (rest .1) in
@@ -204,7 +206,8 @@ positiveAt v A d = nonnegative (volume v (axisVector None d) (act A (axisVector 
 unfoldable pub positive : Vector → Matrix → Bool
 positive v A = positiveAt v A X && (positiveAt v A Y && (positiveAt v A Z && positiveAt v A Diagonal))
 
-positive-exact : (v : Vector) (A : Matrix) → (positive v A ≡ true) ↔ ((d : Direction) → (n : ℕ) × (volume v (axisVector None d) (act A (axisVector None d)) ≡ pos n))
+positive-exact : (v : Vector) (A : Matrix) → (positive v A ≡ true) ↔ ((d : Direction) → (n : ℕ)
+    × (volume v (axisVector None d) (act A (axisVector None d)) ≡ pos n))
 unfolding positive positiveAt
 positive-exact v A = ((λ e d. at d .0 (each e d)), λ h. rw (at X .1 (h X), at Y .1 (h Y), at Z .1 (h Z), at Diagonal .1 (h Diagonal)))
   where
@@ -233,7 +236,8 @@ positive-exact v A = ((λ e d. at d .0 (each e d)), λ h. rw (at X .1 (h X), at 
 unfoldable pub about : Vector → Matrix → Bool
 about v A = not (sameVector v origin) && (sameVector (act A v) v && positive v A)
 
-about-exact : (v : Vector) (A : Matrix) → (about v A ≡ true) ↔ ((v ≢ origin) × (act A v ≡ v) × ((d : Direction) → (n : ℕ) × (volume v (axisVector None d) (act A (axisVector None d)) ≡ pos n)))
+about-exact : (v : Vector) (A : Matrix) → (about v A ≡ true) ↔ ((v ≢ origin) × (act A v ≡ v)
+    × ((d : Direction) → (n : ℕ) × (volume v (axisVector None d) (act A (axisVector None d)) ≡ pos n)))
 unfolding about
 about-exact v A =
     let axis-test = vector-exact v origin in

@@ -86,8 +86,10 @@ direction-again Diagonal = refl
 listed-for : (f : Fold) (a : Axis) (t : Listed) → isFor f a t ≡ true → (f ≡ t .fold) × (a ≡ t .about)
 unfolding isFor
 listed-for f a t e =
-    let first = and-eq-true-iff (eqb (foldNumber f) (foldNumber (t .fold))) (eqb (markNumber (a .mark)) (markNumber (t .about .mark)) && eqb (directionNumber (a .direction)) (directionNumber (t .about .direction))) .0 e in
-    let rest = and-eq-true-iff (eqb (markNumber (a .mark)) (markNumber (t .about .mark))) (eqb (directionNumber (a .direction)) (directionNumber (t .about .direction))) .0 (first .1) in
+    let first = and-eq-true-iff (eqb (foldNumber f) (foldNumber (t .fold))) (eqb (markNumber (a .mark)) (markNumber (t .about .mark)) && eqb
+    (directionNumber (a .direction)) (directionNumber (t .about .direction))) .0 e in
+    let rest = and-eq-true-iff (eqb (markNumber (a .mark)) (markNumber (t .about .mark))) (eqb (directionNumber (a .direction))
+    (directionNumber (t .about .direction))) .0 (first .1) in
     let f≡ = sym (fold-again f) ∙ ap numberedFold (eqb-true _ _ (first .0)) ∙ fold-again (t .fold) in
     let m≡ = sym (mark-again (a .mark)) ∙ ap numberedMark (eqb-true _ _ (rest .0)) ∙ mark-again (t .about .mark) in
     let d≡ = sym (direction-again (a .direction)) ∙ ap numberedDirection (eqb-true _ _ (rest .1)) ∙ direction-again (t .about .direction) in

@@ -144,7 +144,8 @@ module _ {A G : Type 0} (same : A → A → Bool) (_·_ : A → G → A) (unit :
       → Holds taken (x ∷ waiting) → Holds (taken ++ x ∷ []) (waiting ++ r)
 
   -- what is kept holds at the end of a run
-  run-keeps : (Holds : List A → List A → Type 0) → Kept Holds → (n : ℕ) (taken waiting l : List A) → Holds taken waiting → run n taken waiting ≡ some l → Holds l []
+  run-keeps : (Holds : List A → List A → Type 0) → Kept Holds → (n : ℕ) (taken waiting l : List A) → Holds taken waiting → run n taken waiting ≡ some l
+      → Holds l []
   unfolding run
   run-keeps Holds keeps zero taken [] l h p = let e : taken ≡ l = cc in rw e at h
   run-keeps Holds keeps zero taken (x ∷ waiting) l h p = let e : _≡_ {A = ℕ} 0 1 = cc in absurd (omega arith)

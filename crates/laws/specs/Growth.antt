@@ -186,7 +186,8 @@ module _ {A B G H : Type 0} (sameA alikeA : A → A → Bool) (sameB alikeB : B 
           (turns-image x gens s fine h)
           (λ t q. grow-image n (suc i) t (turns-fine x gens s t fine h q)) in
           rw (length-map (s .found) f, image-at f (s .found) i unit, more)
-          (more-or-done (ltb i (length (s .found))) (bind (turns sameA alikeA _·_ limit x (map tag gens) s) (grow sameA alikeA _·_ limit unit (map tag gens) n (suc i))) s)
+          (more-or-done (ltb i (length (s .found))) (bind (turns sameA alikeA _·_ limit x (map tag gens) s)
+          (grow sameA alikeA _·_ limit unit (map tag gens) n (suc i))) s)
         where
           more-or-done : (b : Bool) (o : Option (Growth A)) (s : Growth A)
               → cond b (Option·map (imageGrowth f) o) (some (imageGrowth f s)) ≡ Option·map (imageGrowth f) (cond b o (some s))

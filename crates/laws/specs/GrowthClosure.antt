@@ -209,9 +209,12 @@ module _ {A G : Type 0} (same alike : A → A → Bool) (fine : A → Bool) (_�
             each-fine = λ k m. elim (cases m) [ inl q ↦ rw q f | inr q ↦ X .each-fine k q ];
             within = X .within;
             each-step = λ r. X .each-step r ∙ append-snoc (s .steps) (place same p (s .found)) (map (λ k. place same (x ∗ k) (t .found ++ r)) gens)
-                ∙ ap (λ n. s .steps ++ n ∷ map (λ k. place same (x ∗ k) (t .found ++ r)) gens) (sym (again-at p (s .found) (X .added) (t .found) r (X .grows) h));
-            each-steady = λ r. X .each-steady r ∙ and-assoc (s .steady) (alike p (getD (s .found) (place same p (s .found)) p)) (all (λ k. agrees (t .found ++ r) (x ∗ k)) gens)
-                ∙ ap (λ b. s .steady && (b && all (λ k. agrees (t .found ++ r) (x ∗ k)) gens)) (sym (again-agrees p (s .found) (X .added) (t .found) r (X .grows) h));
+                ∙ ap (λ n. s .steps ++ n ∷ map (λ k. place same (x ∗ k) (t .found ++ r)) gens) (sym
+                (again-at p (s .found) (X .added) (t .found) r (X .grows) h));
+            each-steady = λ r. X .each-steady r ∙ and-assoc (s .steady) (alike p (getD (s .found) (place same p (s .found)) p)) (all
+                (λ k. agrees (t .found ++ r) (x ∗ k)) gens)
+                ∙ ap (λ b. s .steady && (b && all (λ k. agrees (t .found ++ r) (x ∗ k)) gens)) (sym
+                (again-agrees p (s .found) (X .added) (t .found) r (X .grows) h));
           }
       turned-extends {x} {t} (more {g} {gens} {s} f n h later) e =
           let X = turned-extends later e in
@@ -225,7 +228,8 @@ module _ {A G : Type 0} (same alike : A → A → Bool) (fine : A → Bool) (_�
             each-step = λ r. X .each-step r ∙ append-snoc (s .steps) (place same p (s .found)) (map (λ k. place same (x ∗ k) (t .found ++ r)) gens)
                 ∙ ap (λ n. s .steps ++ n ∷ map (λ k. place same (x ∗ k) (t .found ++ r)) gens) (sym (new-at p (s .found) (X .added) (t .found) r (X .grows) n));
             each-steady = λ r. X .each-steady r
-                ∙ ap (λ b. s .steady && (b && all (λ k. agrees (t .found ++ r) (x ∗ k)) gens)) (sym (new-agrees p (s .found) (X .added) (t .found) r (X .grows) n));
+                ∙ ap (λ b. s .steady && (b && all (λ k. agrees (t .found ++ r) (x ∗ k)) gens)) (sym
+                (new-agrees p (s .found) (X .added) (t .found) r (X .grows) n));
           }
 
       -- where every product is allowed and the list stays within the limit, the steps give an answer
@@ -239,7 +243,8 @@ module _ {A G : Type 0} (same alike : A → A → Bool) (fine : A → Bool) (_�
       turned-ends (full a n k) each (old t f) within = absurd (n t)
       turned-ends (full a n k) each (new m f) within = absurd (omega (arith, simp length-append at within))
       turned-ends (more a n k later) each (old t f) within = absurd (n t)
-      turned-ends {x} (more {g} {s} a n k later) each (new {r} m f) within = turned-ends later (λ h q. each h (there q)) f (rw (append-snoc (s .found) (x ∗ g) r) within)
+      turned-ends {x} (more {g} {s} a n k later) each (new {r} m f) within =
+          turned-ends later (λ h q. each h (there q)) f (rw (append-snoc (s .found) (x ∗ g) r) within)
 
       module _ (unit : A) (gens : List G) where
         -- what a growth from the elements that wait does, beside the run of the closure
@@ -311,9 +316,11 @@ module _ {A G : Type 0} (same alike : A → A → Bool) (fine : A → Bool) (_�
             rw (← z) (grew-done (suc n) taken s e refl)
         grow-sound (suc n) taken (x ∷ waiting) s t e total h q =
             let (at-x, in-list) = turn-of taken waiting x s e in
-            let (u, first, rest) = bind-eq-some-iff (turns same alike allowed limit x gens s) (grow same alike allowed limit unit gens n (suc (length taken))) .0 (rw (in-list, at-x) at q) in
+            let (u, first, rest) = bind-eq-some-iff (turns same alike allowed limit x gens s) (grow same alike allowed limit unit gens n
+            (suc (length taken))) .0 (rw (in-list, at-x) at q) in
             let X = turned-extends (turned x gens s) first in
-            let joined : u .found ≡ (taken ++ x ∷ []) ++ (waiting ++ X .added) = X .grows ∙ ap (λ l. l ++ X .added) e ∙ sym (regroup taken waiting (X .added) x) in
+            let joined : u .found ≡ (taken ++ x ∷ []) ++ (waiting ++ X .added) =
+            X .grows ∙ ap (λ l. l ++ X .added) e ∙ sym (regroup taken waiting (X .added) x) in
             grew-more n taken waiting x s u t e X
             (grow-sound n (taken ++ x ∷ []) (waiting ++ X .added) u t joined (omega (arith, one-more taken x)) (X .within h) (rw (one-more taken x) rest))
 
@@ -377,10 +384,15 @@ module _ {A G : Type 0} (same alike : A → A → Bool) (fine : A → Bool) (_�
           grown-ends : (l : List A) → closure same _∗_ unit gens limit ≡ some l → ((x : A) (g : G) → Mem x l → Mem g gens → fine (x ∗ g) ≡ true)
               → (t : Growth A) × (grown same alike allowed limit unit gens ≡ some t)
           unfolding grown closure
-          grown-ends l p each = grow-ends limit [] (unit ∷ []) l (record { found = unit ∷ []; steps = []; steady = true }) refl p (closure-length same _∗_ unit gens limit l p) each
+          grown-ends l p each = grow-ends limit [] (unit ∷ []) l (record {
+            found = unit ∷ [];
+            steps = [];
+            steady = true;
+          }) refl p (closure-length same _∗_ unit gens limit l p) each
 
           -- where the closure ends with allowed members, the growth ends with them
-          closure→grown : (l : List A) → closure same _∗_ unit gens limit ≡ some l → T (all fine l) → grown same alike allowed limit unit gens ≡ some (described gens l)
+          closure→grown : (l : List A) → closure same _∗_ unit gens limit ≡ some l → T (all fine l)
+              → grown same alike allowed limit unit gens ≡ some (described gens l)
           closure→grown l p h =
               let (t, q) = ends in
               let (c, f, e) = grown→closure t q in

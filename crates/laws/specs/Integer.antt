@@ -81,7 +81,27 @@ pub neg-nought : negℤ nought ≡ nought
 unfolding nought
 neg-nought = refl
 
-pub ruleset ring = (distribute-right, distribute-left, neg-*ℤ, *ℤ-neg, negℤ-+ℤ, negℤ-negℤ, *ℤ-assoc, *ℤ-comm, *ℤ-left, +ℤ-assoc, +ℤ-comm, +ℤ-left, nought-*ℤ, *ℤ-nought, nought-+ℤ, +ℤ-nought, neg-nought, one-*ℤ, *ℤ-one)
+pub ruleset ring = (
+  distribute-right,
+  distribute-left,
+  neg-*ℤ,
+  *ℤ-neg,
+  negℤ-+ℤ,
+  negℤ-negℤ,
+  *ℤ-assoc,
+  *ℤ-comm,
+  *ℤ-left,
+  +ℤ-assoc,
+  +ℤ-comm,
+  +ℤ-left,
+  nought-*ℤ,
+  *ℤ-nought,
+  nought-+ℤ,
+  +ℤ-nought,
+  neg-nought,
+  one-*ℤ,
+  *ℤ-one,
+)
 
 -- The difference of two integers, shut, so that a sum of such differences becomes one of them.
 infixl 6 _⊖_

@@ -110,7 +110,8 @@ module _ {A : Type 0} (same : A → A → Bool) (_≈_ : A → A → Type 0) (Ok
 
     -- an inverse on the left, up to the key, is one on the right
     key-inverse-right : (y w : A) → Reached _·_ unit gens y → Reached _·_ unit gens w → T (same (w · y) unit) → T (same (y · w) unit)
-    key-inverse-right y w r q s = M .key-cancel (y · w) unit y (is-ok (reached-times r q)) (M .monoid .ok-unit) (is-ok r) (rw (regroup, M .monoid .left-unit y (is-ok r)) around)
+    key-inverse-right y w r q s = M .key-cancel (y · w) unit y (is-ok (reached-times r q)) (M .monoid .ok-unit) (is-ok r) (rw
+        (regroup, M .monoid .left-unit y (is-ok r)) around)
       where
         regroup : y · w · y ≡ y · (w · y)
         regroup = M .monoid .associative y w y (is-ok r) (is-ok q) (is-ok r)

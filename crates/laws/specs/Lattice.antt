@@ -85,7 +85,8 @@ without-repeats : (l : List Triple) → T (withoutRepeats l) → Distinct sameTr
 unfolding withoutRepeats
 without-repeats [] t = nil
 without-repeats (s ∷ l) t =
-    cons (T-not (has sameTriple s l) (and-left (not (has sameTriple s l)) (withoutRepeats l) t)) (without-repeats l (and-right (not (has sameTriple s l)) (withoutRepeats l) t))
+    cons (T-not (has sameTriple s l) (and-left (not (has sameTriple s l)) (withoutRepeats l) t)) (without-repeats l
+    (and-right (not (has sameTriple s l)) (withoutRepeats l) t))
 
 below-twelve : (t : Triple) → T (belowTwelve t) → Reduced t
 unfolding belowTwelve
@@ -98,7 +99,8 @@ unfolding arePoints keepsSums
 are-points l t =
     record {
       holds-zero = has→Mem sameTriple triple-decides (and-left (has sameTriple zeroTriple l) _ t);
-      sum = λ {s} {t = u} m k. has→Mem sameTriple triple-decides (all-member (λ u. has sameTriple (s ⊕ u) l) (and-right (has sameTriple (minus s) l) _ (sums m)) k);
+      sum = λ {s} {t = u} m k. has→Mem sameTriple triple-decides (all-member (λ u. has sameTriple (s ⊕ u) l)
+          (and-right (has sameTriple (minus s) l) _ (sums m)) k);
       negative = λ {t = s} m. has→Mem sameTriple triple-decides (and-left (has sameTriple (minus s) l) _ (sums m));
       below = λ {t = s} m. below-twelve s (and-left (belowTwelve s) _ (all-member (keepsSums l) each m));
       distinct = without-repeats l (and-left (withoutRepeats l) _ rest);
@@ -204,7 +206,8 @@ unfolding leastRank
 least-rank-at [] t = inr refl
 least-rank-at (q ∷ l) t = either (decLe (rank (t ⊕ q)) (leastRank l t)) (least-rank-at l t)
   where
-    either : Dec (rank (t ⊕ q) ≤ leastRank l t) → ((p : Triple) × Mem p l × (leastRank l t ≡ rank (t ⊕ p))) ⊎ (leastRank l t ≡ 1728) → ((p : Triple) × Mem p (q ∷ l) × (leastRank (q ∷ l) t ≡ rank (t ⊕ p))) ⊎ (leastRank (q ∷ l) t ≡ 1728)
+    either : Dec (rank (t ⊕ q) ≤ leastRank l t) → ((p : Triple) × Mem p l × (leastRank l t ≡ rank (t ⊕ p))) ⊎ (leastRank l t ≡ 1728)
+        → ((p : Triple) × Mem p (q ∷ l) × (leastRank (q ∷ l) t ≡ rank (t ⊕ p))) ⊎ (leastRank (q ∷ l) t ≡ 1728)
     either (yes h) r = inl (q, here refl, omega arith)
     either (no h) (inl (p, m, e)) = inl (p, there m, omega arith)
     either (no h) (inr e) = inr (omega arith)
@@ -233,7 +236,11 @@ difference-reduced t u =
 
 module _ (l : List Triple) (L : Points l) where
   least-rank-is : (t : Triple) → (p : Triple) × Mem p l × (leastRank l t ≡ rank (t ⊕ p))
-  least-rank-is t = elim (least-rank-at l t) [ inl h ↦ h | inr h ↦ absurd (omega (arith, least-rank-le l t (L .holds-zero), rank-lt _ (⊕-reduced t zeroTriple))) ]
+  least-rank-is t = elim (least-rank-at l t) [
+    | inl h ↦ h
+    | inr h ↦ absurd
+        (omega (arith, least-rank-le l t (L .holds-zero), rank-lt _ (⊕-reduced t zeroTriple)))
+  ]
 
   smallest-is : (t : Triple) → (p : Triple) × Mem p l × (smallest l t ≡ t ⊕ p)
   unfolding smallest
@@ -252,7 +259,8 @@ module _ (l : List Triple) (L : Points l) where
   unfolding smallest
   smallest-rank t u h m =
       let (p, k, e) = least-rank-is t in
-      let there : t ⊕ reduced (plus (lifted u) (opposite (lifted t))) ≡ u = ap (λ s. t ⊕ s) (difference-reduced t u ∙ ap (λ s. s ⊕ minus (reduced (lifted t))) (reduced-lifted u h)) ∙ moved-there t u h in
+      let there : t ⊕ reduced (plus (lifted u) (opposite (lifted t))) ≡ u =
+      ap (λ s. t ⊕ s) (difference-reduced t u ∙ ap (λ s. s ⊕ minus (reduced (lifted t))) (reduced-lifted u h)) ∙ moved-there t u h in
       let r : rank (unrank (leastRank l t)) ≡ leastRank l t = ap (λ n. rank (unrank n)) e ∙ ap rank (unrank-rank (t ⊕ p) (⊕-reduced t p)) ∙ sym e in
       rw (r, ← there) (least-rank-le l t m)
 
@@ -282,7 +290,8 @@ module _ (l : List Triple) (L : Points l) where
           (rw e (smallest-congruent u))
 
   -- Only one triple is below 12 and in the class, with no triple below 12 of the class before it.
-  pub smallest-unique : (t s : Triple) → Reduced s → Congruent l (lifted s) (lifted t) → ((u : Triple) → Reduced u → Congruent l (lifted u) (lifted t) → ¬ Before u s) → s ≡ smallest l t
+  pub smallest-unique : (t s : Triple) → Reduced s → Congruent l (lifted s) (lifted t)
+      → ((u : Triple) → Reduced u → Congruent l (lifted u) (lifted t) → ¬ Before u s) → s ≡ smallest l t
   smallest-unique t s h c least = elim (decLt (rank (smallest l t)) (rank s)) [
     | yes r ↦ absurd (least (smallest l t) (smallest-reduced t) (smallest-congruent t) (before-rank (smallest l t) s (smallest-reduced t) h .1 r))
     | no r ↦ rank-injective s (smallest l t) h (smallest-reduced t) (omega (arith, smallest-rank t s h c))

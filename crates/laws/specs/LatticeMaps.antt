@@ -37,7 +37,8 @@ module _ (l : List Triple) (L : Points l) where
     (λ t v m. mem-cast (reduced-act R v) (has→Mem sameTriple triple-decides (all-member (λ p. has sameTriple (turned R p) l) t m))),
     λ into. member-all _ l (λ p m.
         Mem→has sameTriple (equality-equivalence sameTriple triple-decides)
-        (mem-cast (ap (turned R) (sym (reduced-lifted p (L .below m))) ∙ sym (reduced-act R (lifted p))) (into (lifted p) (mem-cast (reduced-lifted p (L .below m)) m)))),
+        (mem-cast (ap (turned R) (sym (reduced-lifted p (L .below m))) ∙ sym (reduced-act R (lifted p)))
+        (into (lifted p) (mem-cast (reduced-lifted p (L .below m)) m)))),
   )
 
   into-point : (R : Matrix) → MapsInto l R → (p : Triple) → Mem p l → T (has sameTriple (turned R p) l)
@@ -88,7 +89,8 @@ abs-unit = refl
 abs-power : (R : Matrix) (n : ℕ) → natAbs (determinant (power R n)) ≡ natAbs (determinant R) ^ n
 unfolding power
 abs-power R zero = abs-unit ∙ sym (pow-zero (natAbs (determinant R)))
-abs-power R (suc n) = ap natAbs (determinant-times R (power R n)) ∙ natAbs-*ℤ (determinant R) (determinant (power R n)) ∙ ap (λ (k : ℕ). natAbs (determinant R) * k) (abs-power R n) ∙ sym (pow-succ' (natAbs (determinant R)) n)
+abs-power R (suc n) = ap natAbs (determinant-times R (power R n)) ∙ natAbs-*ℤ (determinant R) (determinant (power R n))
+    ∙ ap (λ (k : ℕ). natAbs (determinant R) * k) (abs-power R n) ∙ sym (pow-succ' (natAbs (determinant R)) n)
 
 -- Three times the edge of twelve: 12³ = 1728.
 abs-cells : natAbs (determinant (scalar (pos 12))) ≡ 1728
@@ -106,7 +108,11 @@ eleventh-power zero k h = absurd (omega arith)
 eleventh-power (suc zero) k h = refl
 eleventh-power (suc (suc d)) zero h = absurd (omega (arith, mul-zero (suc (suc d) ^ 11)))
 eleventh-power (suc (suc d)) (suc k) h =
-    absurd (omega (arith, mul-le-mul {n₁ = 2 ^ 11} {m₁ = 1} {n₂ = suc (suc d) ^ 11} {m₂ = suc k} (pow-le-pow-left {n = 2} {m = suc (suc d)} (omega arith) 11) (omega arith)))
+    absurd (omega (
+      arith,
+      mul-le-mul {n₁ = 2 ^ 11} {m₁ = 1} {n₂ = suc (suc d) ^ 11} {m₂ = suc k}
+          (pow-le-pow-left {n = 2} {m = suc (suc d)} (omega arith) 11) (omega arith),
+    ))
 
 -- Three vectors as the columns of a matrix.
 columns : Vector → Vector → Vector → Matrix

@@ -187,8 +187,13 @@ earlier-precedes n s t e = elim (decLt (ones t) (ones s)) [
   | no h ↦ elim (decLt (ones s) (ones t)) [
     | yes k ↦ absurd (true≢false (sym (rw (le-ltb (ones t) (ones s) (omega arith), lt-ltb (ones s) (ones t) k) at e)))
     | no k ↦ elim (decLt (lowestDifference n s t) n) [
-      | yes l ↦ as-many (omega arith) (difference-held n s t l (rw (le-ltb (ones t) (ones s) (omega arith), le-ltb (ones s) (ones t) (omega arith), lt-ltb _ n l) at e))
-      | no l ↦ absurd (true≢false (sym (rw (le-ltb (ones t) (ones s) (omega arith), le-ltb (ones s) (ones t) (omega arith), le-ltb (lowestDifference n s t) n (omega arith)) at e)))
+      | yes l ↦ as-many (omega arith) (difference-held n s t l
+          (rw (le-ltb (ones t) (ones s) (omega arith), le-ltb (ones s) (ones t) (omega arith), lt-ltb _ n l) at e))
+      | no l ↦ absurd (true≢false (sym (rw (
+        le-ltb (ones t) (ones s) (omega arith),
+        le-ltb (ones s) (ones t) (omega arith),
+        le-ltb (lowestDifference n s t) n (omega arith),
+      ) at e)))
     ]
   ]
 ]
@@ -241,7 +246,8 @@ same-front true d = Lexᴰ·cons refl (raised-lexicographic d)
 same-front false d = raised-lexicographic d
 
 -- a set with no more members than another that holds the lowest difference has the lexicographically smaller list
-lower-first : (n s t i : ℕ) → i < n → onesIn n s ≤ onesIn n t → member s i ≡ true → member t i ≡ false → ((j : ℕ) → j < i → member s j ≡ member t j) → Lexᴰ _<_ (members n s) (members n t)
+lower-first : (n s t i : ℕ) → i < n → onesIn n s ≤ onesIn n t → member s i ≡ true → member t i ≡ false → ((j : ℕ) → j < i → member s j ≡ member t j)
+    → Lexᴰ _<_ (members n s) (members n t)
 lower-first zero s t i h c held not-held same = absurd (omega arith)
 lower-first (suc n) s t zero h c held not-held same =
     let few : onesIn (suc n) s ≡ 1 + onesIn n (s / 2) = onesIn-lowest n s ∙ rw held in

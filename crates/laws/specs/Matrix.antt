@@ -25,7 +25,8 @@ pub record Matrix : Type 0 where
 pub vector≡ : {v w : Vector} → v .x ≡ w .x → v .y ≡ w .y → v .z ≡ w .z → v ≡ w
 vector≡ p q r = λ i. record { x = p i; y = q i; z = r i }
 
-pub matrix≡ : {A B : Matrix} → A .xx ≡ B .xx → A .xy ≡ B .xy → A .xz ≡ B .xz → A .yx ≡ B .yx → A .yy ≡ B .yy → A .yz ≡ B .yz → A .zx ≡ B .zx → A .zy ≡ B .zy → A .zz ≡ B .zz → A ≡ B
+pub matrix≡ : {A B : Matrix} → A .xx ≡ B .xx → A .xy ≡ B .xy → A .xz ≡ B .xz → A .yx ≡ B .yx → A .yy ≡ B .yy → A .yz ≡ B .yz → A .zx ≡ B .zx
+    → A .zy ≡ B .zy → A .zz ≡ B .zz → A ≡ B
 matrix≡ xx xy xz yx yy yz zx zy zz =
     λ i. record { xx = xx i; xy = xy i; xz = xz i; yx = yx i; yy = yy i; yz = yz i; zx = zx i; zy = zy i; zz = zz i }
 
@@ -135,7 +136,8 @@ opposite-difference v w = simp ring
 pub difference-chain : (u v w : Vector) → plus (plus u (opposite v)) (plus v (opposite w)) ≡ plus u (opposite w)
 difference-chain u v w =
     plus-assoc u (opposite v) (plus v (opposite w)) ∙
-    ap (plus u) (sym (plus-assoc (opposite v) v (opposite w)) ∙ ap (λ x. plus x (opposite w)) (plus-comm (opposite v) v ∙ plus-opposite v) ∙ origin-plus (opposite w))
+    ap (plus u) (sym (plus-assoc (opposite v) v (opposite w)) ∙ ap (λ x. plus x (opposite w)) (plus-comm (opposite v) v ∙ plus-opposite v)
+    ∙ origin-plus (opposite w))
 
 -- ---- determinant and trace
 unfoldable pub trace : Matrix → ℤ
@@ -240,7 +242,9 @@ abbrev row-z : Matrix → Vector
 row-z A = record { x = A .zx; y = A .zy; z = A .zz }
 
 -- What three mixtures of the same three rows span.
-volume-mixed : (a b c d e f g h i : ℤ) (u v w : Vector) → volume (mix a b c u v w) (mix d e f u v w) (mix g h i u v w) ≡ (a *ℤ (e *ℤ i -ℤ f *ℤ h) -ℤ b *ℤ (d *ℤ i -ℤ f *ℤ g) +ℤ c *ℤ (d *ℤ h -ℤ e *ℤ g)) *ℤ volume u v w
+volume-mixed : (a b c d e f g h i : ℤ) (u v w : Vector)
+    → volume (mix a b c u v w) (mix d e f u v w) (mix g h i u v w)
+    ≡ (a *ℤ (e *ℤ i -ℤ f *ℤ h) -ℤ b *ℤ (d *ℤ i -ℤ f *ℤ g) +ℤ c *ℤ (d *ℤ h -ℤ e *ℤ g)) *ℤ volume u v w
 volume-mixed a b c d e f g h i u v w =
     let uuw = volume-twice u w in
     let uuv = volume-twice u v in
@@ -268,7 +272,37 @@ volume-mixed a b c d e f g h i u v w =
     let vuw = volume-swap v u w in
     let uwv = volume-turn u w v ∙ volume-turn w v u ∙ vuw in
     let wvu = volume-turn w v u ∙ vuw in
-    simp (volume-first, volume-second, volume-third, uuw, uuv, vvu, vvw, wwu, wwv, uvu, uwu, vuv, vwv, wuw, wvw, uww, vww, uvv, wvv, vuu, wuu, uuu, vvv, www, vwu, wuv, vuw, uwv, wvu) (simp ring)
+    simp (
+      volume-first,
+      volume-second,
+      volume-third,
+      uuw,
+      uuv,
+      vvu,
+      vvw,
+      wwu,
+      wwv,
+      uvu,
+      uwu,
+      vuv,
+      vwv,
+      wuw,
+      wvw,
+      uww,
+      vww,
+      uvv,
+      wvv,
+      vuu,
+      wuu,
+      uuu,
+      vvv,
+      www,
+      vwu,
+      wuv,
+      vuw,
+      uwv,
+      wvu,
+    ) (simp ring)
 
 -- The determinant of a product is the product of the determinants.
 pub determinant-times : (A B : Matrix) → determinant (times A B) ≡ determinant A *ℤ determinant B

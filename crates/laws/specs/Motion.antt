@@ -97,14 +97,17 @@ pub image-origin : (f : SpaceMotion) → image f origin ≡ f .translation
 unfolding image
 image-origin f = simp (act-origin, origin-plus)
 
-pub image-x : (f : SpaceMotion) → image f (record { x = one; y = nought; z = nought }) ≡ plus (record { x = f .rotation .xx; y = f .rotation .yx; z = f .rotation .zx }) (f .translation)
+pub image-x : (f : SpaceMotion) → image f (record { x = one; y = nought; z = nought })
+    ≡ plus (record { x = f .rotation .xx; y = f .rotation .yx; z = f .rotation .zx }) (f .translation)
 unfolding image act plus
 image-x f = simp ring
 
-pub image-y : (f : SpaceMotion) → image f (record { x = nought; y = one; z = nought }) ≡ plus (record { x = f .rotation .xy; y = f .rotation .yy; z = f .rotation .zy }) (f .translation)
+pub image-y : (f : SpaceMotion) → image f (record { x = nought; y = one; z = nought })
+    ≡ plus (record { x = f .rotation .xy; y = f .rotation .yy; z = f .rotation .zy }) (f .translation)
 unfolding image act plus
 image-y f = simp ring
 
-pub image-z : (f : SpaceMotion) → image f (record { x = nought; y = nought; z = one }) ≡ plus (record { x = f .rotation .xz; y = f .rotation .yz; z = f .rotation .zz }) (f .translation)
+pub image-z : (f : SpaceMotion) → image f (record { x = nought; y = nought; z = one })
+    ≡ plus (record { x = f .rotation .xz; y = f .rotation .yz; z = f .rotation .zz }) (f .translation)
 unfolding image act plus
 image-z f = simp ring

@@ -24,7 +24,8 @@ module _ (Spelt : List ℕ → Type 0) (text : List ℕ) where
   -- What starts well does so up to any earlier place.
   starts-earlier : (j k : ℕ) → j ≤ k → Starts Spelt (take k text) → Starts Spelt (take j text)
   starts-earlier j k h (rest, spelt) =
-      let split : take k text ≡ take j text ++ drop j (take k text) = sym (take-append-drop j (take k text)) ∙ ap (λ (l : List ℕ). l ++ drop j (take k text)) (take-take j k text h) in (
+      let split : take k text ≡ take j text ++ drop j (take k text) =
+      sym (take-append-drop j (take k text)) ∙ ap (λ (l : List ℕ). l ++ drop j (take k text)) (take-take j k text h) in (
         drop j (take k text) ++ rest,
         subst Spelt (ap (λ (l : List ℕ). l ++ rest) split ∙ append-assoc (take j text) (drop j (take k text)) rest) spelt,
       )

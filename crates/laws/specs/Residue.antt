@@ -72,7 +72,8 @@ residue-mul a b =
     integer-induction (λ x. residue (x *ℤ b) ≡ (residue x * residue b) % 12)
     (rw zero-*ℤ (omega arith))
     (λ x h. rw (sucℤ-*ℤ x b, residue-add (x *ℤ b) b, residue-suc x) (rw (h, remainder-times (residue x + 1) (residue b)) (omega arith)))
-    (λ x h. rw (predℤ-*ℤ x b, residue-add (x *ℤ b) (negℤ b), residue-pred x, residue-neg b, h, remainder-times (residue x + 11) (residue b)) (omega (arith, residue-lt b)))
+    (λ x h. rw (predℤ-*ℤ x b, residue-add (x *ℤ b) (negℤ b), residue-pred x, residue-neg b, h, remainder-times (residue x + 11) (residue b))
+    (omega (arith, residue-lt b)))
     a
 
 -- The residue of a difference of naturals: −1 is 11.

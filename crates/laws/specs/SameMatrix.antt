@@ -40,8 +40,11 @@ row-same a b c = both (sameInteger a a) _ (integer-same a) (both (sameInteger b 
 same-row : (a b c x y z : ℤ) → T (sameRow a b c x y z) → (a ≡ x) × (b ≡ y) × (c ≡ z)
 unfolding sameRow
 same-row a b c x y z t =
-    let rest = and-right (sameInteger a x) _ t in
-    (same-integer a x (and-left (sameInteger a x) _ t), same-integer b y (and-left (sameInteger b y) _ rest), same-integer c z (and-right (sameInteger b y) _ rest))
+    let rest = and-right (sameInteger a x) _ t in (
+      same-integer a x (and-left (sameInteger a x) _ t),
+      same-integer b y (and-left (sameInteger b y) _ rest),
+      same-integer c z (and-right (sameInteger b y) _ rest),
+    )
 
 -- whether two matrices are equal
 unfoldable pub sameMatrix : Matrix → Matrix → Bool

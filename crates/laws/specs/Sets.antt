@@ -421,7 +421,8 @@ unfolding onesIn
 onesIn-or-and zero s t = refl
 onesIn-or-and (suc n) s t =
     let ih = onesIn-or-and n s t in
-    let both : cond (member (bitOr s t) n) 1 0 + cond (member (bitAnd s t) n) 1 0 ≡ cond (member s n) 1 0 + cond (member t n) 1 0 = rw (member-or s t n, member-and s t n) (count-or-and (member s n) (member t n)) in
+    let both : cond (member (bitOr s t) n) 1 0 + cond (member (bitAnd s t) n) 1 0 ≡ cond (member s n) 1 0 + cond (member t n) 1 0 =
+    rw (member-or s t n, member-and s t n) (count-or-and (member s n) (member t n)) in
     omega (arith, onesIn-suc n (bitOr s t), onesIn-suc n (bitAnd s t), onesIn-suc n s, onesIn-suc n t)
 
 -- the empty set has no member to count
@@ -583,7 +584,8 @@ unfolding trailingZeros
 trailing-below zero s j h = absurd (omega arith)
 trailing-below (suc n) s j h = step (s % 2) refl j h (trailing-below n (s / 2))
   where
-    step : (d : ℕ) → s % 2 ≡ d → (j : ℕ) → j < under d (trailingZeros n (s / 2)) → ((j : ℕ) → j < trailingZeros n (s / 2) → member (s / 2) j ≡ false) → member s j ≡ false
+    step : (d : ℕ) → s % 2 ≡ d → (j : ℕ) → j < under d (trailingZeros n (s / 2)) → ((j : ℕ) → j < trailingZeros n (s / 2) → member (s / 2) j ≡ false)
+        → member s j ≡ false
     step zero e zero h ih = member-zero s ∙ ap (λ (k : ℕ). eqb k 1) e
     step zero e (suc j) h ih = member-suc s j ∙ ih j (omega arith)
     step (suc d) e j h ih = absurd (omega arith)
@@ -594,7 +596,8 @@ unfolding trailingZeros
 trailing-member zero s h = absurd (omega arith)
 trailing-member (suc n) s h = step (s % 2) refl h (trailing-member n (s / 2))
   where
-    step : (d : ℕ) → s % 2 ≡ d → under d (trailingZeros n (s / 2)) < suc n → (trailingZeros n (s / 2) < n → member (s / 2) (trailingZeros n (s / 2)) ≡ true) → member s (under d (trailingZeros n (s / 2))) ≡ true
+    step : (d : ℕ) → s % 2 ≡ d → under d (trailingZeros n (s / 2)) < suc n
+        → (trailingZeros n (s / 2) < n → member (s / 2) (trailingZeros n (s / 2)) ≡ true) → member s (under d (trailingZeros n (s / 2))) ≡ true
     step zero e h ih = member-suc s (trailingZeros n (s / 2)) ∙ ih (omega arith)
     step (suc d) e h ih = let one : s % 2 ≡ 1 = omega arith in member-zero s ∙ ap (λ (k : ℕ). eqb k 1) one
 

@@ -66,17 +66,20 @@ module _ (n e : ℕ) (table lent : List ℕ) (T : GroupTable n table e) (wide : 
 pub symbol-holds : (text lent : List ℕ) → 2304 ≤ length lent → Holds (ofSymbol (orderOf text)) (symbolCells text) (laid (symbolCells text) lent)
 symbol-holds text lent wide = record { first = λ n e. by-order n (orderOf text) refl e }
   where
-    by-order : (n : ℕ) (o : SymbolOrder) → orderOf text ≡ o → ofSymbol o ≡ Group n → (n ≤ 48) × (n * n ≤ length (laid (symbolCells text) lent)) × (take (n * n) (laid (symbolCells text) lent) ≡ symbolCells text)
+    by-order : (n : ℕ) (o : SymbolOrder) → orderOf text ≡ o → ofSymbol o ≡ Group n → (n ≤ 48) × (n * n ≤ length (laid (symbolCells text) lent))
+        × (take (n * n) (laid (symbolCells text) lent) ≡ symbolCells text)
     by-order n (symbol-order.Is m) p e =
         let same : m ≡ n = cc in
         laid-holds n 0 (symbolCells text) lent (symbol-cells-group text n (p ∙ ap symbol-order.Is same)) wide
     by-order n (symbol-order.Refused r) p e = let z : _≡_ {A = ℕ} 0 1 = cc in absurd (omega arith)
 
 -- and of a record that is read.
-pub record-holds : (bytes lent : List ℕ) → Bytes bytes → 2304 ≤ length lent → Holds (ofRecord (recordOrder bytes)) (recordCells bytes) (laid (recordCells bytes) lent)
+pub record-holds : (bytes lent : List ℕ) → Bytes bytes → 2304 ≤ length lent
+    → Holds (ofRecord (recordOrder bytes)) (recordCells bytes) (laid (recordCells bytes) lent)
 record-holds bytes lent b wide = record { first = λ n e. by-order n (recordOrder bytes) refl e }
   where
-    by-order : (n : ℕ) (o : RecordOrder) → recordOrder bytes ≡ o → ofRecord o ≡ Group n → (n ≤ 48) × (n * n ≤ length (laid (recordCells bytes) lent)) × (take (n * n) (laid (recordCells bytes) lent) ≡ recordCells bytes)
+    by-order : (n : ℕ) (o : RecordOrder) → recordOrder bytes ≡ o → ofRecord o ≡ Group n → (n ≤ 48) × (n * n ≤ length (laid (recordCells bytes) lent))
+        × (take (n * n) (laid (recordCells bytes) lent) ≡ recordCells bytes)
     by-order n (record-order.Is m) p e =
         let same : m ≡ n = cc in
         laid-holds n _ (recordCells bytes) lent (record-cells-group bytes b n (p ∙ ap record-order.Is same)) wide

@@ -38,17 +38,22 @@ holds-fits {s = s} {table = table} {cells = cells} h = by-source s refl
     by-source (Refused r) e = tt
 
 -- and what is answered on them is what is answered on the table;
-on-table : (s : Source) (table cells : List ℕ) → Holds s table cells → (f : ℕ → List ℕ → group-answer.Answer) → onSource s (λ n. f n (take (n * n) cells)) ≡ onSource s (λ n. f n table)
+on-table : (s : Source) (table cells : List ℕ) → Holds s table cells → (f : ℕ → List ℕ → group-answer.Answer)
+    → onSource s (λ n. f n (take (n * n) cells)) ≡ onSource s (λ n. f n table)
 on-table (Group n) table cells h f = ap (λ (t : List ℕ). ofTable (f n t)) (h .first n refl .2)
 on-table (Refused r) table cells h f = refl
 
-pub asked : {s given : Source} {table cells : List ℕ} → (s ≡ given) × Holds s table cells → (f : ℕ → List ℕ → group-answer.Answer) {r : Answer} → r ≡ onSource s (λ n. f n (take (n * n) cells)) → r ≡ onSource given (λ n. f n table)
+pub asked : {s given : Source} {table cells : List ℕ} → (s ≡ given) × Holds s table cells → (f : ℕ → List ℕ → group-answer.Answer) {r : Answer}
+    → r ≡ onSource s (λ n. f n (take (n * n) cells)) → r ≡ onSource given (λ n. f n table)
 asked {s = s} {table = table} {cells = cells} h f e = e ∙ on-table s table cells (h .1) f ∙ ap (λ (g : Source). onSource g (λ n. f n table)) (h .0)
 
 -- likewise what lent bytes hold.
-bytes-table : (s : Source) (table cells : List ℕ) → Holds s table cells → (lent : List ℕ) (f : ℕ → List ℕ → List ℕ) → bytesOn s lent (λ n. f n (take (n * n) cells)) ≡ bytesOn s lent (λ n. f n table)
+bytes-table : (s : Source) (table cells : List ℕ) → Holds s table cells → (lent : List ℕ) (f : ℕ → List ℕ → List ℕ)
+    → bytesOn s lent (λ n. f n (take (n * n) cells)) ≡ bytesOn s lent (λ n. f n table)
 bytes-table (Group n) table cells h lent f = ap (f n) (h .first n refl .2)
 bytes-table (Refused r) table cells h lent f = refl
 
-pub lent-asked : {s given : Source} {table cells : List ℕ} → (s ≡ given) × Holds s table cells → (lent : List ℕ) (f : ℕ → List ℕ → List ℕ) {b : List ℕ} → b ≡ bytesOn s lent (λ n. f n (take (n * n) cells)) → b ≡ bytesOn given lent (λ n. f n table)
-lent-asked {s = s} {table = table} {cells = cells} h lent f e = e ∙ bytes-table s table cells (h .1) lent f ∙ ap (λ (g : Source). bytesOn g lent (λ n. f n table)) (h .0)
+pub lent-asked : {s given : Source} {table cells : List ℕ} → (s ≡ given) × Holds s table cells → (lent : List ℕ) (f : ℕ → List ℕ → List ℕ) {b : List ℕ}
+    → b ≡ bytesOn s lent (λ n. f n (take (n * n) cells)) → b ≡ bytesOn given lent (λ n. f n table)
+lent-asked {s = s} {table = table} {cells = cells} h lent f e =
+    e ∙ bytes-table s table cells (h .1) lent f ∙ ap (λ (g : Source). bytesOn g lent (λ n. f n table)) (h .0)

@@ -95,7 +95,8 @@ pub fn normalizer(bytes: &[u8], set: u64) -> Answer
 // The permutation of a subgroup's members by an element of its normalizer, into a lent list of bytes; the answer is the count of members.
 pub fn normalizer_action(bytes: &[u8], set: u64, element: usize, positions: &mut [u8]) -> Answer
     ensures { λ r. ⌜ (r ≡ onRecord (now (bytes .entry)) (λ (n : ℕ) (t : List ℕ). permutationEntry n t set element (now (positions .entry))))
-        × (now (positions .exit) ≡ bytesOnRecord (now (bytes .entry)) (now (positions .entry)) (λ (n : ℕ) (t : List ℕ). permutationList n t set element (now (positions .entry)))) ⌝ }
+        × (now (positions .exit) ≡ bytesOnRecord (now (bytes .entry)) (now (positions .entry))
+        (λ (n : ℕ) (t : List ℕ). permutationList n t set element (now (positions .entry)))) ⌝ }
 {
     let mut cells = [0u8; 2304];
     let source = table(bytes, &mut cells);
@@ -105,8 +106,10 @@ pub fn normalizer_action(bytes: &[u8], set: u64, element: usize, positions: &mut
 // A subgroup's conjugates into lent slots of eight bytes and their conjugators into a lent list of bytes; the answer is their count.
 pub fn conjugates(bytes: &[u8], set: u64, sets: &mut [u8], conjugators: &mut [u8]) -> Answer
     ensures { λ r. ⌜ (r ≡ onRecord (now (bytes .entry)) (λ (n : ℕ) (t : List ℕ). conjugatesEntry n t set (now (sets .entry)) (now (conjugators .entry))))
-        × (now (sets .exit) ≡ bytesOnRecord (now (bytes .entry)) (now (sets .entry)) (λ (n : ℕ) (t : List ℕ). conjugatesList n t set (now (sets .entry)) (now (conjugators .entry))))
-        × (now (conjugators .exit) ≡ bytesOnRecord (now (bytes .entry)) (now (conjugators .entry)) (λ (n : ℕ) (t : List ℕ). conjugatorsList n t set (now (sets .entry)) (now (conjugators .entry)))) ⌝ }
+        × (now (sets .exit) ≡ bytesOnRecord (now (bytes .entry)) (now (sets .entry))
+        (λ (n : ℕ) (t : List ℕ). conjugatesList n t set (now (sets .entry)) (now (conjugators .entry))))
+        × (now (conjugators .exit) ≡ bytesOnRecord (now (bytes .entry)) (now (conjugators .entry))
+        (λ (n : ℕ) (t : List ℕ). conjugatorsList n t set (now (sets .entry)) (now (conjugators .entry)))) ⌝ }
 {
     let mut cells = [0u8; 2304];
     let source = table(bytes, &mut cells);

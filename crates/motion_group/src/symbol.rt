@@ -93,7 +93,8 @@ pub fn normalizer(text: &[u8], set: u64) -> Answer
 // The permutation of a subgroup's members by an element of its normalizer, into a lent list of bytes; the answer is the count of members.
 pub fn normalizer_action(text: &[u8], set: u64, element: usize, positions: &mut [u8]) -> Answer
     ensures { λ r. ⌜ (r ≡ onSymbol (now (text .entry)) (λ (n : ℕ) (t : List ℕ). permutationEntry n t set element (now (positions .entry))))
-        × (now (positions .exit) ≡ bytesOnSymbol (now (text .entry)) (now (positions .entry)) (λ (n : ℕ) (t : List ℕ). permutationList n t set element (now (positions .entry)))) ⌝ }
+        × (now (positions .exit) ≡ bytesOnSymbol (now (text .entry)) (now (positions .entry))
+        (λ (n : ℕ) (t : List ℕ). permutationList n t set element (now (positions .entry)))) ⌝ }
 {
     let mut cells = [0u8; 2304];
     let source = table(text, &mut cells);
@@ -103,8 +104,10 @@ pub fn normalizer_action(text: &[u8], set: u64, element: usize, positions: &mut 
 // A subgroup's conjugates into lent slots of eight bytes and their conjugators into a lent list of bytes; the answer is their count.
 pub fn conjugates(text: &[u8], set: u64, sets: &mut [u8], conjugators: &mut [u8]) -> Answer
     ensures { λ r. ⌜ (r ≡ onSymbol (now (text .entry)) (λ (n : ℕ) (t : List ℕ). conjugatesEntry n t set (now (sets .entry)) (now (conjugators .entry))))
-        × (now (sets .exit) ≡ bytesOnSymbol (now (text .entry)) (now (sets .entry)) (λ (n : ℕ) (t : List ℕ). conjugatesList n t set (now (sets .entry)) (now (conjugators .entry))))
-        × (now (conjugators .exit) ≡ bytesOnSymbol (now (text .entry)) (now (conjugators .entry)) (λ (n : ℕ) (t : List ℕ). conjugatorsList n t set (now (sets .entry)) (now (conjugators .entry)))) ⌝ }
+        × (now (sets .exit) ≡ bytesOnSymbol (now (text .entry)) (now (sets .entry))
+        (λ (n : ℕ) (t : List ℕ). conjugatesList n t set (now (sets .entry)) (now (conjugators .entry))))
+        × (now (conjugators .exit) ≡ bytesOnSymbol (now (text .entry)) (now (conjugators .entry))
+        (λ (n : ℕ) (t : List ℕ). conjugatorsList n t set (now (sets .entry)) (now (conjugators .entry)))) ⌝ }
 {
     let mut cells = [0u8; 2304];
     let source = table(text, &mut cells);

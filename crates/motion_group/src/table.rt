@@ -100,7 +100,8 @@ pub(crate) fn permutation_in(
 ) -> Answer
     requires { ⌜ Fits source (now cells) ⌝ }
     ensures { λ r. ⌜ (r ≡ onSource source (λ (n : ℕ). permutationEntry n (take (n * n) (now (cells .entry))) set element (now (positions .entry))))
-        × (now (positions .exit) ≡ bytesOn source (now (positions .entry)) (λ (n : ℕ). permutationList n (take (n * n) (now (cells .entry))) set element (now (positions .entry)))) ⌝ }
+        × (now (positions .exit) ≡ bytesOn source (now (positions .entry))
+        (λ (n : ℕ). permutationList n (take (n * n) (now (cells .entry))) set element (now (positions .entry)))) ⌝ }
 {
     match source {
         Source::Group(n) => {
@@ -120,8 +121,10 @@ pub(crate) fn conjugates_in(
 ) -> Answer
     requires { ⌜ Fits source (now cells) ⌝ }
     ensures { λ r. ⌜ (r ≡ onSource source (λ (n : ℕ). conjugatesEntry n (take (n * n) (now (cells .entry))) set (now (sets .entry)) (now (conjugators .entry))))
-        × (now (sets .exit) ≡ bytesOn source (now (sets .entry)) (λ (n : ℕ). conjugatesList n (take (n * n) (now (cells .entry))) set (now (sets .entry)) (now (conjugators .entry))))
-        × (now (conjugators .exit) ≡ bytesOn source (now (conjugators .entry)) (λ (n : ℕ). conjugatorsList n (take (n * n) (now (cells .entry))) set (now (sets .entry)) (now (conjugators .entry)))) ⌝ }
+        × (now (sets .exit) ≡ bytesOn source (now (sets .entry))
+        (λ (n : ℕ). conjugatesList n (take (n * n) (now (cells .entry))) set (now (sets .entry)) (now (conjugators .entry))))
+        × (now (conjugators .exit) ≡ bytesOn source (now (conjugators .entry))
+        (λ (n : ℕ). conjugatorsList n (take (n * n) (now (cells .entry))) set (now (sets .entry)) (now (conjugators .entry)))) ⌝ }
 {
     match source {
         Source::Group(n) => {

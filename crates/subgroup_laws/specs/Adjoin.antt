@@ -160,7 +160,8 @@ module _ (n : ℕ) (_·_ : ℕ → ℕ → ℕ) (e : ℕ) (h g : ℕ) where
           stable = λ x y i j. elim (joined-cases y j) [
             | inl l ↦ joined-old _ (W .stable x y i l)
             | inr l ↦ let (b, m, c, q) = coset-source n _·_ e G h H p (F .below) y l in
-                joined-coset _ (rw (q, ← G .associative x b p (member-below n h x (H .small) i) m (F .below)) (coset-holds n _·_ e G h H p (F .below) (x · b) (H .holds-products x b i c)))
+                joined-coset _ (rw (q, ← G .associative x b p (member-below n h x (H .small) i) m (F .below))
+                (coset-holds n _·_ e G h H p (F .below) (x · b) (H .holds-products x b i c)))
           ];
           forced = λ x i. elim (joined-cases x i) [ inl l ↦ W .forced x l | inr l ↦ coset-forced x l ];
           represented = λ x i. elim (joined-cases x i) [
@@ -197,7 +198,8 @@ module _ (n : ℕ) (_·_ : ℕ → ℕ → ℕ) (e : ℕ) (h g : ℕ) where
         pub growing-count : member k p ≡ false → ones (bitOr waiting (2 ^ p)) + ones k ≤ ones waiting + ones joined
         growing-count new =
             let fresh : member waiting p ≡ false = not-passing _ (λ w. true≢false (sym (W .waiting-inside p w) ∙ new)) in
-            let small : waiting < 2 ^ n = bounded n waiting (λ i l. not-passing _ (λ w. let m = member-below n k i (W .small) (W .waiting-inside i w) in omega arith)) in
+            let small : waiting < 2 ^ n = bounded n waiting (λ i l. not-passing _
+            (λ w. let m = member-below n k i (W .small) (W .waiting-inside i w) in omega arith)) in
             let more : ones (bitOr waiting (2 ^ p)) ≡ suc (ones waiting) = ap ones (or-new waiting p fresh) ∙ ones-add n waiting p (F .below) small fresh in
             let grown = ones-proper k joined joined-old (λ q. true≢false (sym joined-new ∙ ap (λ (s : ℕ). member s p) (sym q) ∙ new)) in
             omega arith

@@ -47,7 +47,8 @@ module _ (n : ℕ) (_·_ : ℕ → ℕ → ℕ) (e : ℕ) (G : Group n _·_ e) w
       let p = G .product-below a b h k in
       inverse-unique eqb _·_ e L (a · b) _ _ (below-member n _ p) (below-member n _ (inverse-below (a · b) p)) (below-member n _ (G .product-below _ _ j i))
       (inverse-left (a · b) p)
-      (inverse-product eqb _·_ e L a b (inv a) (inv b) (below-member n a h) (below-member n b k) (below-member n _ i) (below-member n _ j) (inverse-left a h) (inverse-left b k))
+      (inverse-product eqb _·_ e L a b (inv a) (inv b) (below-member n a h) (below-member n b k) (below-member n _ i) (below-member n _ j)
+      (inverse-left a h) (inverse-left b k))
 
   -- factors cancel
   pub left-cancel : (x a b : ℕ) → x < n → a < n → b < n → x · a ≡ x · b → a ≡ b

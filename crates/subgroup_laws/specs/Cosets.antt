@@ -56,4 +56,5 @@ module _ (n : ℕ) (_·_ : ℕ → ℕ → ℕ) (e : ℕ) (G : Group n _·_ e) (
   pub conjugate-by-coset : (p y : ℕ) → p < n → member (cosetOf n _·_ e s p) y ≡ true → conjugateOf n _·_ e s y ≡ conjugateOf n _·_ e s p
   conjugate-by-coset p y l i =
       let (b, k, j, q) = coset-source p l y i in
-      ap (conjugateOf n _·_ e s) q ∙ sym (conjugate-set-twice n _·_ e G s b p (S .small) k l) ∙ ap (λ (z : ℕ). conjugateOf n _·_ e z p) (conjugate-by-member b j)
+      ap (conjugateOf n _·_ e s) q ∙ sym (conjugate-set-twice n _·_ e G s b p (S .small) k l)
+      ∙ ap (λ (z : ℕ). conjugateOf n _·_ e z p) (conjugate-by-member b j)

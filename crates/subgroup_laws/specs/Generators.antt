@@ -78,14 +78,16 @@ module _ (n : ℕ) (_·_ : ℕ → ℕ → ℕ) (e : ℕ) where
     widened-below s j h = or-lt n (rightOf s j) _ (or-lt n s _ h (image-below n (λ x. e · x · j) s)) (image-below n (λ x. j · x · e) (rightOf s j))
 
     -- that are generated
-    widened-sound : (s r j : ℕ) → j < n → Generated s j → ((x : ℕ) → member r x ≡ true → Generated s x) → (x : ℕ) → member (widened r j) x ≡ true → Generated s x
+    widened-sound : (s r j : ℕ) → j < n → Generated s j → ((x : ℕ) → member r x ≡ true → Generated s x) → (x : ℕ) → member (widened r j) x ≡ true
+        → Generated s x
     unfolding widened
-    widened-sound s r j h J sound x i = elim (or-either (member (rightOf r j) x) (member (imageOf n (λ x. j · x · e) (rightOf r j)) x) (sym (member-or (rightOf r j) _ x) ∙ i)) [
-      | inl k ↦ right x k
-      | inr k ↦
-          let (y, l, m, q) = image-source n (λ x. j · x · e) (rightOf r j) x k in
-          rw (sym q ∙ I .right (j · y) (product-below j y h l)) (times j y h l J (right y m))
-    ]
+    widened-sound s r j h J sound x i = elim (or-either (member (rightOf r j) x) (member (imageOf n (λ x. j · x · e) (rightOf r j)) x)
+        (sym (member-or (rightOf r j) _ x) ∙ i)) [
+          | inl k ↦ right x k
+          | inr k ↦
+              let (y, l, m, q) = image-source n (λ x. j · x · e) (rightOf r j) x k in
+              rw (sym q ∙ I .right (j · y) (product-below j y h l)) (times j y h l J (right y m))
+        ]
       where
         right : (x : ℕ) → member (rightOf r j) x ≡ true → Generated s x
         right x i = elim (or-either (member r x) (member (imageOf n (λ x. e · x · j) r) x) (sym (member-or r _ x) ∙ i)) [

@@ -56,7 +56,8 @@ module _ (n : ℕ) (_·_ : ℕ → ℕ → ℕ) (e h : ℕ) (G : Group n _·_ e)
 
   -- the conjugator of a conjugate conjugates to it, and no smaller element does
   pub smallest-conjugator : (s g : ℕ) → g < n → conjugateOf n _·_ e h g ≡ s
-      → (conjugatorOf n _·_ e h s < n) × (conjugateOf n _·_ e h (conjugatorOf n _·_ e h s) ≡ s) × ((j : ℕ) → j < conjugatorOf n _·_ e h s → conjugateOf n _·_ e h j ≡ s → ⊥)
+      → (conjugatorOf n _·_ e h s < n) × (conjugateOf n _·_ e h (conjugatorOf n _·_ e h s) ≡ s)
+      × ((j : ℕ) → j < conjugatorOf n _·_ e h s → conjugateOf n _·_ e h j ≡ s → ⊥)
   unfolding conjugatorOf
   smallest-conjugator s g l q =
       let F = first-least (λ g. eqb (conjugateOf n _·_ e h g) s) n g l (eq-eqb _ _ q) in
@@ -83,4 +84,5 @@ module _ (n : ℕ) (_·_ : ℕ → ℕ → ℕ) (e h : ℕ) (G : Group n _·_ e)
       let k = member-below n (normalizerOf n _·_ e h) x normalizer-below i in
       let l = member-below n (normalizerOf n _·_ e h) y normalizer-below j in
       normalizer-member (x · y) (G .product-below x y k l) .1
-      (sym (conjugate-set-twice n _·_ e G h x y (H .small) k l) ∙ ap (λ (s : ℕ). conjugateOf n _·_ e s y) (normalizer-member x k .0 i) ∙ normalizer-member y l .0 j))
+      (sym (conjugate-set-twice n _·_ e G h x y (H .small) k l) ∙ ap (λ (s : ℕ). conjugateOf n _·_ e s y) (normalizer-member x k .0 i)
+      ∙ normalizer-member y l .0 j))

@@ -112,6 +112,7 @@ module _ (n : ℕ) (_·_ : ℕ → ℕ → ℕ) (e : ℕ) where
         | inl before ↦ absurd (representatives s .0 k .first refl g h (subst (λ (z : ℕ). Precedes z s) q before))
         | inr before ↦ absurd (representatives r .0 m .first refl (inverseOf n _·_ e g) (inverse-below n _·_ e G g h)
             (subst (λ (z : ℕ). Precedes z r)
-            (sym (conjugate-set-back n _·_ e G s g (representatives s .0 k .subgroup .small) h) ∙ ap (λ (z : ℕ). conjugateOf n _·_ e z (inverseOf n _·_ e g)) (sym q)) before))
+            (sym (conjugate-set-back n _·_ e G s g (representatives s .0 k .subgroup .small) h)
+            ∙ ap (λ (z : ℕ). conjugateOf n _·_ e z (inverseOf n _·_ e g)) (sym q)) before))
       ]
     ]

@@ -86,7 +86,8 @@ module _ (n : ℕ) (_·_ : ℕ → ℕ → ℕ) (e s g : ℕ) where
   -- what is no member is passed over
   pub permuted-out : (x : ℕ) (b : List ℕ) → member s x ≡ false → permuted x b ≡ permuted (x + 1) b
   permuted-out x b m =
-      let same : onesIn (x + 1) s ≡ onesIn x s = ap (λ (i : ℕ). onesIn i s) (add-one x) ∙ onesIn-suc x s ∙ ap (λ (b : Bool). onesIn x s + cond b 1 0) m ∙ omega arith in
+      let same : onesIn (x + 1) s ≡ onesIn x s = ap (λ (i : ℕ). onesIn i s) (add-one x) ∙ onesIn-suc x s ∙ ap (λ (b : Bool). onesIn x s + cond b 1 0) m
+      ∙ omega arith in
       ap₂ (λ (l : List ℕ) (i : ℕ). map (positionOf n _·_ e s g) l ++ drop i b) (sym (members-out x s m)) (sym same)
 
   -- how the count goes on

@@ -123,7 +123,8 @@ module _ (n : ℕ) (_·_ : ℕ → ℕ → ℕ) (e : ℕ) where
             → Trying s (outsideOf left (cosetOf n _·_ e s g)) (cond (earlier 64 (conjugateOf n _·_ e s g) r) (conjugateOf n _·_ e s g) r)
         trying-next limit = record {
           small = omega (arith, trying-less, T .small);
-          so-far = first-next 64 s g r (λ j. member left j ≡ true) (λ j. member (outsideOf left (cosetOf n _·_ e s g)) j ≡ true) (conjugate-word limit s g) trying-below
+          so-far = first-next 64 s g r (λ j. member left j ≡ true) (λ j. member (outsideOf left (cosetOf n _·_ e s g)) j
+              ≡ true) (conjugate-word limit s g) trying-below
               (λ j l. elim (outside-cases left (cosetOf n _·_ e s g) j l) [
                 | inl k ↦ inl k
                 | inr k ↦ inr (conjugate-by-coset n _·_ e G s S g j trying-below k)

@@ -70,7 +70,8 @@ insert-front p m front back h =
 pub insert-sorted : (p m : ℕ) (l : List ℕ) → Sorted Precedes l → p ≤ length l → ((i : ℕ) → i < p → Precedes (getD l i 0) m)
     → (p < length l → Precedes m (getD l p 0)) → Sorted Precedes (insertAt p m l)
 insert-sorted p m l sorted h before after =
-    sorted-append Precedes (append-sorted-left Precedes (take p l) (drop p l) parts) (sorted-cons first (append-sorted-right Precedes (take p l) (drop p l) parts))
+    sorted-append Precedes (append-sorted-left Precedes (take p l) (drop p l) parts) (sorted-cons first
+    (append-sorted-right Precedes (take p l) (drop p l) parts))
     (λ x y i j. elim (cases j) [
       | inl e ↦ subst (λ (z : ℕ). Precedes x z) (sym e) (front-before x i)
       | inr k ↦ append-sorted-across Precedes (take p l) (drop p l) parts x y i k
@@ -220,7 +221,8 @@ module _ (n : ℕ) (_·_ : ℕ → ℕ → ℕ) (e : ℕ) (classes : Bool) where
             → Holding came exit (insertAt p m l) (count + 1)
         holding-added exit room made = record {
           bytes =
-              made ∙ ap (λ (x : List ℕ). take (8 * p) (movedUp (8 * p) (8 * count) x) ++ (bytesOf m ++ drop (8 * p + 8) (movedUp (8 * p) (8 * count) x))) (H .bytes)
+              made ∙ ap (λ (x : List ℕ). take (8 * p) (movedUp (8 * p) (8 * count) x) ++
+              (bytesOf m ++ drop (8 * p + 8) (movedUp (8 * p) (8 * count) x))) (H .bytes)
               ∙ inserted l (drop (8 * count) came) m p count (H .size) (P .inside) (rw length-drop (omega arith))
               ∙ ap (λ (x : List ℕ). packed (insertAt p m l) ++ x) (drop-drop 8 (8 * count) came ∙ ap (λ (i : ℕ). drop i came) (next count));
           size = insert-length p m l ∙ ap (λ (i : ℕ). i + 1) (H .size);
@@ -282,7 +284,8 @@ module _ (n : ℕ) (_·_ : ℕ → ℕ → ℕ) (e : ℕ) (classes : Bool) where
         conjugator = e;
         below = G .identity-below;
         same = λ q. refl;
-        within = λ x m. trivial-inside x (subst (λ (s : ℕ). member s x ≡ true) (conjugate-set-by-identity n _·_ e G (2 ^ e) (C .chosen _ (C .trivial) .subgroup .small)) m);
+        within = λ x m. trivial-inside x (subst (λ (s : ℕ). member s x ≡ true)
+            (conjugate-set-by-identity n _·_ e G (2 ^ e) (C .chosen _ (C .trivial) .subgroup .small)) m);
       }
         where
           trivial-inside : (x : ℕ) → member (2 ^ e) x ≡ true → member S x ≡ true
@@ -331,7 +334,8 @@ module _ (n : ℕ) (_·_ : ℕ → ℕ → ℕ) (e : ℕ) (classes : Bool) where
         none-more : ((j : ℕ) → j < n → isMore j ≡ false) → S ≡ conjugateOf n _·_ e old mover
         none-more none =
             sym (conjugate-set-forth n _·_ e G S mover (T .small) (I .below))
-            ∙ ap (λ (s : ℕ). conjugateOf n _·_ e s mover) (subset-antisymmetric behind old (λ j m. held j m (none j (member-below n behind j (behind-subgroup .small) m))) old-behind)
+            ∙ ap (λ (s : ℕ). conjugateOf n _·_ e s mover) (subset-antisymmetric behind old
+            (λ j m. held j m (none j (member-below n behind j (behind-subgroup .small) m))) old-behind)
           where
             held : (j : ℕ) → member behind j ≡ true → isMore j ≡ false → member old j ≡ true
             held j m f = elim (passes-or-fails (member old j)) [
@@ -420,6 +424,7 @@ module _ (n : ℕ) (_·_ : ℕ → ℕ → ℕ) (e : ℕ) (classes : Bool) where
             | no p ↦ elim (precedes-total S s p) [
               | inl before ↦ absurd (C .chosen s m .first c x h (subst (λ (z : ℕ). Precedes z s) q before))
               | inr before ↦ absurd (K .first c (inverseOf n _·_ e x) (inverse-below n _·_ e G x h)
-                  (subst (λ (z : ℕ). Precedes z S) (sym (conjugate-set-back n _·_ e G s x (C .chosen s m .subgroup .small) h) ∙ ap (λ (z : ℕ). conjugateOf n _·_ e z (inverseOf n _·_ e x)) (sym q)) before))
+                  (subst (λ (z : ℕ). Precedes z S) (sym (conjugate-set-back n _·_ e G s x (C .chosen s m .subgroup .small) h)
+                  ∙ ap (λ (z : ℕ). conjugateOf n _·_ e z (inverseOf n _·_ e x)) (sym q)) before))
             ]
           ]

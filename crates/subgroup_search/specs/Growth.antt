@@ -95,7 +95,10 @@ module _ (n : ℕ) (_·_ : ℕ → ℕ → ℕ) (e h g bound : ℕ) where
     pub sweeping-end : Group n _·_ e → Subgroup n _·_ e h → (set rest left : ℕ) → left ≡ 0 → Sweeping k waiting r set rest left
         → Swept k waiting (record { ok = true; set = set; waiting = rest })
     sweeping-end G H set rest left none S = record {
-      grown = λ t. (growing-followed n _·_ e h g G H bound set rest (λ x. x ≡ r) (λ x q. rw q (record { by-new = S .by-new; by-old = old })) (S .state), S .count);
+      grown = λ t. (
+        growing-followed n _·_ e h g G H bound set rest (λ x. x ≡ r) (λ x q. rw q (record { by-new = S .by-new; by-old = old })) (S .state),
+        S .count,
+      );
       barred = λ f. absurd (true≢false f);
     }
       where

@@ -42,7 +42,8 @@ inserted-room (added room p Q apart q) = room
 module _ (n : ℕ) (_·_ : ℕ → ℕ → ℕ) (e : ℕ) (classes : Bool) where
   -- what the search answers: the list in the first slots and its length; or that the list is longer than the slots, which are spoilt
   abbrev pub SearchResult : List ℕ → List ℕ → Found → Type 0
-  SearchResult b exit (Count count) = (exit ≡ written (listed n (chosen n _·_ e classes)) b) × (count ≡ length (listed n (chosen n _·_ e classes))) × (8 * count ≤ length b)
+  SearchResult b exit (Count count) = (exit ≡ written (listed n (chosen n _·_ e classes)) b) × (count ≡ length (listed n (chosen n _·_ e classes)))
+      × (8 * count ≤ length b)
   SearchResult b exit Overflow = (length b / 8 < length (listed n (chosen n _·_ e classes))) × (drop (8 * (length b / 8)) exit ≡ drop (8 * (length b / 8)) b)
 
   -- extensions of h were put into the list, so that Done holds of it
@@ -89,7 +90,8 @@ module _ (n : ℕ) (_·_ : ℕ → ℕ → ℕ) (e : ℕ) (classes : Bool) where
       precedes = extension-precedes n _·_ e classes G h g k m E new (R .count)
 
       -- the three outcomes of the insertion
-      pub extended-present : (count : ℕ) (b exit : List ℕ) → 8 * count ≤ length exit → Inserted b count m exit Present → ExtendedBy h g count b exit (Count count)
+      pub extended-present : (count : ℕ) (b exit : List ℕ) → 8 * count ≤ length exit → Inserted b count m exit Present
+          → ExtendedBy h g count b exit (Count count)
       extended-present count b exit room I = record {
         room = room;
         progress = λ came front tail H same.
@@ -153,13 +155,16 @@ module _ (n : ℕ) (_·_ : ℕ → ℕ → ℕ) (e : ℕ) (classes : Bool) where
           ])
         ]
 
-        join : (came front tail : List ℕ) → Progress n _·_ e classes came front tail between h (λ l. (j : ℕ) → j < n → (member left j ≡ true) ⊎ Settled n _·_ e classes l h j) (Count middle)
+        join : (came front tail : List ℕ) → Progress n _·_ e classes came front tail between h (λ l. (j : ℕ) → j < n → (member left j ≡ true)
+            ⊎ Settled n _·_ e classes l h j) (Count middle)
             → length came ≡ length between
-            → Progress n _·_ e classes came front tail exit h (λ l. (j : ℕ) → j < n → (member (outsideOf left (cosetOf n _·_ e h g)) j ≡ true) ⊎ Settled n _·_ e classes l h j) r
+            → Progress n _·_ e classes came front tail exit h (λ l. (j : ℕ) → j < n → (member (outsideOf left (cosetOf n _·_ e h g)) j ≡ true)
+            ⊎ Settled n _·_ e classes l h j) r
         join came front tail (counted front' H more settled) long = more-join (Y .progress came front' tail H long)
           where
             more-join : {r : Found} → Progress n _·_ e classes came front' tail exit h (λ l. Settled n _·_ e classes l h g) r
-                → Progress n _·_ e classes came front tail exit h (λ l. (j : ℕ) → j < n → (member (outsideOf left (cosetOf n _·_ e h g)) j ≡ true) ⊎ Settled n _·_ e classes l h j) r
+                → Progress n _·_ e classes came front tail exit h (λ l. (j : ℕ) → j < n → (member (outsideOf left (cosetOf n _·_ e h g)) j ≡ true)
+                ⊎ Settled n _·_ e classes l h j) r
             more-join (counted front'' H' more' this) = counted front'' H' (λ s i. more' s (more s i))
                 (λ j k. elim (settled j k) [
                   | inl i ↦ tried (front'' ++ h ∷ tail) this j i
@@ -169,17 +174,26 @@ module _ (n : ℕ) (_·_ : ℕ → ℕ → ℕ) (e : ℕ) (classes : Bool) where
 
     -- where there are too many sets it does not matter how far one came
     pub extended-overflow : (left count : ℕ) (b exit : List ℕ) → ExtendedBut h left count b exit Overflow → ExtendedByAll h count b exit Overflow
-    extended-overflow left count b exit X = record { room = tt; progress = λ came front tail H same. widen came front tail (X .progress came front tail H same) }
+    extended-overflow left count b exit X = record {
+      room = tt;
+      progress = λ came front tail H same. widen came front tail (X .progress came front tail H same);
+    }
       where
-        widen : (came front tail : List ℕ) → Progress n _·_ e classes came front tail exit h (λ l. (j : ℕ) → j < n → (member left j ≡ true) ⊎ Settled n _·_ e classes l h j) Overflow
+        widen : (came front tail : List ℕ) → Progress n _·_ e classes came front tail exit h (λ l. (j : ℕ) → j < n → (member left j ≡ true)
+            ⊎ Settled n _·_ e classes l h j) Overflow
             → Progress n _·_ e classes came front tail exit h (λ l. (j : ℕ) → j < n → Settled n _·_ e classes l h j) Overflow
         widen came front tail (overflow l c H many) = overflow l c H many
 
     -- where none is left all were tried
-    pub extended-end : (left count middle : ℕ) (b exit : List ℕ) → left ≡ 0 → ExtendedBut h left count b exit (Count middle) → ExtendedByAll h count b exit (Count middle)
-    extended-end left count middle b exit none X = record { room = X .room; progress = λ came front tail H same. all came front tail (X .progress came front tail H same) }
+    pub extended-end : (left count middle : ℕ) (b exit : List ℕ) → left ≡ 0 → ExtendedBut h left count b exit (Count middle)
+        → ExtendedByAll h count b exit (Count middle)
+    extended-end left count middle b exit none X = record {
+      room = X .room;
+      progress = λ came front tail H same. all came front tail (X .progress came front tail H same);
+    }
       where
-        all : (came front tail : List ℕ) → Progress n _·_ e classes came front tail exit h (λ l. (j : ℕ) → j < n → (member left j ≡ true) ⊎ Settled n _·_ e classes l h j) (Count middle)
+        all : (came front tail : List ℕ) → Progress n _·_ e classes came front tail exit h (λ l. (j : ℕ) → j < n → (member left j ≡ true)
+            ⊎ Settled n _·_ e classes l h j) (Count middle)
             → Progress n _·_ e classes came front tail exit h (λ l. (j : ℕ) → j < n → Settled n _·_ e classes l h j) (Count middle)
         all came front tail (counted front' H more settled) = counted front' H more (λ j k. elim (settled j k) [
           | inl i ↦ absurd (true≢false (sym i ∙ ap (λ (z : ℕ). member z j) none ∙ member-empty j))
@@ -273,9 +287,11 @@ module _ (n : ℕ) (_·_ : ℕ → ℕ → ℕ) (e : ℕ) (classes : Bool) where
       around = split-at (S .list) at 0 at-below ∙ ap (λ (h : ℕ). take at (S .list) ++ h ∷ drop (suc at) (S .list)) (sym searching-slot)
 
       -- once it was extended it is settled too
-      pub searching-next : (exit : List ℕ) (middle : ℕ) → length came ≡ length b → ExtendedByAll (slotAt b at) count b exit (Count middle) → Searching came exit middle (done + 1)
+      pub searching-next : (exit : List ℕ) (middle : ℕ) → length came ≡ length b → ExtendedByAll (slotAt b at) count b exit (Count middle)
+          → Searching came exit middle (done + 1)
       searching-next exit middle same X =
-          read (X .progress came (take at (S .list)) (drop (suc at) (S .list)) (subst (λ (l : List ℕ). Holding n _·_ e classes came b l count) around (S .holding)) same)
+          read (X .progress came (take at (S .list)) (drop (suc at) (S .list))
+          (subst (λ (l : List ℕ). Holding n _·_ e classes came b l count) around (S .holding)) same)
         where
           tail : List ℕ
           tail = drop (suc at) (S .list)
@@ -286,7 +302,8 @@ module _ (n : ℕ) (_·_ : ℕ → ℕ → ℕ) (e : ℕ) (classes : Bool) where
           tail-length : length tail ≡ done
           tail-length = length-drop (suc at) (S .list) ∙ (let q = S .holding .size in omega arith)
 
-          read : Progress n _·_ e classes came (take at (S .list)) tail exit (slotAt b at) (λ l. (g : ℕ) → g < n → Settled n _·_ e classes l (slotAt b at) g) (Count middle)
+          read : Progress n _·_ e classes came (take at (S .list)) tail exit (slotAt b at) (λ l. (g : ℕ) → g < n
+              → Settled n _·_ e classes l (slotAt b at) g) (Count middle)
               → Searching came exit middle (done + 1)
           read (counted front H keeps settled) =
               let old : (s : ℕ) → Mem s (S .list) → Mem s (front ++ slotAt b at ∷ tail) = λ s m. keeps s (subst (λ (l : List ℕ). Mem s l) around m) in
@@ -298,16 +315,19 @@ module _ (n : ℕ) (_·_ : ℕ → ℕ → ℕ) (e : ℕ) (classes : Bool) where
                 trivial = old (2 ^ e) (S .trivial);
                 settled = λ h m g k. elim (cases (subst (λ (l : List ℕ). Mem h l) (drop-at front (slotAt b at ∷ tail) (middle - (done + 1)) place) m)) [
                   | inl q ↦ subst (λ (z : ℕ). Settled n _·_ e classes (front ++ slotAt b at ∷ tail) z g) (sym q) (settled g k)
-                  | inr i ↦ settled-more n _·_ e classes (S .list) (front ++ slotAt b at ∷ tail) old h g (S .settled h (subst (λ (l : List ℕ). Mem h l) behind i) g k)
+                  | inr i ↦ settled-more n _·_ e classes (S .list) (front ++ slotAt b at ∷ tail) old h g (S .settled h
+                      (subst (λ (l : List ℕ). Mem h l) behind i) g k)
                 ];
               }
 
       -- or there are too many
       pub searching-overflow : (exit : List ℕ) → length came ≡ length b → ExtendedByAll (slotAt b at) count b exit Overflow → SearchResult came exit Overflow
       searching-overflow exit same X =
-          read (X .progress came (take at (S .list)) (drop (suc at) (S .list)) (subst (λ (l : List ℕ). Holding n _·_ e classes came b l count) around (S .holding)) same)
+          read (X .progress came (take at (S .list)) (drop (suc at) (S .list))
+          (subst (λ (l : List ℕ). Holding n _·_ e classes came b l count) around (S .holding)) same)
         where
-          read : Progress n _·_ e classes came (take at (S .list)) (drop (suc at) (S .list)) exit (slotAt b at) (λ l. (g : ℕ) → g < n → Settled n _·_ e classes l (slotAt b at) g) Overflow
+          read : Progress n _·_ e classes came (take at (S .list)) (drop (suc at) (S .list)) exit (slotAt b at) (λ l. (g : ℕ) → g < n
+              → Settled n _·_ e classes l (slotAt b at) g) Overflow
               → SearchResult came exit Overflow
           read (overflow l c H many) = (too-many _ many, left-over came exit l c H)
 
@@ -346,7 +366,8 @@ module _ (n : ℕ) (_·_ : ℕ → ℕ → ℕ) (e : ℕ) (classes : Bool) where
       restart-drop : (i : ℕ) → 8 ≤ i → drop i b ≡ drop i came
       restart-drop i h =
           let far : i ≡ 8 + (i - 8) = omega arith in
-          ap₂ (λ (j : ℕ) (x : List ℕ). drop j x) far q ∙ drop-append-add (bytesOf m) (drop 8 came) (i - 8) ∙ drop-drop (i - 8) 8 came ∙ ap (λ (j : ℕ). drop j came) (sym far)
+          ap₂ (λ (j : ℕ) (x : List ℕ). drop j x) far q ∙ drop-append-add (bytesOf m) (drop 8 came) (i - 8) ∙ drop-drop (i - 8) 8 came
+          ∙ ap (λ (j : ℕ). drop j came) (sym far)
 
       -- they are equally many
       restart-length : length b ≡ length came
@@ -354,15 +375,23 @@ module _ (n : ℕ) (_·_ : ℕ → ℕ → ℕ) (e : ℕ) (classes : Bool) where
 
       -- the search begins there
       pub restart-start : m ≡ 2 ^ e → Searching b b 1 0
-      restart-start first = searching-start b b (omega (arith, restart-length)) (q ∙ ap₂ (λ (i : ℕ) (l : List ℕ). bytesOf i ++ l) first (sym (restart-drop 8 (omega arith))))
+      restart-start first = searching-start b b (omega (arith, restart-length)) (q
+          ∙ ap₂ (λ (i : ℕ) (l : List ℕ). bytesOf i ++ l) first (sym (restart-drop 8 (omega arith))))
 
       -- the result of the loop is the result of the search
       pub restart : (exit : List ℕ) (r : Found) → SearchResult b exit r → SearchResult came exit r
       unfolding written
       restart exit (Count count) (x, y, z) =
-          let some = listed-some in
-          (x ∙ ap (λ (l : List ℕ). packed (listed n (chosen n _·_ e classes)) ++ l) (restart-drop (8 * length (listed n (chosen n _·_ e classes))) (omega arith)), y, omega (arith, restart-length))
+          let some = listed-some in (
+            x ∙ ap (λ (l : List ℕ). packed (listed n (chosen n _·_ e classes)) ++ l)
+                (restart-drop (8 * length (listed n (chosen n _·_ e classes))) (omega arith)),
+            y,
+            omega (arith, restart-length),
+          )
       restart exit Overflow (x, y) =
           let same = restart-length in
-          let slots : length b / 8 ≡ length came / 8 = ap (λ (i : ℕ). i / 8) same in
-          (rw (← slots) x, ap (λ (i : ℕ). drop (8 * i) exit) (sym slots) ∙ y ∙ restart-drop (8 * (length b / 8)) (omega arith) ∙ ap (λ (i : ℕ). drop (8 * i) came) slots)
+          let slots : length b / 8 ≡ length came / 8 = ap (λ (i : ℕ). i / 8) same in (
+            rw (← slots) x,
+            ap (λ (i : ℕ). drop (8 * i) exit) (sym slots) ∙ y ∙ restart-drop (8 * (length b / 8)) (omega arith)
+                ∙ ap (λ (i : ℕ). drop (8 * i) came) slots,
+          )

@@ -34,7 +34,8 @@ pub record AcceptedText (text : List ℕ) : Type 0 where
 
 module _ (text : List ℕ) where
   -- Its generators decide,
-  by-outcome : (c : Centering) (gens : List Operation) → readSymbol text ≡ symbol c gens → (o : Outcome) → outcomeOf c gens ≡ o → outcomeAnswer c (length gens) o .answer ≡ Group → AcceptedText text
+  by-outcome : (c : Centering) (gens : List Operation) → readSymbol text ≡ symbol c gens → (o : Outcome) → outcomeOf c gens ≡ o
+      → outcomeAnswer c (length gens) o .answer ≡ Group → AcceptedText text
   unfolding symbolAnswer
   by-outcome c gens e (group operations steps) p a =
       let spells = symbol-exactly text c gens .0 e in

@@ -29,22 +29,39 @@ use Rattle.symbol_group.specs.declared.SymbolOperation.{SymbolOperation}
 use Rattle.symbol_group.specs.declared.SymbolOperation.the-variants.{Operation as FoundOperation, PastEnd, Refused as FoundRefused}
 
 -- ---- from a group of generators
-outcome-refused : (c : Centering) (n : ℕ) (o : Outcome) (r : generators.Refusal) → answerOf c n o .answer ≡ group-answer.Refused r → refusedAnswer (NoGroup r) ≡ outcomeAnswer c n o
+outcome-refused : (c : Centering) (n : ℕ) (o : Outcome) (r : generators.Refusal) → answerOf c n o .answer ≡ group-answer.Refused r
+    → refusedAnswer (NoGroup r) ≡ outcomeAnswer c n o
 outcome-refused c n (group operations steps) r e = let z : _≡_ {A = ℕ} 0 1 = cc in absurd (omega arith)
 outcome-refused c n (refused q) r e = let z : q ≡ r = cc in rw z
 
-outcome-group : (c : Centering) (n : ℕ) (o : Outcome) → answerOf c n o .answer ≡ group-answer.Group → _≡_ {A = SymbolGroup} (record { answer = Group; centering = answerOf c n o .centering; count = answerOf c n o .count; operations = answerOf c n o .operations; generators = answerOf c n o .generators; steps = answerOf c n o .steps }) (outcomeAnswer c n o)
+outcome-group : (c : Centering) (n : ℕ) (o : Outcome) → answerOf c n o .answer ≡ group-answer.Group
+    → _≡_ {A = SymbolGroup} (record {
+      answer = Group;
+      centering = answerOf c n o .centering;
+      count = answerOf c n o .count;
+      operations = answerOf c n o .operations;
+      generators = answerOf c n o .generators;
+      steps = answerOf c n o .steps;
+    }) (outcomeAnswer c n o)
 outcome-group c n (group operations steps) e = refl
 outcome-group c n (refused q) e = let z : _≡_ {A = ℕ} 0 1 = cc in absurd (omega arith)
 
 module _ (c : Centering) (gens : List Operation) (g : SpaceGroup) (e : g ≡ groupAnswer c gens) where
   -- The generators are refused,
-  pub group-refused : (r : generators.Refusal) → g .answer ≡ group-answer.Refused r → refusedAnswer (NoGroup r) ≡ outcomeAnswer c (length gens) (outcomeOf c gens)
+  pub group-refused : (r : generators.Refusal) → g .answer ≡ group-answer.Refused r
+      → refusedAnswer (NoGroup r) ≡ outcomeAnswer c (length gens) (outcomeOf c gens)
   unfolding groupAnswer
   group-refused r h = outcome-refused c (length gens) (outcomeOf c gens) r (sym (ap (λ (g : SpaceGroup). g .answer) e) ∙ h)
 
   -- or make a group.
-  pub group-made : g .answer ≡ group-answer.Group → _≡_ {A = SymbolGroup} (record { answer = Group; centering = g .centering; count = g .count; operations = g .operations; generators = g .generators; steps = g .steps }) (outcomeAnswer c (length gens) (outcomeOf c gens))
+  pub group-made : g .answer ≡ group-answer.Group → _≡_ {A = SymbolGroup} (record {
+    answer = Group;
+    centering = g .centering;
+    count = g .count;
+    operations = g .operations;
+    generators = g .generators;
+    steps = g .steps;
+  }) (outcomeAnswer c (length gens) (outcomeOf c gens))
   unfolding groupAnswer
   group-made h = rw e (outcome-group c (length gens) (outcomeOf c gens) (sym (ap (λ (g : SpaceGroup). g .answer) e) ∙ h))
 
@@ -53,7 +70,8 @@ reading-refused : (s : reader.Reading) (r : text.Refusal) → reader.answerOf s 
 reading-refused (reader.symbol c gens) r e = let z : _≡_ {A = ℕ} 0 1 = cc in absurd (omega arith)
 reading-refused (reader.refusal q) r e = let z : q ≡ r = cc in rw z
 
-reading-group : (s : reader.Reading) (h : HallSymbol) → h ≡ reader.answerOf s → h .answer ≡ text-answer.Symbol → outcomeAnswer (h .centering) (length (take (h .count) (h .generators))) (outcomeOf (h .centering) (take (h .count) (h .generators))) ≡ readingAnswer s
+reading-group : (s : reader.Reading) (h : HallSymbol) → h ≡ reader.answerOf s → h .answer ≡ text-answer.Symbol
+    → outcomeAnswer (h .centering) (length (take (h .count) (h .generators))) (outcomeOf (h .centering) (take (h .count) (h .generators))) ≡ readingAnswer s
 reading-group (reader.symbol c gens) h e a = rw (e, slots-listed gens)
 reading-group (reader.refusal q) h e a = let b = sym (ap (λ (h : HallSymbol). h .answer) e) ∙ a in let z : _≡_ {A = ℕ} 0 1 = cc in absurd (omega arith)
 
@@ -64,12 +82,14 @@ module _ (bytes : List ℕ) (h : HallSymbol) (e : h ≡ reader.answerOf (reader.
   symbol-refused r a = reading-refused (reader.readSymbol bytes) r (sym (ap (λ (h : HallSymbol). h .answer) e) ∙ a)
 
   -- or it is one.
-  pub symbol-read : h .answer ≡ text-answer.Symbol → outcomeAnswer (h .centering) (length (take (h .count) (h .generators))) (outcomeOf (h .centering) (take (h .count) (h .generators))) ≡ symbolAnswer bytes
+  pub symbol-read : h .answer ≡ text-answer.Symbol → outcomeAnswer (h .centering) (length (take (h .count) (h .generators))) (outcomeOf (h .centering)
+      (take (h .count) (h .generators))) ≡ symbolAnswer bytes
   unfolding symbolAnswer
   symbol-read a = reading-group (reader.readSymbol bytes) h e a
 
 -- ---- the slots of a symbol's group
-outcome-slots : (c : Centering) (n : ℕ) (gens : List Operation) (o : Outcome) → outcomeOf c gens ≡ o → (outcomeAnswer c n o .count ≤ 48) × (length (outcomeAnswer c n o .operations) ≡ 48)
+outcome-slots : (c : Centering) (n : ℕ) (gens : List Operation) (o : Outcome) → outcomeOf c gens ≡ o → (outcomeAnswer c n o .count ≤ 48)
+    × (length (outcomeAnswer c n o .operations) ≡ 48)
 outcome-slots c n gens (group operations steps) e =
     let few = outcome-few c gens operations steps e in
     (few, padded-length 48 identityOperation operations few)
@@ -111,7 +131,12 @@ module _ (bytes : List ℕ) (g : SymbolGroup) (e : g ≡ symbolAnswer bytes) whe
     pub operation-given : (i : ℕ) (d : Operation) → i < g .count → FoundOperation (getD (g .operations) i d) ≡ operationAt bytes i
     unfolding operationAt
     operation-given i d h =
-        let within : i < length (g .operations) = omega (arith, symbol-slots bytes, ap (λ (g : SymbolGroup). g .count) e, ap (λ (g : SymbolGroup). length (g .operations)) e) in
+        let within : i < length (g .operations) = omega (
+          arith,
+          symbol-slots bytes,
+          ap (λ (g : SymbolGroup). g .count) e,
+          ap (λ (g : SymbolGroup). length (g .operations)) e,
+        ) in
         rw (← e, a, lt-ltb i (g .count) h, at-any (g .operations) i d identityOperation within)
 
 -- The translation of what was found.

@@ -242,7 +242,8 @@ module _ (count : ℕ) (slots : List Operation) (fits : count ≤ length slots) 
 
   -- so an index inside finds one of it,
   operation-given : (a : Answer) (o : Operation) → (operationAnswer (operationBy a count slots i) ≡ answer.given o)
-      ↔ ((operations : List Operation) × (operationsBy a (take count slots) ≡ answer.given operations) × (i < length operations) × (getD operations i identityOperation ≡ o))
+      ↔ ((operations : List Operation) × (operationsBy a (take count slots) ≡ answer.given operations) × (i < length operations)
+      × (getD operations i identityOperation ≡ o))
   operation-given Group o = elim (decLt i count) [
     | yes h ↦ rw (lt-ltb i count h) (
       (λ e. let z : getD slots i identityOperation ≡ o = cc in (take count slots, refl, omega (arith, long), getD-take count slots i identityOperation h ∙ z)),

@@ -119,8 +119,11 @@ module _ (n : ℕ) (t : List ℕ) where
         (NoGroup Inverse, inverse-refused h C e I x k (λ y J. true≢false (sym (lt-ltb _ _ (inverse-found n (product n t) e x y J)) ∙ g)))
     | inl f ↦ elim (passes-or-fails (associates n (product n t))) [
       | inl a ↦ (IsGroup e, accepted h C e (group-made n (product n t) (product-below n t C) e I f a))
-      | inr a ↦ let (x, y, z, j, k, l, differ) = triple-found a in
-          (NoGroup Associativity, associativity-refused h C e I (λ x k. (_, found-inverse n (product n t) e x (ltb-true _ _ (every-passes _ n f x k)))) x y z j k l differ)
+      | inr a ↦ let (x, y, z, j, k, l, differ) = triple-found a in (
+        NoGroup Associativity,
+        associativity-refused h C e I
+            (λ x k. (_, found-inverse n (product n t) e x (ltb-true _ _ (every-passes _ n f x k)))) x y z j k l differ,
+      )
     ]
   ]
 

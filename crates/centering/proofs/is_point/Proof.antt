@@ -29,7 +29,8 @@ same-requires-2 : tie.Need-same-requires-2
 same-requires-2 c κs = search needs
 
 returns-2 : tie.Need-returns-2
-returns-2 c = search-found _ _ (c .before .before .before .before .before .before .before .lattice-points .ensures) _ _ 1 (lit< tt) (sym (c .before .same2 .ensures) ∙ c .if2 .taken)
+returns-2 c = search-found _ _ (c .before .before .before .before .before .before .before .lattice-points .ensures) _ _ 1 (lit< tt) (sym
+    (c .before .same2 .ensures) ∙ c .if2 .taken)
 
 array-copy-out-same-3 : tie.Need-array-copy-out-same-3
 array-copy-out-same-3 c = search needs
@@ -50,7 +51,8 @@ returns-4 : tie.Need-returns-4
 returns-4 c =
     c .same4 .ensures ∙
     search-fourth _ _ (c .before .before .before .before .before .before .before .before .before .before .before .before .lattice-points .ensures) _ _
-    (sym (c .before .before .before .before .before .before .before .before .before .same .ensures) ∙ c .before .before .before .before .before .before .before .before .if1 .left)
+    (sym (c .before .before .before .before .before .before .before .before .before .same .ensures)
+    ∙ c .before .before .before .before .before .before .before .before .if1 .left)
     (sym (c .before .before .before .before .before .before .same2 .ensures) ∙ c .before .before .before .before .before .if2 .left)
     (sym (c .before .before .before .same3 .ensures) ∙ c .before .before .if3 .left)
 

@@ -55,7 +55,8 @@ returns c =
     ap (containsOf (a .c)) (c .before .before .rotated .ensures) ∙
     stays-contains (a .c) (a .r) _ ∙
     ap (staysIn (a .c) (a .r)) (point-at (a .c) _ (c .before .before .before .before .before .before .before .lattice-points .ensures) i _ (omega arith))) in
-    sym (all-fails (staysIn (a .c) (a .r)) (pointsOf (a .c)) zeroTriple i (omega arith) (test ∙ not-true (c .before .contains .result) (c .if1 .taken))) ∙ c .before .before .before .before .before .loop .inv .2
+    sym (all-fails (staysIn (a .c) (a .r)) (pointsOf (a .c)) zeroTriple i (omega arith) (test ∙ not-true (c .before .contains .result) (c .if1 .taken)))
+    ∙ c .before .before .before .before .before .loop .inv .2
 
 add-i : tie.Need-add-i Inv-loop μ-loop
 add-i c = omega arith
@@ -71,14 +72,19 @@ loop-again c =
     sym (c .before .contains .ensures ∙
     ap (containsOf (a .c)) (c .before .before .rotated .ensures) ∙
     stays-contains (a .c) (a .r) _ ∙
-    ap (staysIn (a .c) (a .r)) (point-at (a .c) _ (c .before .before .before .before .before .before .before .lattice-points .ensures) i _ (omega arith))) in
-    (omega arith, c .before .before .before .before .before .loop .inv .1, sym (all-step (staysIn (a .c) (a .r)) (pointsOf (a .c)) zeroTriple i (omega arith) (test ∙ not-false (c .before .contains .result) (c .if1 .left))) ∙ c .before .before .before .before .before .loop .inv .2)
+    ap (staysIn (a .c) (a .r)) (point-at (a .c) _ (c .before .before .before .before .before .before .before .lattice-points .ensures) i _ (omega arith))) in (
+      omega arith,
+      c .before .before .before .before .before .loop .inv .1,
+      sym (all-step (staysIn (a .c) (a .r)) (pointsOf (a .c)) zeroTriple i (omega arith)
+          (test ∙ not-false (c .before .contains .result) (c .if1 .left))) ∙ c .before .before .before .before .before .loop .inv .2,
+    )
 
 returns-2 : tie.Need-returns-2 Inv-loop μ-loop
 returns-2 c =
     let a = c .before .before .before .before .args in
     let done : length (pointsOf (a .c)) ≡ c .before .loop .i = omega arith in
-    sym (all-done (staysIn (a .c) (a .r)) (pointsOf (a .c)) zeroTriple) ∙ ap (λ (n : ℕ). all (staysIn (a .c) (a .r)) (drop n (pointsOf (a .c)))) done ∙ c .before .loop .inv .2
+    sym (all-done (staysIn (a .c) (a .r)) (pointsOf (a .c)) zeroTriple) ∙ ap (λ (n : ℕ). all (staysIn (a .c) (a .r)) (drop n (pointsOf (a .c)))) done
+    ∙ c .before .loop .inv .2
 
 pub keeps-points-spec : {M : Type 1} → statement M
 keeps-points-spec =

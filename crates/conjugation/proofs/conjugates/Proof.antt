@@ -12,7 +12,8 @@ enum-known-e : tie.Need-enum-known-e
 enum-known-e c = search needs
 
 conjugates-in-requires : tie.Need-conjugates-in-requires
-conjugates-in-requires c κs = checked-table _ _ _ (sym (c .before .before .before .before .before .from-table .ensures) ∙ c .before .before .before .e .given .1)
+conjugates-in-requires c κs = checked-table _ _ _ (sym (c .before .before .before .before .before .from-table .ensures)
+    ∙ c .before .before .before .e .given .1)
 
 enum-known-r : tie.Need-enum-known-r
 enum-known-r c = search needs
@@ -24,7 +25,8 @@ same-length-2 : tie.Need-same-length-2
 same-length-2 c = search needs
 
 returns : tie.Need-returns
-returns c = simp (sym (c .before .before .before .before .before .before .before .before .before .before .from-table .ensures) ∙ c .before .before .before .before .before .before .before .before .e .given .1) (c .before .before .before .before .conjugates-in .ensures)
+returns c = simp (sym (c .before .before .before .before .before .before .before .before .before .before .from-table .ensures)
+    ∙ c .before .before .before .before .before .before .before .before .e .given .1) (c .before .before .before .before .conjugates-in .ensures)
 
 returns-2 : tie.Need-returns-2
 returns-2 c = simp (sym (c .before .before .before .from-table .ensures) ∙ c .before .r .given .1) (refl, refl, refl)

@@ -27,14 +27,20 @@ refused-requires-2 c κs = search needs
 
 returns-2 : tie.Need-returns-2
 unfolding atShift
-returns-2 c = c .refused2 .ensures ∙ simp (ne-eqb _ _ (c .before .before .before .before .if1 .left), sym (c .before .before .before .parse-origin-shift .ensures) ∙ c .before .enum-told .given .1)
+returns-2 c = c .refused2 .ensures ∙ simp (
+  ne-eqb _ _ (c .before .before .before .before .if1 .left),
+  sym (c .before .before .before .parse-origin-shift .ensures) ∙ c .before .enum-told .given .1,
+)
 
 accepted-requires : tie.Need-accepted-requires
 accepted-requires c κs = search needs
 
 returns-3 : tie.Need-returns-3
 unfolding atShift
-returns-3 c = c .accepted .ensures ∙ simp (ne-eqb _ _ (c .before .before .before .before .before .if1 .left), sym (c .before .before .before .before .parse-origin-shift .ensures) ∙ c .before .before .v .given .1)
+returns-3 c = c .accepted .ensures ∙ simp (
+  ne-eqb _ _ (c .before .before .before .before .before .if1 .left),
+  sym (c .before .before .before .before .parse-origin-shift .ensures) ∙ c .before .before .v .given .1,
+)
 
 pub at-shift-spec : {M : Type 1} → statement M
 at-shift-spec =

@@ -16,7 +16,8 @@ use Rattle.hall_symbol.proofs.parse.Statement.{statement}
 use Rattle.hall_symbol.proofs.parse.Tie as tie
 
 abbrev Inv-loop : tie.InvT-loop
-Inv-loop text from centering at₀ list₀ previous₀ at list previous = Reached text centering (operations (length text) centering (listOf list₀) noPrevious (tokensFrom at₀ true (drop at₀ text))) at list previous
+Inv-loop text from centering at₀ list₀ previous₀ at list previous =
+    Reached text centering (operations (length text) centering (listOf list₀) noPrevious (tokensFrom at₀ true (drop at₀ text))) at list previous
 
 abbrev μ-loop : tie.MeasureT-loop
 μ-loop text from centering at₀ list₀ previous₀ at list previous = length text - at
@@ -27,7 +28,13 @@ no-previous-requires c κs = search needs
 loop-holds : tie.Need-loop-holds Inv-loop μ-loop
 loop-holds c =
     let long : length (c .before .before .args .leading .operations) ≡ 9 = simp length-map at (c .before .before .good .1 .1 .1 .0 .1 .1 .1 .0 .1 .0 .1) in
-    record { within = omega arith; few = rw (c .no-previous .ensures) (omega arith); short = rw (c .no-previous .ensures) (omega arith); slots = long; same = rw (c .no-previous .ensures) }
+    record {
+      within = omega arith;
+      few = rw (c .no-previous .ensures) (omega arith);
+      short = rw (c .no-previous .ensures) (omega arith);
+      slots = long;
+      same = rw (c .no-previous .ensures);
+    }
 
 next-word-requires : tie.Need-next-word-requires Inv-loop μ-loop
 next-word-requires c κs = search needs
@@ -36,7 +43,8 @@ at-end-requires : tie.Need-at-end-requires Inv-loop μ-loop
 at-end-requires c κs = omega arith
 
 returns : tie.Need-returns Inv-loop μ-loop
-returns c = c .at-end .ensures ∙ ap answerOf (sym (reached-end (c .before .before .before .loop .inv) (c .before .before .next-word .ensures) (c .before .if1 .taken)))
+returns c = c .at-end .ensures ∙ ap answerOf (sym (reached-end (c .before .before .before .loop .inv) (c .before .before .next-word .ensures)
+    (c .before .if1 .taken)))
 
 shared-slice-read-if2 : tie.Need-shared-slice-read-if2 Inv-loop μ-loop
 shared-slice-read-if2 c = omega arith
@@ -46,14 +54,19 @@ at-shift-requires c κs = omega arith
 
 returns-2 : tie.Need-returns-2 Inv-loop μ-loop
 unfolding opening
-returns-2 c = c .at-shift .ensures ∙ ap answerOf (sym (reached-shift (c .before .before .before .before .before .loop .inv) (c .before .before .before .before .next-word .ensures) (c .before .before .before .if1 .left) (eq-eqb _ _ (c .before .if2 .taken))))
+returns-2 c = c .at-shift .ensures ∙ ap answerOf (sym
+    (reached-shift (c .before .before .before .before .before .loop .inv) (c .before .before .before .before .next-word .ensures)
+    (c .before .before .before .if1 .left) (eq-eqb _ _ (c .before .if2 .taken))))
 
 refused-requires : tie.Need-refused-requires Inv-loop μ-loop
 refused-requires c κs = search needs
 
 returns-3 : tie.Need-returns-3 Inv-loop μ-loop
 unfolding opening
-returns-3 c = c .refused .ensures ∙ ap answerOf (sym (reached-ninth (c .before .before .before .before .before .before .before .loop .inv) (c .before .before .before .before .before .before .next-word .ensures) (c .before .before .before .before .before .if1 .left) (ne-eqb _ _ (c .before .before .before .if2 .left)) (c .before .if3 .taken)))
+returns-3 c = c .refused .ensures ∙ ap answerOf (sym
+    (reached-ninth (c .before .before .before .before .before .before .before .loop .inv)
+    (c .before .before .before .before .before .before .next-word .ensures) (c .before .before .before .before .before .if1 .left) (ne-eqb _ _
+    (c .before .before .before .if2 .left)) (c .before .if3 .taken)))
 
 sub-parse-operation : tie.Need-sub-parse-operation Inv-loop μ-loop
 sub-parse-operation c =
@@ -100,7 +113,8 @@ loop-again c =
     let reached = c .before .before .before .before .before .before .before .before .before .before .before .before .loop .inv in
     let (after, ordered, reaches) = reached-word reached (c .before .before .before .before .before .before .before .before .before .before .before .next-word .ensures) in
     let parsed = c .before .before .parsed .given in
-    let room : c .before .before .before .before .before .before .before .before .before .before .before .before .loop .previous .count < 8 = c .before .before .before .before .before .before .if3 .left in
+    let room : c .before .before .before .before .before .before .before .before .before .before .before .before .loop .previous .count < 8 =
+    c .before .before .before .before .before .before .if3 .left in
     let pushed = pushed-slot (c .before .before .before .before .before .before .before .before .before .before .before .before .loop .list) (parsed .0 .0) (reached .slots) (omega (arith, reached .short, room)) in
     let step = reached-rotation reached (c .before .before .before .before .before .before .before .before .before .before .before .next-word .ensures) (c .before .before .before .before .before .before .before .before .before .before .if1 .left) (ne-eqb _ _ (c .before .before .before .before .before .before .before .before .if2 .left)) (c .before .before .before .before .before .before .if3 .left) (IsOperation (parsed .0 .0) (parsed .0 .1 .0) (parsed .0 .1 .1 .0)) (sym (parsed .1) ∙ c .before .before .before .before .parse-operation .ensures) in
     record {
@@ -117,7 +131,8 @@ enum-known-parsed-2 c = search needs
 add-place : tie.Need-add-place Inv-loop μ-loop
 add-place c =
     let reached = c .before .before .before .before .before .before .before .before .before .before .before .loop .inv in
-    let there = reached-offset reached (c .before .before .before .before .before .before .before .before .before .before .next-word .ensures) _ _ (sym (c .before .parsed2 .given .1) ∙ c .before .before .before .parse-operation .ensures) in
+    let there = reached-offset reached (c .before .before .before .before .before .before .before .before .before .before .next-word .ensures) _ _ (sym
+    (c .before .parsed2 .given .1) ∙ c .before .before .before .parse-operation .ensures) in
     omega (arith, there)
 
 refused-requires-2 : tie.Need-refused-requires-2 Inv-loop μ-loop
@@ -127,7 +142,8 @@ returns-4 : tie.Need-returns-4 Inv-loop μ-loop
 unfolding opening
 returns-4 c =
     c .refused2 .ensures
-    ∙ ap answerOf (sym (reached-rotation (c .before .before .before .before .before .before .before .before .before .before .before .before .loop .inv) (c .before .before .before .before .before .before .before .before .before .before .before .next-word .ensures) (c .before .before .before .before .before .before .before .before .before .before .if1 .left) (ne-eqb _ _ (c .before .before .before .before .before .before .before .before .if2 .left)) (c .before .before .before .before .before .before .if3 .left) (IsRefused _ _) (sym (c .before .before .parsed2 .given .1) ∙ c .before .before .before .before .parse-operation .ensures)))
+    ∙ ap answerOf (sym (reached-rotation (c .before .before .before .before .before .before .before .before .before .before .before .before .loop .inv)
+    (c .before .before .before .before .before .before .before .before .before .before .before .next-word .ensures) (c .before .before .before .before .before .before .before .before .before .before .if1 .left) (ne-eqb _ _ (c .before .before .before .before .before .before .before .before .if2 .left)) (c .before .before .before .before .before .before .if3 .left) (IsRefused _ _) (sym (c .before .before .parsed2 .given .1) ∙ c .before .before .before .before .parse-operation .ensures)))
 
 pub parse-spec : {M : Type 1} → statement M
 parse-spec =

@@ -61,7 +61,8 @@ returns-2 c =
     let if1 = c .before .before .before .before .before .if1 in
     let mark-of = c .before .before .before .mark-of in
     let enum-told = c .before .enum-told in
-    rw (mark-none (args .negative) (args .fold) (args .token .now) (mark-of .result) (if1 .left) (mark-of .ensures) (enum-told .given .1)) (c .after-mark2 .ensures)
+    rw (mark-none (args .negative) (args .fold) (args .token .now) (mark-of .result) (if1 .left) (mark-of .ensures)
+    (enum-told .given .1)) (c .after-mark2 .ensures)
 
 returns-3 : tie.Need-returns-3
 returns-3 c =
@@ -69,7 +70,8 @@ returns-3 c =
     let if1 = c .before .before .before .before .before .before .if1 in
     let mark-of = c .before .before .before .before .mark-of in
     let enum-told2 = c .before .before .enum-told2 in
-    rw (mark-single (args .negative) (args .fold) (args .token .now) (mark-of .result) (if1 .left) (mark-of .ensures) (enum-told2 .given .1)) (c .after-mark3 .ensures)
+    rw (mark-single (args .negative) (args .fold) (args .token .now) (mark-of .result) (if1 .left) (mark-of .ensures)
+    (enum-told2 .given .1)) (c .after-mark3 .ensures)
 
 returns-4 : tie.Need-returns-4
 returns-4 c =
@@ -77,7 +79,8 @@ returns-4 c =
     let if1 = c .before .before .before .before .before .before .if1 in
     let mark-of = c .before .before .before .before .mark-of in
     let enum-told3 = c .before .before .enum-told3 in
-    rw (mark-double (args .negative) (args .fold) (args .token .now) (mark-of .result) (if1 .left) (mark-of .ensures) (enum-told3 .given .1)) (c .after-mark4 .ensures)
+    rw (mark-double (args .negative) (args .fold) (args .token .now) (mark-of .result) (if1 .left) (mark-of .ensures)
+    (enum-told3 .given .1)) (c .after-mark4 .ensures)
 
 pub after-fold-spec : {M : Type 1} → statement M
 after-fold-spec =

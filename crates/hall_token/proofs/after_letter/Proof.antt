@@ -66,7 +66,14 @@ returns-3 c =
     let unprimed = c .before .before .before .before .unprimed in
     let if2 = c .before .before .before .if2 in
     let axis-of = c .before .before .axis-of in
-    rw (← spelt .ensures, not-false (spelt .result) (if1 .left), ← unprimed .ensures, not-false (unprimed .result) (if2 .left), ← axis-of .ensures, c .enum-told .given .1)
+    rw (
+      ← spelt .ensures,
+      not-false (spelt .result) (if1 .left),
+      ← unprimed .ensures,
+      not-false (unprimed .result) (if2 .left),
+      ← axis-of .ensures,
+      c .enum-told .given .1,
+    )
 
 rotation-about-requires : tie.Need-rotation-about-requires
 rotation-about-requires c κs = search needs
@@ -87,7 +94,16 @@ returns-4 c =
     let axis-of = c .before .before .before .before .before .before .axis-of in
     let axis = c .before .before .before .before .axis in
     let rotation-about = c .before .before .rotation-about in
-    rw (← spelt .ensures, not-false (spelt .result) (if1 .left), ← unprimed .ensures, not-false (unprimed .result) (if2 .left), ← axis-of .ensures, axis .given .1, ← rotation-about .ensures, c .enum-told2 .given .1)
+    rw (
+      ← spelt .ensures,
+      not-false (spelt .result) (if1 .left),
+      ← unprimed .ensures,
+      not-false (unprimed .result) (if2 .left),
+      ← axis-of .ensures,
+      axis .given .1,
+      ← rotation-about .ensures,
+      c .enum-told2 .given .1,
+    )
 
 translation-of-requires : tie.Need-translation-of-requires
 translation-of-requires c κs = search needs
@@ -123,7 +139,20 @@ returns-5 c =
     let turn = c .before .before .before .before .before .turn in
     let translation-of = c .before .before .before .translation-of in
     let run-start = c .before .before .before .before .before .before .before .before .before .before .before .before .before .before .before .before .run-start in
-    rw (← spelt .ensures, not-false (spelt .result) (if1 .left), ← unprimed .ensures, not-false (unprimed .result) (if2 .left), ← axis-of .ensures, axis .given .1, ← rotation-about .ensures, turn .given .1, ← translation-of .ensures, c .before .enum-told3 .given .1, run-start .ensures, c .wrong-digit .ensures)
+    rw (
+      ← spelt .ensures,
+      not-false (spelt .result) (if1 .left),
+      ← unprimed .ensures,
+      not-false (unprimed .result) (if2 .left),
+      ← axis-of .ensures,
+      axis .given .1,
+      ← rotation-about .ensures,
+      turn .given .1,
+      ← translation-of .ensures,
+      c .before .enum-told3 .given .1,
+      run-start .ensures,
+      c .wrong-digit .ensures,
+    )
 
 first-repeat-requires : tie.Need-first-repeat-requires
 first-repeat-requires c κs = search needs
@@ -152,7 +181,21 @@ returns-6 c =
     let translation = c .before .before .before .translation in
     let run-start = c .before .before .before .before .before .before .before .before .before .before .before .before .before .before .before .before .before .before .run-start in
     let first-repeat = c .before .first-repeat in
-    rw (← spelt .ensures, not-false (spelt .result) (if1 .left), ← unprimed .ensures, not-false (unprimed .result) (if2 .left), ← axis-of .ensures, axis .given .1, ← rotation-about .ensures, turn .given .1, ← translation-of .ensures, translation .given .1, ← first-repeat .ensures, lt-ltb (first-repeat .result) (length (args .run .now)) (c .if3 .taken), run-start .ensures)
+    rw (
+      ← spelt .ensures,
+      not-false (spelt .result) (if1 .left),
+      ← unprimed .ensures,
+      not-false (unprimed .result) (if2 .left),
+      ← axis-of .ensures,
+      axis .given .1,
+      ← rotation-about .ensures,
+      turn .given .1,
+      ← translation-of .ensures,
+      translation .given .1,
+      ← first-repeat .ensures,
+      lt-ltb (first-repeat .result) (length (args .run .now)) (c .if3 .taken),
+      run-start .ensures,
+    )
 
 with-sign-requires : tie.Need-with-sign-requires
 with-sign-requires c κs = search needs
@@ -173,8 +216,22 @@ returns-7 c =
     let translation = c .before .before .before .before .translation in
     let first-repeat = c .before .before .first-repeat in
     let if3 = c .before .if3 in
-    rw (← spelt .ensures, not-false (spelt .result) (if1 .left), ← unprimed .ensures, not-false (unprimed .result) (if2 .left), ← axis-of .ensures, axis .given .1, ← rotation-about .ensures, turn .given .1, ← translation-of .ensures, translation .given .1, ← first-repeat .ensures, le-ltb (first-repeat .result) (length (args .run .now)) (if3 .left))
-    (ap (λ (r : Rotation). Operation (record { rotation = r; translation = translation .given .0 .0 }) (args .fold) (axis .given .0 .0)) (c .with-sign .ensures))
+    rw (
+      ← spelt .ensures,
+      not-false (spelt .result) (if1 .left),
+      ← unprimed .ensures,
+      not-false (unprimed .result) (if2 .left),
+      ← axis-of .ensures,
+      axis .given .1,
+      ← rotation-about .ensures,
+      turn .given .1,
+      ← translation-of .ensures,
+      translation .given .1,
+      ← first-repeat .ensures,
+      le-ltb (first-repeat .result) (length (args .run .now)) (if3 .left),
+    )
+    (ap (λ (r : Rotation). Operation (record { rotation = r; translation = translation .given .0 .0 }) (args .fold) (axis .given .0 .0))
+    (c .with-sign .ensures))
 
 pub after-letter-spec : {M : Type 1} → statement M
 after-letter-spec =

@@ -31,7 +31,8 @@ returns-2 c =
     let if1 = c .before .before .before .before .before .if1 in
     let letter-of = c .before .before .before .letter-of in
     let enum-told = c .before .enum-told in
-    rw (letter-absent (args .negative) (args .fold) (args .mark) (args .token .now) (letter-of .result) (if1 .left) (letter-of .ensures) (enum-told .given .1)) (c .after-letter2 .ensures)
+    rw (letter-absent (args .negative) (args .fold) (args .mark) (args .token .now) (letter-of .result) (if1 .left) (letter-of .ensures)
+    (enum-told .given .1)) (c .after-letter2 .ensures)
 
 enum-told-2 : tie.Need-enum-told-2
 enum-told-2 c = search needs
@@ -54,7 +55,8 @@ returns-3 c =
     let if1 = c .before .before .before .before .before .before .if1 in
     let letter-of = c .before .before .before .before .letter-of in
     let enum-told2 = c .before .before .enum-told2 in
-    rw (letter-along (args .negative) (args .fold) (args .mark) (args .token .now) (letter-of .result) _ (if1 .left) (letter-of .ensures) (enum-told2 .given .1)) (c .after-letter3 .ensures)
+    rw (letter-along (args .negative) (args .fold) (args .mark) (args .token .now) (letter-of .result) _ (if1 .left) (letter-of .ensures)
+    (enum-told2 .given .1)) (c .after-letter3 .ensures)
 
 pub after-mark-spec : {M : Type 1} → statement M
 after-mark-spec =

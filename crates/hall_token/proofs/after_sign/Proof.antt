@@ -54,7 +54,8 @@ returns-3 c =
     let if1 = c .before .before .before .before .before .before .before .if1 in
     let fold-of = c .before .before .before .before .before .fold-of in
     let fold = c .before .before .before .fold in
-    rw (fold-is (args .negative) (args .token .now) (fold-of .result) (fold .given .0 .0) (if1 .left) (fold-of .ensures) (fold .given .1)) (c .after-fold .ensures)
+    rw (fold-is (args .negative) (args .token .now) (fold-of .result) (fold .given .0 .0) (if1 .left) (fold-of .ensures)
+    (fold .given .1)) (c .after-fold .ensures)
 
 pub after-sign-spec : {M : Type 1} → statement M
 after-sign-spec =

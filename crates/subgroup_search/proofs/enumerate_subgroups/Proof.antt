@@ -23,7 +23,8 @@ same-length c = search needs
 
 returns : tie.Need-returns
 unfolding subgroupsOf
-returns c = simp (sym (c .before .before .before .before .before .before .before .from-table .ensures) ∙ c .before .before .before .before .before .e .given .1) (c .before .before .list-sets .ensures)
+returns c = simp (sym (c .before .before .before .before .before .before .before .from-table .ensures)
+    ∙ c .before .before .before .before .before .e .given .1) (c .before .before .list-sets .ensures)
 
 returns-2 : tie.Need-returns-2
 returns-2 c = simp (sym (c .before .before .before .from-table .ensures) ∙ c .before .r .given .1) (refl, refl)

@@ -25,7 +25,8 @@ enum-told c = search needs
 returns : tie.Need-returns
 returns c =
     let a = c .before .before .before .before .before .args in
-    c .refused .ensures ∙ group-refused (a .centering) (take (a .n) (a .generators)) (c .before .before .before .before .new .result) (c .before .before .before .before .new .ensures) (c .before .before .answer .given .0 .0) (c .before .before .answer .given .1)
+    c .refused .ensures ∙ group-refused (a .centering) (take (a .n)
+    (a .generators)) (c .before .before .before .before .new .result) (c .before .before .before .before .new .ensures) (c .before .before .answer .given .0 .0) (c .before .before .answer .given .1)
 
 returns-2 : tie.Need-returns-2
 returns-2 c =

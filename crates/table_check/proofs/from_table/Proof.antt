@@ -44,7 +44,8 @@ returns-4 c =
 
 has-inverses-requires : tie.Need-has-inverses-requires
 has-inverses-requires c κs =
-    good-cells _ _ (c .before .before .before .before .if2 .left) (sym (c .before .before .before .good-cells .ensures) ∙ not-false _ (c .before .before .if3 .left))
+    good-cells _ _ (c .before .before .before .before .if2 .left) (sym (c .before .before .before .good-cells .ensures)
+    ∙ not-false _ (c .before .before .if3 .left))
 
 returns-5 : tie.Need-returns-5
 unfolding checkOf
@@ -61,7 +62,8 @@ returns-5 c =
 is-associative-requires : tie.Need-is-associative-requires
 is-associative-requires c κs =
     let it = c .before .before .before .identity-of .ensures in (
-      good-cells _ _ (c .before .before .before .before .before .before .if2 .left) (sym (c .before .before .before .before .before .good-cells .ensures) ∙ not-false _ (c .before .before .before .before .if3 .left)),
+      good-cells _ _ (c .before .before .before .before .before .before .if2 .left) (sym (c .before .before .before .before .before .good-cells .ensures)
+          ∙ not-false _ (c .before .before .before .before .if3 .left)),
       rw it (found-identity _ _ (rw it at (c .before .before .if4 .left))),
     )
 
@@ -71,7 +73,8 @@ returns-6 c =
     simp (
       ne-eqb _ _ (c .before .before .before .before .before .before .before .before .before .if1 .left),
       le-ltb _ _ (c .before .before .before .before .before .before .before .before .if2 .left),
-      sym (c .before .before .before .before .before .before .before .good-cells .ensures) ∙ not-false _ (c .before .before .before .before .before .before .if3 .left),
+      sym (c .before .before .before .before .before .before .before .good-cells .ensures)
+          ∙ not-false _ (c .before .before .before .before .before .before .if3 .left),
       ← c .before .before .before .before .before .identity-of .ensures,
       lt-ltb _ _ (c .before .before .before .before .if4 .left),
       sym (c .before .before .before .has-inverses .ensures) ∙ not-false _ (c .before .before .if5 .left),
@@ -84,7 +87,8 @@ returns-7 c =
     simp (
       ne-eqb _ _ (c .before .before .before .before .before .before .before .before .before .if1 .left),
       le-ltb _ _ (c .before .before .before .before .before .before .before .before .if2 .left),
-      sym (c .before .before .before .before .before .before .before .good-cells .ensures) ∙ not-false _ (c .before .before .before .before .before .before .if3 .left),
+      sym (c .before .before .before .before .before .before .before .good-cells .ensures)
+          ∙ not-false _ (c .before .before .before .before .before .before .if3 .left),
       ← c .before .before .before .before .before .identity-of .ensures,
       lt-ltb _ _ (c .before .before .before .before .if4 .left),
       sym (c .before .before .before .has-inverses .ensures) ∙ not-false _ (c .before .before .if5 .left),

@@ -39,7 +39,8 @@ returns : tie.Need-returns Inv-loop μ-loop
 returns c C =
     let a = c .before .before .before .before .before .before .args in
     let p = c .before .before .before .before .before .before .pre in
-    let x = member-below _ _ _ (c .before .before .before .before .loop .inv .0) (c .before .before .lowest .ensures (c .before .before .before .loop-test .taken) .0) in
+    let x = member-below _ _ _ (c .before .before .before .before .loop .inv .0) (c .before .before .lowest .ensures
+    (c .before .before .before .loop-test .taken) .0) in
     let y = product-below (a .n) (a .t .now) C (a .a) (c .before .before .lowest .result) (p .2) x in
     absurd (omega (arith, y, c .before .cell .ensures, c .if1 .taken))
 
@@ -53,7 +54,8 @@ without-requires : tie.Need-without-requires Inv-loop μ-loop
 without-requires c κs = search needs
 
 loop-less : tie.Need-loop-less Inv-loop μ-loop
-loop-less c = without-less _ _ _ (c .without .ensures (c .before .before .before .before .before .lowest .ensures (c .before .before .before .before .before .before .loop-test .taken) .0))
+loop-less c = without-less _ _ _ (c .without .ensures
+    (c .before .before .before .before .before .lowest .ensures (c .before .before .before .before .before .before .loop-test .taken) .0))
 
 loop-again : tie.Need-loop-again Inv-loop μ-loop
 loop-again c =
@@ -68,7 +70,8 @@ loop-again c =
       omega (arith, without-less _ _ _ W, l .inv .0),
       λ C.
           let inner = product-below (a .n) (a .t .now) C (a .a) x (p .2) (member-below _ _ _ (l .inv .0) (low .0)) in
-          let below : value (a .t .now) (a .n) (a .a) (a .b) x < a .n = product-below (a .n) (a .t .now) C (product (a .n) (a .t .now) (a .a) x) (a .b) inner (p .3) in
+          let below : value (a .t .now) (a .n) (a .a) (a .b) x < a .n =
+          product-below (a .n) (a .t .now) C (product (a .n) (a .t .now) (a .a) x) (a .b) inner (p .3) in
           let small : c .before .before .cell2 .result < 64 = let k = C .limit in omega (arith, y, below) in
           let found : c .before .with-element .result ≡ bitOr (l .found) (2 ^ value (a .t .now) (a .n) (a .a) (a .b) x) =
           c .before .with-element .ensures small ∙ ap (λ (z : ℕ). bitOr (l .found) (2 ^ z)) y in

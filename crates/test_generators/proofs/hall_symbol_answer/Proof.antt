@@ -49,7 +49,8 @@ add-result-2 c = search needs
 
 returns : tie.Need-returns
 returns c =
-    packed-symbol (c .before .before .before .new .result) (c .byte .result) (c .before .enum-told .given .1) (c .byte .ensures) ∙ ap packedAnswer (c .before .before .before .new .ensures)
+    packed-symbol (c .before .before .before .new .result) (c .byte .result) (c .before .enum-told .given .1) (c .byte .ensures)
+    ∙ ap packedAnswer (c .before .before .before .new .ensures)
 
 returns-2 : tie.Need-returns-2
 returns-2 c =

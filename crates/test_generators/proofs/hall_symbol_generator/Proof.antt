@@ -55,7 +55,11 @@ add-result-3 c = search needs
 
 returns-2 : tie.Need-returns-2
 returns-2 c =
-    simp (c .before .before .before .rotation-code .ensures, ← c .before .before .before .before .before .before .before .before .before .new .ensures, lt-ltb _ _ (c .before .before .before .before .before .before .before .if1 .left))
+    simp (
+      c .before .before .before .rotation-code .ensures,
+      ← c .before .before .before .before .before .before .before .before .before .new .ensures,
+      lt-ltb _ _ (c .before .before .before .before .before .before .before .if1 .left),
+    )
 
 pub hall-symbol-generator-spec : {M : Type 1} → statement M
 hall-symbol-generator-spec =

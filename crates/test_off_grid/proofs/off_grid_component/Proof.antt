@@ -26,7 +26,8 @@ returns c =
 returns-2 : tie.Need-returns-2
 unfolding gridAnswer
 returns-2 c =
-    ap (offGridComponent (c .before .before .before .before .args .x)) (sym (ap gridAnswer (c .before .component .given .1)) ∙ c .before .before .before .from-doubles .ensures)
+    ap (offGridComponent (c .before .before .before .before .args .x)) (sym (ap gridAnswer (c .before .component .given .1))
+    ∙ c .before .before .before .from-doubles .ensures)
 
 pub off-grid-component-spec : {M : Type 1} → statement M
 off-grid-component-spec =

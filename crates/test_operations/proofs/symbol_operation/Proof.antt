@@ -58,7 +58,8 @@ enum-told-2 c = search needs
 returns : tie.Need-returns
 returns c =
     ap (λ (n : ℕ). n * 4096 + c .before .before .before .before .before .before .before .o .given .0 .0 .translation .x % 16 * 256 + c .before .before .before .before .before .before .before .o .given .0 .0 .translation .y % 16 * 16 + c .before .before .before .before .before .before .before .o .given .0 .0 .translation .z % 16) (c .before .before .before .rotation-code .ensures) ∙
-    ap packedOperation (sym (c .before .before .before .before .before .before .before .o .given .1) ∙ c .before .before .before .before .before .before .before .before .before .operation-at .ensures)
+    ap packedOperation (sym (c .before .before .before .before .before .before .before .o .given .1)
+    ∙ c .before .before .before .before .before .before .before .before .before .operation-at .ensures)
 
 returns-2 : tie.Need-returns-2
 returns-2 c = ap packedOperation (sym (c .enum-told .given .1) ∙ c .before .before .operation-at .ensures)

@@ -18,12 +18,14 @@ enum-known-d c = search needs
 returns : tie.Need-returns
 returns c =
     let a = c .before .before .before .before .before .before .args .axis in
-    sym (ap (componentOf a) (sym (c .before .before .before .before .translation-at .ensures) ∙ c .before .before .d .given .1) ∙ simp (eq-eqb _ _ (c .if1 .taken)))
+    sym (ap (componentOf a) (sym (c .before .before .before .before .translation-at .ensures) ∙ c .before .before .d .given .1)
+    ∙ simp (eq-eqb _ _ (c .if1 .taken)))
 
 returns-2 : tie.Need-returns-2
 returns-2 c =
     let a = c .before .before .before .before .before .before .before .args .axis in
-    sym (ap (componentOf a) (sym (c .before .before .before .before .before .translation-at .ensures) ∙ c .before .before .before .d .given .1) ∙ simp (ne-eqb _ _ (c .before .if1 .left), eq-eqb _ _ (c .if2 .taken)))
+    sym (ap (componentOf a) (sym (c .before .before .before .before .before .translation-at .ensures) ∙ c .before .before .before .d .given .1)
+    ∙ simp (ne-eqb _ _ (c .before .if1 .left), eq-eqb _ _ (c .if2 .taken)))
 
 enum-told : tie.Need-enum-told
 enum-told c = search needs
@@ -34,7 +36,8 @@ enum-told-2 c = search needs
 returns-3 : tie.Need-returns-3
 returns-3 c =
     let a = c .before .before .before .before .before .before .before .args .axis in
-    sym (ap (componentOf a) (sym (c .before .before .before .before .before .translation-at .ensures) ∙ c .before .before .before .d .given .1) ∙ simp (ne-eqb _ _ (c .before .if1 .left), ne-eqb _ _ (c .if2 .left)))
+    sym (ap (componentOf a) (sym (c .before .before .before .before .before .translation-at .ensures) ∙ c .before .before .before .d .given .1)
+    ∙ simp (ne-eqb _ _ (c .before .if1 .left), ne-eqb _ _ (c .if2 .left)))
 
 returns-4 : tie.Need-returns-4
 returns-4 c = ap (componentOf (c .before .before .before .before .args .axis)) (sym (c .enum-told .given .1) ∙ c .before .before .translation-at .ensures)

@@ -22,7 +22,8 @@ returns : tie.Need-returns
 unfolding containsOf
 returns c =
     c .is-point .ensures ∙
-    ap (λ u. has sameTriple u (pointsOf (c .before .before .args .self))) (ap tripleOf (c .before .difference .ensures) ∙ difference-origin (c .before .before .args .t))
+    ap (λ u. has sameTriple u (pointsOf (c .before .before .args .self))) (ap tripleOf (c .before .difference .ensures)
+    ∙ difference-origin (c .before .before .args .t))
 
 pub contains-spec : {M : Type 1} → statement M
 contains-spec = tie.close (tie.spec difference-requires is-point-requires returns)

@@ -59,7 +59,8 @@ returns c =
     ap₂ min (c .before .before .before .before .before .before .before .before .before .before .moved-rank .ensures .0)
     (c .before .before .lesser2 .ensures ∙
     ap₂ min (c .before .before .before .before .before .before .before .before .moved-rank2 .ensures .0)
-    (c .before .before .before .lesser .ensures ∙ ap₂ min (c .before .before .before .before .before .before .moved-rank3 .ensures .0) (c .before .before .before .before .moved-rank4 .ensures .0))))
+    (c .before .before .before .lesser .ensures ∙ ap₂ min (c .before .before .before .before .before .before .moved-rank3 .ensures .0)
+    (c .before .before .before .before .moved-rank4 .ensures .0))))
 
 pub smallest-spec : {M : Type 1} → statement M
 smallest-spec =

@@ -42,7 +42,11 @@ returns-3 c =
     )
 
 cast-count : tie.Need-cast-count
-cast-count c = omega (arith, ones-le 64 (c .before .before .before .before .before .before .before .args .s) (c .before .before .before .before .before .before .before .fits .s .fits))
+cast-count c = omega (
+  arith,
+  ones-le 64 (c .before .before .before .before .before .before .before .args .s)
+      (c .before .before .before .before .before .before .before .fits .s .fits),
+)
 
 clear-requires : tie.Need-clear-requires
 clear-requires c κs = search needs
@@ -54,19 +58,38 @@ returns-4 : tie.Need-returns-4
 unfolding permutationAnswer permutationBytes
 returns-4 c =
     let a = c .before .before .before .before .before .before .before .before .before .before .before .before .args in
-    let t = sym (c .before .before .before .before .before .before .before .before .before .is-subgroup .ensures) ∙ not-false _ (c .before .before .before .before .before .before .before .before .if1 .left) in
+    let t = sym (c .before .before .before .before .before .before .before .before .before .is-subgroup .ensures)
+    ∙ not-false _ (c .before .before .before .before .before .before .before .before .if1 .left) in
     let p = c .before .before .before .before .before .before .before .before .before .before .before .before .pre in
-    let it = c .before .before .before .before .before .before .conjugate-set .ensures p (test-subgroup _ _ _ (p .group) _ t .small) (c .before .before .before .before .before .before .before .if2 .left) in
+    let it = c .before .before .before .before .before .before .conjugate-set .ensures p (test-subgroup _ _ _
+    (p .group) _ t .small) (c .before .before .before .before .before .before .before .if2 .left) in
     let none : replicate (length (a .list .now)) 0 ++ drop (length (a .list .now)) (a .list .now) ≡ replicate (length (a .list .now)) 0 =
     ap (λ (l : List ℕ). replicate (length (a .list .now)) 0 ++ l) (drop-length (a .list .now)) ∙ append-nil _ in (
-      simp (t, lt-ltb _ _ (c .before .before .before .before .before .before .before .if2 .left), ← it, eq-eqb _ _ (c .before .before .before .before .before .if3 .left), lt-ltb _ _ (c .before .before .before .before .if4 .taken)),
-      simp (t, lt-ltb _ _ (c .before .before .before .before .before .before .before .if2 .left), ← it, eq-eqb _ _ (c .before .before .before .before .before .if3 .left), lt-ltb _ _ (c .before .before .before .before .if4 .taken)) (c .before .before .clear .ensures (omega arith) ∙ none),
+      simp (
+        t,
+        lt-ltb _ _ (c .before .before .before .before .before .before .before .if2 .left),
+        ← it,
+        eq-eqb _ _ (c .before .before .before .before .before .if3 .left),
+        lt-ltb _ _ (c .before .before .before .before .if4 .taken),
+      ),
+      simp (
+        t,
+        lt-ltb _ _ (c .before .before .before .before .before .before .before .if2 .left),
+        ← it,
+        eq-eqb _ _ (c .before .before .before .before .before .if3 .left),
+        lt-ltb _ _ (c .before .before .before .before .if4 .taken),
+      ) (c .before .before .clear .ensures (omega arith) ∙ none),
     )
 
 permute-requires : tie.Need-permute-requires
 permute-requires c κs =
-    let p = c .before .before .before .before .before .before .before .before .before .pre in
-    (p, test-subgroup _ _ _ (p .group) _ (sym (c .before .before .before .before .before .before .is-subgroup .ensures) ∙ not-false _ (c .before .before .before .before .before .if1 .left)) .small, c .before .before .before .before .if2 .left, c .before .if4 .left)
+    let p = c .before .before .before .before .before .before .before .before .before .pre in (
+      p,
+      test-subgroup _ _ _ (p .group) _ (sym (c .before .before .before .before .before .before .is-subgroup .ensures)
+          ∙ not-false _ (c .before .before .before .before .before .if1 .left)) .small,
+      c .before .before .before .before .if2 .left,
+      c .before .if4 .left,
+    )
 
 same-length-2 : tie.Need-same-length-2
 same-length-2 c = search needs
@@ -74,11 +97,25 @@ same-length-2 c = search needs
 returns-5 : tie.Need-returns-5
 unfolding permutationAnswer permutationBytes
 returns-5 c =
-    let t = sym (c .before .before .before .before .before .before .before .before .before .is-subgroup .ensures) ∙ not-false _ (c .before .before .before .before .before .before .before .before .if1 .left) in
+    let t = sym (c .before .before .before .before .before .before .before .before .before .is-subgroup .ensures)
+    ∙ not-false _ (c .before .before .before .before .before .before .before .before .if1 .left) in
     let p = c .before .before .before .before .before .before .before .before .before .before .before .before .pre in
-    let it = c .before .before .before .before .before .before .conjugate-set .ensures p (test-subgroup _ _ _ (p .group) _ t .small) (c .before .before .before .before .before .before .before .if2 .left) in (
-      simp (t, lt-ltb _ _ (c .before .before .before .before .before .before .before .if2 .left), ← it, eq-eqb _ _ (c .before .before .before .before .before .if3 .left), le-ltb _ _ (c .before .before .before .before .if4 .left)),
-      simp (t, lt-ltb _ _ (c .before .before .before .before .before .before .before .if2 .left), ← it, eq-eqb _ _ (c .before .before .before .before .before .if3 .left), le-ltb _ _ (c .before .before .before .before .if4 .left)) (c .before .before .permute .ensures),
+    let it = c .before .before .before .before .before .before .conjugate-set .ensures p (test-subgroup _ _ _
+    (p .group) _ t .small) (c .before .before .before .before .before .before .before .if2 .left) in (
+      simp (
+        t,
+        lt-ltb _ _ (c .before .before .before .before .before .before .before .if2 .left),
+        ← it,
+        eq-eqb _ _ (c .before .before .before .before .before .if3 .left),
+        le-ltb _ _ (c .before .before .before .before .if4 .left),
+      ),
+      simp (
+        t,
+        lt-ltb _ _ (c .before .before .before .before .before .before .before .if2 .left),
+        ← it,
+        eq-eqb _ _ (c .before .before .before .before .before .if3 .left),
+        le-ltb _ _ (c .before .before .before .before .if4 .left),
+      ) (c .before .before .permute .ensures),
     )
 
 pub permutation-in-spec : {M : Type 1} → statement M

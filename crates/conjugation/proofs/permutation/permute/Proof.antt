@@ -41,7 +41,8 @@ loop-again : tie.Need-loop-again Inv-loop μ-loop
 loop-again c =
     let l = c .before .before .before .loop in
     let a = c .before .before .before .before .before .before .before .args in
-    let small : l .x < 64 = let h = c .before .before .before .before .before .before .before .pre .0 .cells .limit in omega (arith, c .before .before .loop-test .taken) in
+    let small : l .x < 64 = let h = c .before .before .before .before .before .before .before .pre .0 .cells .limit in
+    omega (arith, c .before .before .loop-test .taken) in
     let out = sym (c .before .contains .ensures small) ∙ not-true _ (c .if1 .taken) in (
       omega arith,
       l .inv .1 ∙ sym (count-out (a .n) (product (a .n) (a .t .now)) (a .e) (a .s) (a .g) (l .x) out),
@@ -51,14 +52,18 @@ loop-again c =
 
 cell-requires : tie.Need-cell-requires Inv-loop μ-loop
 cell-requires c κs =
-    let p = c .before .before .before .before .before .before .before .pre in
-    (p .0 .cells, rw (c .before .before .before .before .inverse .ensures (p .0 .cells) (p .2)) (inverse-below _ _ _ (p .0 .group) _ (p .2)), c .before .before .loop-test .taken)
+    let p = c .before .before .before .before .before .before .before .pre in (
+      p .0 .cells,
+      rw (c .before .before .before .before .inverse .ensures (p .0 .cells) (p .2)) (inverse-below _ _ _ (p .0 .group) _ (p .2)),
+      c .before .before .loop-test .taken,
+    )
 
 cell-requires-2 : tie.Need-cell-requires-2 Inv-loop μ-loop
 cell-requires-2 c κs = let p = c .before .before .before .before .before .before .before .before .pre in (p .0 .cells, c .cell .ensures .1, p .2)
 
 position-requires : tie.Need-position-requires Inv-loop μ-loop
-position-requires c κs = let h = c .before .before .before .before .before .before .before .before .before .pre .0 .cells .limit in let k = c .cell2 .ensures .1 in omega arith
+position-requires c κs = let h = c .before .before .before .before .before .before .before .before .before .pre .0 .cells .limit in let k =
+    c .cell2 .ensures .1 in omega arith
 
 slice-write-list : tie.Need-slice-write-list Inv-loop μ-loop
 slice-write-list c =
@@ -102,12 +107,16 @@ loop-again-2 c =
     let m = sym (c .before .before .before .before .contains .ensures small) ∙ not-false _ (c .before .before .before .if1 .left) in
     let room = count-room (a .n) times (a .e) (a .s) (a .g) (l .x) (c .before .before .before .before .before .loop-test .taken) (p .1) m in
     let value : c .position .result ≡ positionOf (a .n) times (a .e) (a .s) (a .g) (l .x) =
-    c .position .ensures ∙ ap (λ (y : ℕ). onesIn y (a .s)) (c .before .cell2 .ensures .0 ∙ ap (λ (y : ℕ). times y (a .g)) (c .before .before .cell .ensures .0 ∙ ap (λ (y : ℕ). times y (l .x)) (c .before .before .before .before .before .before .before .inverse .ensures (p .0 .cells) (p .2)))) in
+    c .position .ensures ∙ ap (λ (y : ℕ). onesIn y (a .s)) (c .before .cell2 .ensures .0
+    ∙ ap (λ (y : ℕ). times y (a .g)) (c .before .before .cell .ensures .0
+    ∙ ap (λ (y : ℕ). times y (l .x)) (c .before .before .before .before .before .before .before .inverse .ensures (p .0 .cells) (p .2)))) in
     let h = p .3 in (
       omega arith,
       ap (λ (k : ℕ). k + 1) (l .inv .1) ∙ sym (count-in (a .n) times (a .e) (a .s) (a .g) (l .x) m),
       simp length-set (l .inv .2),
-      ap₂ (λ (x : List ℕ) (v : ℕ). set x (l .i) v) (l .inv .3) value ∙ ap (λ (k : ℕ). set (permuted (a .n) times (a .e) (a .s) (a .g) (l .x) (a .list .now)) k (positionOf (a .n) times (a .e) (a .s) (a .g) (l .x))) (l .inv .1)
+      ap₂ (λ (x : List ℕ) (v : ℕ). set x (l .i) v) (l .inv .3) value
+          ∙ ap (λ (k : ℕ). set (permuted (a .n) times (a .e) (a .s) (a .g) (l .x) (a .list .now)) k
+          (positionOf (a .n) times (a .e) (a .s) (a .g) (l .x))) (l .inv .1)
           ∙ permuted-in (a .n) times (a .e) (a .s) (a .g) (l .x) (a .list .now) m (omega arith),
     )
 
@@ -121,7 +130,8 @@ returns c =
     let a = c .before .before .before .before .before .args in
     let q : l .x ≡ a .n = omega arith in
     l .inv .3 ∙ ap (λ (x : ℕ). permuted (a .n) (product (a .n) (a .t .now)) (a .e) (a .s) (a .g) x (a .list .now)) q
-    ∙ ap (λ (k : ℕ). permutationOf (a .n) (product (a .n) (a .t .now)) (a .e) (a .s) (a .g) ++ drop k (a .list .now)) (sym (ones-below (a .n) (a .s) (c .before .before .before .before .before .pre .1)))
+    ∙ ap (λ (k : ℕ). permutationOf (a .n) (product (a .n) (a .t .now)) (a .e) (a .s) (a .g) ++ drop k (a .list .now)) (sym
+    (ones-below (a .n) (a .s) (c .before .before .before .before .before .pre .1)))
 
 pub permute-spec : {M : Type 1} → statement M
 permute-spec =

@@ -18,7 +18,11 @@ rem-result : tie.Need-rem-result
 rem-result c = rw (shifted-one 64 (c .args .y) (c .pre)) (pow-pos (c .args .y))
 
 cast-result : tie.Need-cast-result
-cast-result c = let h = c .pre in omega (arith, rw (← shifted-one 64 (c .args .y) (c .pre)) at (ones-le (c .args .y) (c .args .s % 2 ^ c .args .y) (mod-lt (c .args .s) (pow-pos (c .args .y)))))
+cast-result c = let h = c .pre in omega (
+  arith,
+  rw (← shifted-one 64 (c .args .y) (c .pre)) at
+      (ones-le (c .args .y) (c .args .s % 2 ^ c .args .y) (mod-lt (c .args .s) (pow-pos (c .args .y)))),
+)
 
 returns : tie.Need-returns
 returns c = ap (λ (k : ℕ). ones (c .args .s % k)) (shifted-one 64 (c .args .y) (c .pre)) ∙ position-ones (c .args .s) (c .args .y)

@@ -18,7 +18,8 @@ contains-requires-2 : tie.Need-contains-requires-2
 contains-requires-2 c κs = search needs
 
 returns-2 : tie.Need-returns-2
-returns-2 c = c .contains2 .ensures (search needs) ∙ simp (sym (c .before .before .before .contains .ensures (search needs)) ∙ not-false _ (c .before .before .if1 .left), ← c .before .cell .ensures .0)
+returns-2 c = c .contains2 .ensures (search needs)
+    ∙ simp (sym (c .before .before .before .contains .ensures (search needs)) ∙ not-false _ (c .before .before .if1 .left), ← c .before .cell .ensures .0)
 
 pub holds-product-spec : {M : Type 1} → statement M
 holds-product-spec =

@@ -37,7 +37,9 @@ returns-2 : tie.Need-returns-2 Inv-loop μ-loop
 unfolding isSubgroup
 returns-2 c =
     let a = c .before .before .before .before .args in
-    sym (and-fails (ltb (a .s) (2 ^ a .n)) _ (and-fails-left _ _ (sym (c .before .contains .ensures (let h = c .before .before .before .before .pre .0 .limit in let k = c .before .before .before .before .pre .1 in omega arith)) ∙ not-true _ (c .if2 .taken))))
+    sym (and-fails (ltb (a .s) (2 ^ a .n)) _ (and-fails-left _ _
+    (sym (c .before .contains .ensures (let h = c .before .before .before .before .pre .0 .limit in let k =
+    c .before .before .before .before .pre .1 in omega arith)) ∙ not-true _ (c .if2 .taken))))
 
 loop-holds : tie.Need-loop-holds Inv-loop μ-loop
 loop-holds c = (omega arith, λ i h. absurd (omega arith))
@@ -68,7 +70,9 @@ returns-4 c =
     let a = c .before .before .before .before .before .before .args in
     let h : a .n < 64 = let k = c .before .before .before .before .before .before .pre .0 .limit in omega arith in
     sym (both-and _ _ (lt-ltb (a .s) (2 ^ a .n) (rw (shifted-one 64 (a .n) h) at (c .before .before .before .before .if1 .left)))
-    (both-and _ _ (sym (c .before .before .before .contains .ensures (let k = c .before .before .before .before .before .before .pre .0 .limit in let i = c .before .before .before .before .before .before .pre .1 in omega arith)) ∙ not-false _ (c .before .before .if2 .left)) (passes-every _ _ (λ i k. c .before .loop .inv .1 i (omega arith)))))
+    (both-and _ _ (sym (c .before .before .before .contains .ensures
+    (let k = c .before .before .before .before .before .before .pre .0 .limit in let i = c .before .before .before .before .before .before .pre .1 in
+    omega arith)) ∙ not-false _ (c .before .before .if2 .left)) (passes-every _ _ (λ i k. c .before .loop .inv .1 i (omega arith)))))
 
 pub is-subgroup-spec : {M : Type 1} → statement M
 is-subgroup-spec =

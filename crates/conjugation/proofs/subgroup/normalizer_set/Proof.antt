@@ -57,8 +57,20 @@ loop-again c =
     let k : l .g < 64 = omega arith in (
       omega arith,
       ⊎-elim
-          (λ w. omega (arith, w .1, shifted-one 64 (l .g) k, setOf-in (l .g) p (eq-eqb _ _ (sym (c .before .conjugate-set .ensures (c .before .before .before .before .before .pre .0) (c .before .before .before .before .before .pre .1) (c .before .before .loop-test .taken)) ∙ w .0 .taken))))
-          (λ w. omega (arith, w .1, setOf-out (l .g) p (ne-eqb _ _ (λ q. w .0 .left (c .before .conjugate-set .ensures (c .before .before .before .before .before .pre .0) (c .before .before .before .before .before .pre .1) (c .before .before .loop-test .taken) ∙ q)))))
+          (λ w. omega (
+            arith,
+            w .1,
+            shifted-one 64 (l .g) k,
+            setOf-in (l .g) p (eq-eqb _ _ (sym (c .before .conjugate-set .ensures (c .before .before .before .before .before .pre .0)
+                (c .before .before .before .before .before .pre .1) (c .before .before .loop-test .taken)) ∙ w .0 .taken)),
+          ))
+          (λ w. omega (
+            arith,
+            w .1,
+            setOf-out (l .g) p (ne-eqb _ _
+                (λ q. w .0 .left (c .before .conjugate-set .ensures (c .before .before .before .before .before .pre .0)
+                (c .before .before .before .before .before .pre .1) (c .before .before .loop-test .taken) ∙ q))),
+          ))
           (c .if1 .came),
     )
 

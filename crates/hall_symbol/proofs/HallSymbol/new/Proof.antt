@@ -22,7 +22,9 @@ refused-requires-2 : tie.Need-refused-requires-2
 refused-requires-2 c κs = search needs
 
 returns-2 : tie.Need-returns-2
-returns-2 c = c .refused2 .ensures ∙ ap answerOf (sym (read-forbidden (c .before .before .before .before .before .args .text .now) (omega arith) (c .before .before .scan .result) (c .before .before .scan .ensures) (omega arith)))
+returns-2 c = c .refused2 .ensures ∙ ap answerOf (sym
+    (read-forbidden (c .before .before .before .before .before .args .text .now) (omega arith) (c .before .before .scan .result)
+    (c .before .before .scan .ensures) (omega arith)))
 
 next-word-requires : tie.Need-next-word-requires
 next-word-requires c κs = search needs
@@ -31,7 +33,9 @@ refused-requires-3 : tie.Need-refused-requires-3
 refused-requires-3 c κs = search needs
 
 returns-3 : tie.Need-returns-3
-returns-3 c = c .refused3 .ensures ∙ ap answerOf (sym (read-blank (c .before .before .before .before .before .before .before .args .text .now) (omega arith) (c .before .before .before .before .scan .result) (c .before .before .before .before .scan .ensures) (omega arith) (c .before .before .next-word .result) (c .before .before .next-word .ensures) (omega arith)))
+returns-3 c = c .refused3 .ensures ∙ ap answerOf (sym
+    (read-blank (c .before .before .before .before .before .before .before .args .text .now) (omega arith)
+    (c .before .before .before .before .scan .result) (c .before .before .before .before .scan .ensures) (omega arith) (c .before .before .next-word .result) (c .before .before .next-word .ensures) (omega arith)))
 
 sub-parse-lattice : tie.Need-sub-parse-lattice
 sub-parse-lattice c =
@@ -63,7 +67,8 @@ refused-requires-4 c κs = search needs
 returns-4 : tie.Need-returns-4
 returns-4 c =
     c .refused4 .ensures
-    ∙ ap answerOf (sym (read-lattice (c .before .before .before .before .before .before .before .before .before .before .before .args .text .now) (omega arith) (c .before .before .before .before .before .before .before .before .scan .result) (c .before .before .before .before .before .before .before .before .scan .ensures) (omega arith) (c .before .before .before .before .before .before .next-word .result) (c .before .before .before .before .before .before .next-word .ensures) (omega arith) Wrong (sym (c .before .enum-told .given .1) ∙ c .before .before .before .parse-lattice .ensures)))
+    ∙ ap answerOf (sym (read-lattice (c .before .before .before .before .before .before .before .before .before .before .before .args .text .now)
+    (omega arith) (c .before .before .before .before .before .before .before .before .scan .result) (c .before .before .before .before .before .before .before .before .scan .ensures) (omega arith) (c .before .before .before .before .before .before .next-word .result) (c .before .before .before .before .before .before .next-word .ensures) (omega arith) Wrong (sym (c .before .enum-told .given .1) ∙ c .before .before .before .parse-lattice .ensures)))
 
 leading-requires : tie.Need-leading-requires
 leading-requires c κs = search needs

@@ -23,7 +23,11 @@ push-requires c κs = search needs
 returns-2 : tie.Need-returns-2
 returns-2 c =
     let inverted = not-false (c .before .before .before .before .args .inverted) (c .before .before .if1 .left) in
-    record { count = omega (arith, c .push .ensures .count); listed = c .push .ensures .listed ∙ rw (inverted, c .before .inversion .ensures); slots = c .push .ensures .slots }
+    record {
+      count = omega (arith, c .push .ensures .count);
+      listed = c .push .ensures .listed ∙ rw (inverted, c .before .inversion .ensures);
+      slots = c .push .ensures .slots;
+    }
 
 pub leading-spec : {M : Type 1} → statement M
 leading-spec =

@@ -46,8 +46,11 @@ loop-again : tie.Need-loop-again Inv-loop μ-loop
 loop-again c =
     let list = c .before .before .before .before .before .args .t1 in
     let i = c .before .before .before .loop .i in
-    let long : length (list .operations) ≡ 9 = simp length-map at (c .before .before .before .before .before .good .0 .1 .1 .1 .0 .1 .0 .1) in
-    (omega arith, rw (c .before .before .before .loop .inv .1, c .shifted .ensures) (moved-next (c .before .before .before .before .before .args .v) (list .operations) i _ (omega arith) (omega arith)))
+    let long : length (list .operations) ≡ 9 = simp length-map at (c .before .before .before .before .before .good .0 .1 .1 .1 .0 .1 .0 .1) in (
+      omega arith,
+      rw (c .before .before .before .loop .inv .1, c .shifted .ensures)
+          (moved-next (c .before .before .before .before .before .args .v) (list .operations) i _ (omega arith) (omega arith)),
+    )
 
 returns : tie.Need-returns Inv-loop μ-loop
 returns c =
@@ -56,7 +59,8 @@ returns c =
     let done : c .before .loop .i ≡ list .count = omega arith in
     record {
       count = refl;
-      moved = c .before .loop .inv .1 ∙ ap (λ (n : ℕ). movedSlots (c .before .before .before .args .v) (list .operations) n) done ∙ moved-all list (c .before .before .before .args .v) (omega arith);
+      moved = c .before .loop .inv .1 ∙ ap (λ (n : ℕ). movedSlots (c .before .before .before .args .v) (list .operations) n) done
+          ∙ moved-all list (c .before .before .before .args .v) (omega arith);
     }
 
 pub shifted-all-spec : {M : Type 1} → statement M

@@ -39,7 +39,13 @@ cast-result c = search needs
 returns : tie.Need-returns
 returns c =
     let a = c .before .before .before .before .before .args in
-    ap (λ (n : ℕ). n % 12) (cc (c .before .before .before .before .wide .ensures, c .before .before .before .wide2 .ensures, c .before .before .turned-back .ensures .0, c .before .turned-back2 .ensures .0, c .turned-back3 .ensures .0)) ∙
+    ap (λ (n : ℕ). n % 12) (cc (
+      c .before .before .before .before .wide .ensures,
+      c .before .before .before .wide2 .ensures,
+      c .before .before .turned-back .ensures .0,
+      c .before .turned-back2 .ensures .0,
+      c .turned-back3 .ensures .0,
+    )) ∙
     sym (shifted-sum (a .a) (a .b) (a .c) (a .v) (a .w) (a .t))
 
 pub shifted-coordinate-spec : {M : Type 1} → statement M

@@ -32,7 +32,8 @@ returns-2 : tie.Need-returns-2
 unfolding latticeToken
 returns-2 c =
     c .parse-letter .ensures
-    ∙ simp (eq-eqb _ _ (c .before .before .if2 .taken)) (ap (λ (t : List ℕ). letterToken true t) (tail-part (c .before .before .before .before .before .before .args .token .now) 1))
+    ∙ simp (eq-eqb _ _ (c .before .before .if2 .taken)) (ap (λ (t : List ℕ). letterToken true t)
+    (tail-part (c .before .before .before .before .before .before .args .token .now) 1))
 
 parse-letter-requires-2 : tie.Need-parse-letter-requires-2
 parse-letter-requires-2 c κs = search needs

@@ -31,7 +31,8 @@ returns-2 : tie.Need-returns-2
 unfolding numberOf
 returns-2 c =
     c .parse-below .ensures
-    ∙ simp (eq-eqb _ _ (c .before .before .if2 .taken)) (ap (λ (t : List ℕ). opposed (digitsOf t)) (tail-part (c .before .before .before .before .before .before .args .word .now) 1))
+    ∙ simp (eq-eqb _ _ (c .before .before .if2 .taken)) (ap (λ (t : List ℕ). opposed (digitsOf t))
+    (tail-part (c .before .before .before .before .before .before .args .word .now) 1))
 
 parse-digits-requires : tie.Need-parse-digits-requires
 parse-digits-requires c κs = search needs

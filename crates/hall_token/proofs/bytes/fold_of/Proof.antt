@@ -28,7 +28,13 @@ returns-5 c = sym (ap foldOf (c .match .keys5))
 returns-6 : tie.Need-returns-6
 unfolding foldOf valueAt
 returns-6 c =
-    simp (ne-eqb _ _ (c .match .rest .0 .0 .0 .0 .1), ne-eqb _ _ (c .match .rest .0 .0 .0 .1), ne-eqb _ _ (c .match .rest .0 .0 .1), ne-eqb _ _ (c .match .rest .0 .1), ne-eqb _ _ (c .match .rest .1))
+    simp (
+      ne-eqb _ _ (c .match .rest .0 .0 .0 .0 .1),
+      ne-eqb _ _ (c .match .rest .0 .0 .0 .1),
+      ne-eqb _ _ (c .match .rest .0 .0 .1),
+      ne-eqb _ _ (c .match .rest .0 .1),
+      ne-eqb _ _ (c .match .rest .1),
+    )
 
 pub fold-of-spec : {M : Type 1} → statement M
 fold-of-spec = tie.close (tie.spec returns returns-2 returns-3 returns-4 returns-5 returns-6)

@@ -34,7 +34,8 @@ returns c =
     let loop-test = c .before .before .before .before .loop-test in
     let run-byte = c .before .before .run-byte in
     let is-of = c .before .is-of in
-    let stop = passing-stop (ofClass (args .class)) (args .run .now) (loop .i) (loop-test .taken) (test-fails (ofClass (args .class)) _ (run-byte .result) (is-of .result) (run-byte .ensures) (is-of .ensures) (c .if1 .taken)) in
+    let stop = passing-stop (ofClass (args .class)) (args .run .now) (loop .i) (loop-test .taken) (test-fails (ofClass (args .class)) _ (run-byte .result)
+    (is-of .result) (run-byte .ensures) (is-of .ensures) (c .if1 .taken)) in
     omega (arith, loop .inv .1, stop)
 
 add-i : tie.Need-add-i Inv-loop μ-loop
@@ -50,7 +51,8 @@ loop-again c =
     let loop-test = c .before .before .before .before .loop-test in
     let run-byte = c .before .before .run-byte in
     let is-of = c .before .is-of in
-    let next = passing-next (ofClass (args .class)) (args .run .now) (loop .i) (loop-test .taken) (test-passes (ofClass (args .class)) _ (run-byte .result) (is-of .result) (run-byte .ensures) (is-of .ensures) (c .if1 .left)) in
+    let next = passing-next (ofClass (args .class)) (args .run .now) (loop .i) (loop-test .taken) (test-passes (ofClass (args .class)) _
+    (run-byte .result) (is-of .result) (run-byte .ensures) (is-of .ensures) (c .if1 .left)) in
     (omega arith, omega (arith, loop .inv .1, next))
 
 returns-2 : tie.Need-returns-2 Inv-loop μ-loop

@@ -35,7 +35,8 @@ returns c =
     let loop-test = c .before .before .before .before .loop-test in
     let run-byte = c .before .before .run-byte in
     let no-screw = c .before .no-screw in
-    sym (loop .inv .4 ∙ letters-stop (args .run .now) (loop .i) (loop .x) (loop .y) (loop .z) (loop-test .taken) (test-fails noScrew _ (run-byte .result) (no-screw .result) (run-byte .ensures) (no-screw .ensures) (c .if1 .taken)))
+    sym (loop .inv .4 ∙ letters-stop (args .run .now) (loop .i) (loop .x) (loop .y) (loop .z) (loop-test .taken)
+    (test-fails noScrew _ (run-byte .result) (no-screw .result) (run-byte .ensures) (no-screw .ensures) (c .if1 .taken)))
 
 letter-vector-requires : tie.Need-letter-vector-requires Inv-loop μ-loop
 letter-vector-requires c κs = search needs
@@ -78,8 +79,14 @@ loop-again c =
     let run-byte = c .before .before .before .before .before .before .run-byte in
     let no-screw = c .before .before .before .before .before .no-screw in
     let if1 = c .before .before .before .before .if1 in
-    let letter-vector = c .before .before .before .letter-vector in
-    (omega arith, omega arith, omega arith, omega arith, loop .inv .4 ∙ letters-next (args .run .now) (loop .i) (loop .x) (loop .y) (loop .z) (run-byte .result) (letter-vector .result) (loop-test .taken) (test-passes noScrew _ (run-byte .result) (no-screw .result) (run-byte .ensures) (no-screw .ensures) (if1 .left)) (run-byte .ensures) (letter-vector .ensures))
+    let letter-vector = c .before .before .before .letter-vector in (
+      omega arith,
+      omega arith,
+      omega arith,
+      omega arith,
+      loop .inv .4
+          ∙ letters-next (args .run .now) (loop .i) (loop .x) (loop .y) (loop .z) (run-byte .result) (letter-vector .result) (loop-test .taken) (test-passes noScrew _ (run-byte .result) (no-screw .result) (run-byte .ensures) (no-screw .ensures) (if1 .left)) (run-byte .ensures) (letter-vector .ensures),
+    )
 
 returns-2 : tie.Need-returns-2 Inv-loop μ-loop
 returns-2 c =
@@ -88,7 +95,8 @@ returns-2 c =
     let run = args .run .now in
     let end : loop .i ≡ length run = omega arith in
     let inv = loop .inv in
-    sym (inv .4 ∙ ap (λ (i : ℕ). lettersFrom (drop i run) (loop .x) (loop .y) (loop .z)) end ∙ letters-end run (loop .x) (loop .y) (loop .z) (inv .1) (inv .2) (inv .3))
+    sym (inv .4 ∙ ap (λ (i : ℕ). lettersFrom (drop i run) (loop .x) (loop .y) (loop .z)) end
+    ∙ letters-end run (loop .x) (loop .y) (loop .z) (inv .1) (inv .2) (inv .3))
 
 pub letters-spec : {M : Type 1} → statement M
 letters-spec =

@@ -33,7 +33,8 @@ returns c =
     let loop-test = c .before .before .before .before .loop-test in
     let run-byte = c .before .before .run-byte in
     let may-stand = c .before .may-stand in
-    sym (loop .inv .1 ∙ every-stop mayStand (args .run .now) (loop .i) (loop-test .taken) (test-fails mayStand _ (run-byte .result) (may-stand .result) (run-byte .ensures) (may-stand .ensures) (c .if1 .taken)))
+    sym (loop .inv .1 ∙ every-stop mayStand (args .run .now) (loop .i) (loop-test .taken)
+    (test-fails mayStand _ (run-byte .result) (may-stand .result) (run-byte .ensures) (may-stand .ensures) (c .if1 .taken)))
 
 add-i : tie.Need-add-i Inv-loop μ-loop
 add-i c = omega arith
@@ -47,8 +48,11 @@ loop-again c =
     let loop = c .before .before .before .before .before .loop in
     let loop-test = c .before .before .before .before .loop-test in
     let run-byte = c .before .before .run-byte in
-    let may-stand = c .before .may-stand in
-    (omega arith, loop .inv .1 ∙ every-next mayStand (args .run .now) (loop .i) (loop-test .taken) (test-passes mayStand _ (run-byte .result) (may-stand .result) (run-byte .ensures) (may-stand .ensures) (c .if1 .left)))
+    let may-stand = c .before .may-stand in (
+      omega arith,
+      loop .inv .1 ∙ every-next mayStand (args .run .now) (loop .i) (loop-test .taken)
+          (test-passes mayStand _ (run-byte .result) (may-stand .result) (run-byte .ensures) (may-stand .ensures) (c .if1 .left)),
+    )
 
 returns-2 : tie.Need-returns-2 Inv-loop μ-loop
 returns-2 c =

@@ -29,7 +29,8 @@ returns-2 c =
     let run-byte = c .before .before .before .run-byte in
     let no-screw = c .before .before .no-screw in
     let if2 = c .before .if2 in
-    c .letters .ensures ∙ sym (front-letters (args .fold) (args .axis) (args .run .now) (run-byte .result) (no-screw .result) (if1 .left) (run-byte .ensures) (no-screw .ensures) (if2 .taken))
+    c .letters .ensures ∙ sym (front-letters (args .fold) (args .axis) (args .run .now) (run-byte .result) (no-screw .result) (if1 .left)
+    (run-byte .ensures) (no-screw .ensures) (if2 .taken))
 
 plain-z-requires : tie.Need-plain-z-requires
 plain-z-requires c κs = search needs
@@ -42,7 +43,8 @@ returns-3 c =
     let no-screw = c .before .before .before .no-screw in
     let if2 = c .before .before .if2 in
     let plain-z = c .before .plain-z in
-    sym (front-wrong (args .fold) (args .axis) (args .run .now) (run-byte .result) (no-screw .result) (if1 .left) (run-byte .ensures) (no-screw .ensures) (if2 .left) (off-axis (args .fold) (args .axis) (screwDigit (run-byte .result)) (plain-z .result) (plain-z .ensures) (c .if3 .taken)))
+    sym (front-wrong (args .fold) (args .axis) (args .run .now) (run-byte .result) (no-screw .result) (if1 .left) (run-byte .ensures) (no-screw .ensures)
+    (if2 .left) (off-axis (args .fold) (args .axis) (screwDigit (run-byte .result)) (plain-z .result) (plain-z .ensures) (c .if3 .taken)))
 
 screw-digit-requires : tie.Need-screw-digit-requires
 screw-digit-requires c κs = search needs
@@ -62,7 +64,8 @@ returns-4 c =
     let screw-digit = c .before .before .screw-digit in
     let fold-number = c .before .fold-number in
     let large = rw (fold-number .ensures, screw-digit .ensures) at (c .if4 .taken) in
-    sym (front-wrong (args .fold) (args .axis) (args .run .now) (run-byte .result) (no-screw .result) (if1 .left) (run-byte .ensures) (no-screw .ensures) (if2 .left) (too-large (args .fold) (args .axis) (screwDigit (run-byte .result)) (plain-z .result) (plain-z .ensures) (if3 .left) large))
+    sym (front-wrong (args .fold) (args .axis) (args .run .now) (run-byte .result) (no-screw .result) (if1 .left) (run-byte .ensures) (no-screw .ensures)
+    (if2 .left) (too-large (args .fold) (args .axis) (screwDigit (run-byte .result)) (plain-z .result) (plain-z .ensures) (if3 .left) large))
 
 sub-letters : tie.Need-sub-letters
 sub-letters c = search needs
@@ -103,7 +106,12 @@ returns-5 c =
     let fold-number = c .before .before .before .fold-number in
     let if4 = c .before .before .if4 in
     let small = rw (fold-number .ensures, screw-digit .ensures) at (if4 .left) in
-    rw (front-screw (args .fold) (args .axis) (args .run .now) (run-byte .result) (no-screw .result) (if1 .left) (run-byte .ensures) (no-screw .ensures) (if2 .left) (right-digit (args .fold) (args .axis) (screwDigit (run-byte .result)) (plain-z .result) (plain-z .ensures) (if3 .left) small), ← screw-digit .ensures, ← fold-number .ensures)
+    rw (
+      front-screw (args .fold) (args .axis) (args .run .now) (run-byte .result) (no-screw .result) (if1 .left) (run-byte .ensures) (no-screw .ensures)
+          (if2 .left) (right-digit (args .fold) (args .axis) (screwDigit (run-byte .result)) (plain-z .result) (plain-z .ensures) (if3 .left) small),
+      ← screw-digit .ensures,
+      ← fold-number .ensures,
+    )
     (c .letters2 .ensures)
 
 pub translation-of-spec : {M : Type 1} → statement M

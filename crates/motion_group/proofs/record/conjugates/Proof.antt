@@ -31,8 +31,10 @@ returns c =
     let filled = called .before .before .before .before .before .table .ensures in
     let asks = called .before .before .before .before .before .before .before .before .before .before .args in (
       asked filled (λ (n : ℕ) (t : List ℕ). conjugatesEntry n t (asks .set) (asks .sets .now) (asks .conjugators .now)) (called .conjugates-in .ensures .0),
-      lent-asked filled (asks .sets .now) (λ (n : ℕ) (t : List ℕ). conjugatesList n t (asks .set) (asks .sets .now) (asks .conjugators .now)) (called .conjugates-in .ensures .1),
-      lent-asked filled (asks .conjugators .now) (λ (n : ℕ) (t : List ℕ). conjugatorsList n t (asks .set) (asks .sets .now) (asks .conjugators .now)) (called .conjugates-in .ensures .2),
+      lent-asked filled (asks .sets .now) (λ (n : ℕ) (t : List ℕ). conjugatesList n t (asks .set) (asks .sets .now)
+          (asks .conjugators .now)) (called .conjugates-in .ensures .1),
+      lent-asked filled (asks .conjugators .now) (λ (n : ℕ) (t : List ℕ). conjugatorsList n t (asks .set) (asks .sets .now)
+          (asks .conjugators .now)) (called .conjugates-in .ensures .2),
     )
 
 pub conjugates-spec : {M : Type 1} → statement M

@@ -23,7 +23,9 @@ returns : tie.Need-returns
 returns c =
     let filled = c .before .before .before .before .before in
     let start = filled .before .before .before .before in
-    filled-holds (sym (ap ofRecord (c .before .order .given .1)) ∙ ap ofRecord (filled .fill-cells .ensures .0)) (filled .fill-cells .ensures .1) (record-holds _ _ (λ i. omega (arith, filled .before .before .before .shared-slice-known .given i)) (start .pre))
+    filled-holds (sym (ap ofRecord (c .before .order .given .1))
+    ∙ ap ofRecord (filled .fill-cells .ensures .0)) (filled .fill-cells .ensures .1) (record-holds _ _ (λ i. omega
+    (arith, filled .before .before .before .shared-slice-known .given i)) (start .pre))
 
 same-length-2 : tie.Need-same-length-2
 same-length-2 c = search needs
@@ -32,7 +34,9 @@ returns-2 : tie.Need-returns-2
 returns-2 c =
     let filled = c .before .before .before .before .before in
     let start = filled .before .before .before .before in
-    filled-holds (sym (ap ofRecord (c .before .why .given .1)) ∙ ap ofRecord (filled .fill-cells .ensures .0)) (filled .fill-cells .ensures .1) (record-holds _ _ (λ i. omega (arith, filled .before .before .before .shared-slice-known .given i)) (start .pre))
+    filled-holds (sym (ap ofRecord (c .before .why .given .1))
+    ∙ ap ofRecord (filled .fill-cells .ensures .0)) (filled .fill-cells .ensures .1) (record-holds _ _ (λ i. omega
+    (arith, filled .before .before .before .shared-slice-known .given i)) (start .pre))
 
 pub table-spec : {M : Type 1} → statement M
 table-spec =

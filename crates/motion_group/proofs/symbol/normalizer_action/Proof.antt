@@ -28,7 +28,8 @@ returns c =
     let filled = called .before .before .before .before .table .ensures in
     let asks = called .before .before .before .before .before .before .before .before .args in (
       asked filled (λ (n : ℕ) (t : List ℕ). permutationEntry n t (asks .set) (asks .element) (asks .positions .now)) (called .permutation-in .ensures .0),
-      lent-asked filled (asks .positions .now) (λ (n : ℕ) (t : List ℕ). permutationList n t (asks .set) (asks .element) (asks .positions .now)) (called .permutation-in .ensures .1),
+      lent-asked filled (asks .positions .now) (λ (n : ℕ) (t : List ℕ). permutationList n t (asks .set) (asks .element)
+          (asks .positions .now)) (called .permutation-in .ensures .1),
     )
 
 pub normalizer-action-spec : {M : Type 1} → statement M

@@ -22,7 +22,8 @@ returns : tie.Need-returns
 returns c =
     let filled = c .before .before .before .before .before in
     let start = filled .before .before .before .before in
-    filled-holds (sym (ap ofSymbol (c .before .order .given .1)) ∙ ap ofSymbol (filled .fill-cells .ensures .0)) (filled .fill-cells .ensures .1) (symbol-holds _ _ (start .pre))
+    filled-holds (sym (ap ofSymbol (c .before .order .given .1))
+    ∙ ap ofSymbol (filled .fill-cells .ensures .0)) (filled .fill-cells .ensures .1) (symbol-holds _ _ (start .pre))
 
 same-length-2 : tie.Need-same-length-2
 same-length-2 c = search needs
@@ -31,7 +32,8 @@ returns-2 : tie.Need-returns-2
 returns-2 c =
     let filled = c .before .before .before .before .before in
     let start = filled .before .before .before .before in
-    filled-holds (sym (ap ofSymbol (c .before .refusal .given .1)) ∙ ap ofSymbol (filled .fill-cells .ensures .0)) (filled .fill-cells .ensures .1) (symbol-holds _ _ (start .pre))
+    filled-holds (sym (ap ofSymbol (c .before .refusal .given .1))
+    ∙ ap ofSymbol (filled .fill-cells .ensures .0)) (filled .fill-cells .ensures .1) (symbol-holds _ _ (start .pre))
 
 pub table-spec : {M : Type 1} → statement M
 table-spec =

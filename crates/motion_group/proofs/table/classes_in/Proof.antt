@@ -12,7 +12,8 @@ enum-known-source : tie.Need-enum-known-source
 enum-known-source c = search needs
 
 mul-end : tie.Need-mul-end
-mul-end c = let start = c .before .before .before .before .before in omega (arith, end-fits (start .args .source) _ (start .pre) _ (c .before .source .given .1))
+mul-end c = let start = c .before .before .before .before .before in
+    omega (arith, end-fits (start .args .source) _ (start .pre) _ (c .before .source .given .1))
 
 sub-conjugacy-classes : tie.Need-sub-conjugacy-classes
 sub-conjugacy-classes c = search needs
@@ -21,7 +22,8 @@ part-conjugacy-classes-start : tie.Need-part-conjugacy-classes-start
 part-conjugacy-classes-start c = search needs
 
 part-conjugacy-classes-end : tie.Need-part-conjugacy-classes-end
-part-conjugacy-classes-end c = let start = c .before .before .before .before .before in omega (arith, end-fits (start .args .source) _ (start .pre) _ (c .before .source .given .1))
+part-conjugacy-classes-end c = let start = c .before .before .before .before .before in
+    omega (arith, end-fits (start .args .source) _ (start .pre) _ (c .before .source .given .1))
 
 conjugacy-classes-requires : tie.Need-conjugacy-classes-requires
 conjugacy-classes-requires c κs = search needs

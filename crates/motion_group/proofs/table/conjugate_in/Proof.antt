@@ -21,7 +21,8 @@ part-conjugate-start : tie.Need-part-conjugate-start
 part-conjugate-start c = search needs
 
 part-conjugate-end : tie.Need-part-conjugate-end
-part-conjugate-end c = let start = c .before .before .before .before in omega (arith, end-fits (start .args .source) _ (start .pre) _ (c .before .source .given .1))
+part-conjugate-end c = let start = c .before .before .before .before in
+    omega (arith, end-fits (start .args .source) _ (start .pre) _ (c .before .source .given .1))
 
 conjugate-requires : tie.Need-conjugate-requires
 conjugate-requires c κs = search needs

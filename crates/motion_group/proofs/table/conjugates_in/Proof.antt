@@ -12,7 +12,8 @@ enum-known-source : tie.Need-enum-known-source
 enum-known-source c = search needs
 
 mul-end : tie.Need-mul-end
-mul-end c = let start = c .before .before .before .before .before .before in omega (arith, end-fits (start .args .source) _ (start .pre) _ (c .before .source .given .1))
+mul-end c = let start = c .before .before .before .before .before .before in
+    omega (arith, end-fits (start .args .source) _ (start .pre) _ (c .before .source .given .1))
 
 sub-conjugates : tie.Need-sub-conjugates
 sub-conjugates c = search needs
@@ -21,7 +22,8 @@ part-conjugates-start : tie.Need-part-conjugates-start
 part-conjugates-start c = search needs
 
 part-conjugates-end : tie.Need-part-conjugates-end
-part-conjugates-end c = let start = c .before .before .before .before .before .before in omega (arith, end-fits (start .args .source) _ (start .pre) _ (c .before .source .given .1))
+part-conjugates-end c = let start = c .before .before .before .before .before .before in
+    omega (arith, end-fits (start .args .source) _ (start .pre) _ (c .before .source .given .1))
 
 conjugates-requires : tie.Need-conjugates-requires
 conjugates-requires c κs = search needs

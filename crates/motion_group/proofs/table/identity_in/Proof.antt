@@ -21,7 +21,8 @@ part-identity-start : tie.Need-part-identity-start
 part-identity-start c = search needs
 
 part-identity-end : tie.Need-part-identity-end
-part-identity-end c = let start = c .before .before .before .before in omega (arith, end-fits (start .args .source) _ (start .pre) _ (c .before .source .given .1))
+part-identity-end c = let start = c .before .before .before .before in
+    omega (arith, end-fits (start .args .source) _ (start .pre) _ (c .before .source .given .1))
 
 identity-requires : tie.Need-identity-requires
 identity-requires c κs = search needs

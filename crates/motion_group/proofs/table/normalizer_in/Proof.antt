@@ -21,7 +21,8 @@ part-normalizer-start : tie.Need-part-normalizer-start
 part-normalizer-start c = search needs
 
 part-normalizer-end : tie.Need-part-normalizer-end
-part-normalizer-end c = let start = c .before .before .before .before in omega (arith, end-fits (start .args .source) _ (start .pre) _ (c .before .source .given .1))
+part-normalizer-end c = let start = c .before .before .before .before in
+    omega (arith, end-fits (start .args .source) _ (start .pre) _ (c .before .source .given .1))
 
 normalizer-requires : tie.Need-normalizer-requires
 normalizer-requires c κs = search needs

@@ -12,7 +12,8 @@ enum-known-source : tie.Need-enum-known-source
 enum-known-source c = search needs
 
 mul-end : tie.Need-mul-end
-mul-end c = let start = c .before .before .before .before .before in omega (arith, end-fits (start .args .source) _ (start .pre) _ (c .before .source .given .1))
+mul-end c = let start = c .before .before .before .before .before in
+    omega (arith, end-fits (start .args .source) _ (start .pre) _ (c .before .source .given .1))
 
 sub-normalizer-action : tie.Need-sub-normalizer-action
 sub-normalizer-action c = search needs
@@ -21,7 +22,8 @@ part-normalizer-action-start : tie.Need-part-normalizer-action-start
 part-normalizer-action-start c = search needs
 
 part-normalizer-action-end : tie.Need-part-normalizer-action-end
-part-normalizer-action-end c = let start = c .before .before .before .before .before in omega (arith, end-fits (start .args .source) _ (start .pre) _ (c .before .source .given .1))
+part-normalizer-action-end c = let start = c .before .before .before .before .before in
+    omega (arith, end-fits (start .args .source) _ (start .pre) _ (c .before .source .given .1))
 
 normalizer-action-requires : tie.Need-normalizer-action-requires
 normalizer-action-requires c κs = search needs

@@ -12,7 +12,8 @@ enum-known-source : tie.Need-enum-known-source
 enum-known-source c = search needs
 
 mul-end : tie.Need-mul-end
-mul-end c = let start = c .before .before .before .before .before in omega (arith, end-fits (start .args .source) _ (start .pre) _ (c .before .source .given .1))
+mul-end c = let start = c .before .before .before .before .before in
+    omega (arith, end-fits (start .args .source) _ (start .pre) _ (c .before .source .given .1))
 
 sub-enumerate-subgroups : tie.Need-sub-enumerate-subgroups
 sub-enumerate-subgroups c = search needs
@@ -21,7 +22,8 @@ part-enumerate-subgroups-start : tie.Need-part-enumerate-subgroups-start
 part-enumerate-subgroups-start c = search needs
 
 part-enumerate-subgroups-end : tie.Need-part-enumerate-subgroups-end
-part-enumerate-subgroups-end c = let start = c .before .before .before .before .before in omega (arith, end-fits (start .args .source) _ (start .pre) _ (c .before .source .given .1))
+part-enumerate-subgroups-end c = let start = c .before .before .before .before .before in
+    omega (arith, end-fits (start .args .source) _ (start .pre) _ (c .before .source .given .1))
 
 enumerate-subgroups-requires : tie.Need-enumerate-subgroups-requires
 enumerate-subgroups-requires c κs = search needs

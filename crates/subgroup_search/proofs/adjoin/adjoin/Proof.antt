@@ -54,7 +54,8 @@ swept-requires c κs =
       p .1,
       p .2,
       l .inv .forced r (l .inv .waiting-inside r (c .before .lowest .ensures (c .before .before .loop-test .taken) .0)),
-      growing-next _ _ _ _ _ _ (p .0 .group) (p .1) (l .set) (l .waiting) r (c .without .result) (c .without .ensures (c .before .lowest .ensures (c .before .before .loop-test .taken) .0)) (l .inv),
+      growing-next _ _ _ _ _ _ (p .0 .group) (p .1) (l .set) (l .waiting) r (c .without .result) (c .without .ensures
+          (c .before .lowest .ensures (c .before .before .loop-test .taken) .0)) (l .inv),
     )
 
 returns : tie.Need-returns Inv-loop μ-loop

@@ -28,20 +28,24 @@ returns c =
     let a = c .before .before .before .before .before .args in
     let p = c .before .before .before .before .before .pre in
     let times = product (a .n) (a .t .now) in
-    let F = product-forced (a .n) times (a .e) (a .h) (a .g) (p .0 .group) (p .1) (a .g) (a .r) (a .g) (p .3) (new-forced (a .n) times (a .e) (a .h) (a .g) (p .0 .group) (p .1) (a .g) (p .2)) in
+    let F = product-forced (a .n) times (a .e) (a .h) (a .g) (p .0 .group) (p .1) (a .g) (a .r) (a .g) (p .3) (new-forced (a .n) times (a .e) (a .h)
+    (a .g) (p .0 .group) (p .1) (a .g) (p .2)) in
     let q = not-true _ (c .if1 .taken) in
     swept-barred _ _ _ _ _ _ _ _ q
-    (taken-barred (a .n) times (a .e) (a .h) (a .g) (a .g) (p .0 .group) (p .1) (λ x. x ≡ a .r) (a .k) (a .waiting) (times (a .r) (a .g)) (p .4) F (rw (c .before .before .before .cell .ensures .0) at (c .before .before .taken .ensures)) q)
+    (taken-barred (a .n) times (a .e) (a .h) (a .g) (a .g) (p .0 .group) (p .1) (λ x. x ≡ a .r) (a .k) (a .waiting) (times (a .r) (a .g)) (p .4) F
+    (rw (c .before .before .before .cell .ensures .0) at (c .before .before .taken .ensures)) q)
 
 loop-holds : tie.Need-loop-holds Inv-loop μ-loop
 loop-holds c =
     let a = c .before .before .before .before .before .args in
     let p = c .before .before .before .before .before .pre in
     let times = product (a .n) (a .t .now) in
-    let F = product-forced (a .n) times (a .e) (a .h) (a .g) (p .0 .group) (p .1) (a .g) (a .r) (a .g) (p .3) (new-forced (a .n) times (a .e) (a .h) (a .g) (p .0 .group) (p .1) (a .g) (p .2)) in
+    let F = product-forced (a .n) times (a .e) (a .h) (a .g) (p .0 .group) (p .1) (a .g) (a .r) (a .g) (p .3) (new-forced (a .n) times (a .e) (a .h)
+    (a .g) (p .0 .group) (p .1) (a .g) (p .2)) in
     let q = not-false _ (c .if1 .left) in
     sweeping-start _ _ _ _ _ _ _ _ _
-    (taken-grown (a .n) times (a .e) (a .h) (a .g) (a .g) (p .0 .group) (p .1) (λ x. x ≡ a .r) (a .k) (a .waiting) (times (a .r) (a .g)) (p .4) F (rw (c .before .before .before .cell .ensures .0) at (c .before .before .taken .ensures)) q)
+    (taken-grown (a .n) times (a .e) (a .h) (a .g) (a .g) (p .0 .group) (p .1) (λ x. x ≡ a .r) (a .k) (a .waiting) (times (a .r) (a .g)) (p .4) F
+    (rw (c .before .before .before .cell .ensures .0) at (c .before .before .taken .ensures)) q)
 
 lowest-requires : tie.Need-lowest-requires Inv-loop μ-loop
 lowest-requires c κs = search needs
@@ -52,7 +56,8 @@ cell-requires-2 c κs =
     (p .0 .cells, p .3 .below, member-below _ _ _ (p .1 .small) (c .before .before .loop .inv .inside _ (c .lowest .ensures (c .before .loop-test .taken) .0)))
 
 taken-requires-2 : tie.Need-taken-requires-2 Inv-loop μ-loop
-taken-requires-2 c κs = let p = c .before .before .before .before .before .before .before .before .before .pre in (p .0, p .1 .small, c .cell2 .ensures .1, omega arith)
+taken-requires-2 c κs = let p = c .before .before .before .before .before .before .before .before .before .pre in
+    (p .0, p .1 .small, c .cell2 .ensures .1, omega arith)
 
 returns-2 : tie.Need-returns-2 Inv-loop μ-loop
 returns-2 c =
@@ -62,16 +67,19 @@ returns-2 c =
     let x = c .before .before .before .before .lowest .result in
     let times = product (a .n) (a .t .now) in
     let F = product-forced (a .n) times (a .e) (a .h) (a .g) (p .0 .group) (p .1) (a .g) (a .r) x (p .3)
-    (old-forced (a .n) times (a .e) (a .h) (a .g) (p .0 .group) (p .1) (a .g) x (l .inv .inside x (c .before .before .before .before .lowest .ensures (c .before .before .before .before .before .loop-test .taken) .0))) in
+    (old-forced (a .n) times (a .e) (a .h) (a .g) (p .0 .group) (p .1) (a .g) x
+    (l .inv .inside x (c .before .before .before .before .lowest .ensures (c .before .before .before .before .before .loop-test .taken) .0))) in
     let q = not-true _ (c .if2 .taken) in
     swept-barred _ _ _ _ _ _ _ _ q
-    (taken-barred (a .n) times (a .e) (a .h) (a .g) (a .g) (p .0 .group) (p .1) (λ x. x ≡ a .r) (l .set) (l .rest) (times (a .r) x) (l .inv .state) F (rw (c .before .before .before .cell2 .ensures .0) at (c .before .before .taken2 .ensures)) q)
+    (taken-barred (a .n) times (a .e) (a .h) (a .g) (a .g) (p .0 .group) (p .1) (λ x. x ≡ a .r) (l .set) (l .rest) (times (a .r) x) (l .inv .state) F
+    (rw (c .before .before .before .cell2 .ensures .0) at (c .before .before .taken2 .ensures)) q)
 
 without-requires : tie.Need-without-requires Inv-loop μ-loop
 without-requires c κs = search needs
 
 loop-less : tie.Need-loop-less Inv-loop μ-loop
-loop-less c = without-less _ _ _ (c .without .ensures (c .before .before .before .before .before .lowest .ensures (c .before .before .before .before .before .before .loop-test .taken) .0))
+loop-less c = without-less _ _ _ (c .without .ensures
+    (c .before .before .before .before .before .lowest .ensures (c .before .before .before .before .before .before .loop-test .taken) .0))
 
 loop-again : tie.Need-loop-again Inv-loop μ-loop
 loop-again c =
@@ -81,10 +89,13 @@ loop-again c =
     let x = c .before .before .before .before .before .lowest .result in
     let times = product (a .n) (a .t .now) in
     let F = product-forced (a .n) times (a .e) (a .h) (a .g) (p .0 .group) (p .1) (a .g) (a .r) x (p .3)
-    (old-forced (a .n) times (a .e) (a .h) (a .g) (p .0 .group) (p .1) (a .g) x (l .inv .inside x (c .before .before .before .before .before .lowest .ensures (c .before .before .before .before .before .before .loop-test .taken) .0))) in
+    (old-forced (a .n) times (a .e) (a .h) (a .g) (p .0 .group) (p .1) (a .g) x
+    (l .inv .inside x (c .before .before .before .before .before .lowest .ensures
+    (c .before .before .before .before .before .before .loop-test .taken) .0))) in
     let q = not-false _ (c .before .if2 .left) in
     sweeping-step (a .n) times (a .e) (a .h) (a .g) (a .g) (a .k) (a .waiting) (a .r) (l .set) (l .rest) (l .left) x (c .without .result) (l .inv) (c .without .ensures (c .before .before .before .before .before .lowest .ensures (c .before .before .before .before .before .before .loop-test .taken) .0))
-    (taken-grown (a .n) times (a .e) (a .h) (a .g) (a .g) (p .0 .group) (p .1) (λ x. x ≡ a .r) (l .set) (l .rest) (times (a .r) x) (l .inv .state) F (rw (c .before .before .before .before .cell2 .ensures .0) at (c .before .before .before .taken2 .ensures)) q)
+    (taken-grown (a .n) times (a .e) (a .h) (a .g) (a .g) (p .0 .group) (p .1) (λ x. x ≡ a .r) (l .set) (l .rest) (times (a .r) x) (l .inv .state) F
+    (rw (c .before .before .before .before .cell2 .ensures .0) at (c .before .before .before .taken2 .ensures)) q)
 
 returns-3 : tie.Need-returns-3 Inv-loop μ-loop
 returns-3 c =

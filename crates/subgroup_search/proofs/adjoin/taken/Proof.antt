@@ -36,7 +36,8 @@ shl-low c = search needs
 
 rem-low : tie.Need-rem-low
 rem-low c =
-    let h : c .before .before .before .before .args .bound < 64 = let a = c .before .before .before .before .pre .3 in let b = c .before .before .before .before .pre .0 .cells .limit in omega arith in
+    let h : c .before .before .before .before .args .bound < 64 = let a = c .before .before .before .before .pre .3 in let b =
+    c .before .before .before .before .pre .0 .cells .limit in omega arith in
     rw (shifted-one 64 (c .before .before .before .before .args .bound) h) (pow-pos (c .before .before .before .before .args .bound))
 
 within-requires : tie.Need-within-requires
@@ -45,7 +46,8 @@ within-requires c κs = search needs
 returns-2 : tie.Need-returns-2
 returns-2 c =
     let a = c .before .before .before .before .before .before .args in
-    let h : a .bound < 64 = let p = c .before .before .before .before .before .before .pre .3 in let b = c .before .before .before .before .before .before .pre .0 .cells .limit in omega arith in
+    let h : a .bound < 64 = let p = c .before .before .before .before .before .before .pre .3 in let b =
+    c .before .before .before .before .before .before .pre .0 .cells .limit in omega arith in
     let coset = cosetOf (a .n) (product (a .n) (a .t .now)) (a .e) (a .h) (a .p) in
     let plain = coset-plain (a .n) (product (a .n) (a .t .now)) (a .e) (c .before .before .before .before .before .before .pre .0 .group) (a .h) (a .p) (c .before .before .before .before .before .before .pre .1) (c .before .before .before .before .before .before .pre .2) in
     let test : eqb (bitAnd (coset % 2 ^ a .bound) (a .h)) (coset % 2 ^ a .bound) ≡ false =
@@ -59,12 +61,19 @@ with-element-requires c κs = search needs
 returns-3 : tie.Need-returns-3
 returns-3 c =
     let a = c .before .before .before .before .before .before .before .args in
-    let h : a .bound < 64 = let p = c .before .before .before .before .before .before .before .pre .3 in let b = c .before .before .before .before .before .before .before .pre .0 .cells .limit in omega arith in
+    let h : a .bound < 64 = let p = c .before .before .before .before .before .before .before .pre .3 in let b =
+    c .before .before .before .before .before .before .before .pre .0 .cells .limit in omega arith in
     let coset = cosetOf (a .n) (product (a .n) (a .t .now)) (a .e) (a .h) (a .p) in
     let plain = coset-plain (a .n) (product (a .n) (a .t .now)) (a .e) (c .before .before .before .before .before .before .before .pre .0 .group) (a .h) (a .p) (c .before .before .before .before .before .before .before .pre .1) (c .before .before .before .before .before .before .before .pre .2) in
     let test : eqb (bitAnd (coset % 2 ^ a .bound) (a .h)) (coset % 2 ^ a .bound) ≡ true =
-    rw (← (c .before .before .before .coset .ensures ∙ plain), ← shifted-one 64 (a .bound) h) (sym (c .before .before .within .ensures) ∙ not-false _ (c .before .if2 .left)) in
-    rw (c .before .before .before .coset .ensures ∙ plain, c .with-element .ensures (word (c .before .before .before .before .before .before .before .pre))) (joins (sym (c .before .before .before .before .before .contains .ensures (word (c .before .before .before .before .before .before .before .pre))) ∙ c .before .before .before .before .if1 .left) (within-passes (a .bound) coset (a .h) test))
+    rw (← (c .before .before .before .coset .ensures ∙ plain), ← shifted-one 64 (a .bound) h) (sym (c .before .before .within .ensures)
+    ∙ not-false _ (c .before .if2 .left)) in
+    rw (
+      c .before .before .before .coset .ensures ∙ plain,
+      c .with-element .ensures (word (c .before .before .before .before .before .before .before .pre)),
+    ) (joins (sym
+    (c .before .before .before .before .before .contains .ensures (word (c .before .before .before .before .before .before .before .pre)))
+    ∙ c .before .before .before .before .if1 .left) (within-passes (a .bound) coset (a .h) test))
 
 pub taken-spec : {M : Type 1} → statement M
 taken-spec =

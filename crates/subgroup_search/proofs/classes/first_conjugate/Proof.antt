@@ -18,7 +18,8 @@ rest-of-requires : tie.Need-rest-of-requires Inv-loop μ-loop
 rest-of-requires c κs = search needs
 
 loop-holds : tie.Need-loop-holds Inv-loop μ-loop
-loop-holds c = rw (c .rest-of .ensures (let h = c .before .before .pre .0 .cells .limit in omega arith)) (trying-start _ _ _ (c .before .before .pre .0 .group) _ (c .before .before .pre .1))
+loop-holds c = rw (c .rest-of .ensures (let h = c .before .before .pre .0 .cells .limit in omega arith)) (trying-start _ _ _
+    (c .before .before .pre .0 .group) _ (c .before .before .pre .1))
 
 lowest-requires : tie.Need-lowest-requires Inv-loop μ-loop
 lowest-requires c κs = search needs
@@ -32,8 +33,12 @@ earlier-of-requires c κs = search needs
 coset-requires : tie.Need-coset-requires Inv-loop μ-loop
 coset-requires c κs =
     let p = c .before .before .before .before .before .before .before .pre in
-    let l = c .before .before .before .before .loop in
-    (p .0 .cells, p .1 .small, trying-below _ _ _ (p .0 .group) _ (p .1) (l .left) (l .best) (l .inv) (c .before .before .lowest .result) (c .before .before .lowest .ensures (c .before .before .before .loop-test .taken) .0))
+    let l = c .before .before .before .before .loop in (
+      p .0 .cells,
+      p .1 .small,
+      trying-below _ _ _ (p .0 .group) _ (p .1) (l .left) (l .best) (l .inv) (c .before .before .lowest .result)
+          (c .before .before .lowest .ensures (c .before .before .before .loop-test .taken) .0),
+    )
 
 outside-requires : tie.Need-outside-requires Inv-loop μ-loop
 outside-requires c κs = search needs
@@ -44,7 +49,11 @@ loop-less c =
     let l = c .before .before .before .before .before .before .loop in
     let below = trying-below _ _ _ (p .0 .group) _ (p .1) (l .left) (l .best) (l .inv) (c .before .before .before .before .lowest .result) (c .before .before .before .before .lowest .ensures (c .before .before .before .before .before .loop-test .taken) .0) in
     let plain = coset-plain _ _ _ (p .0 .group) _ (c .before .before .before .before .lowest .result) (p .1 .small) below in
-    rw (c .outside .ensures, c .before .coset .ensures ∙ plain) (trying-less _ _ _ (p .0 .group) _ (p .1) (l .left) (l .best) (l .inv) (c .before .before .before .before .lowest .result) (c .before .before .before .before .lowest .ensures (c .before .before .before .before .before .loop-test .taken) .0))
+    rw (
+      c .outside .ensures,
+      c .before .coset .ensures
+          ∙ plain,
+    ) (trying-less _ _ _ (p .0 .group) _ (p .1) (l .left) (l .best) (l .inv) (c .before .before .before .before .lowest .result) (c .before .before .before .before .lowest .ensures (c .before .before .before .before .before .loop-test .taken) .0))
 
 loop-again : tie.Need-loop-again Inv-loop μ-loop
 loop-again c =
@@ -52,8 +61,14 @@ loop-again c =
     let l = c .before .before .before .before .before .before .loop in
     let below = trying-below _ _ _ (p .0 .group) _ (p .1) (l .left) (l .best) (l .inv) (c .before .before .before .before .lowest .result) (c .before .before .before .before .lowest .ensures (c .before .before .before .before .before .loop-test .taken) .0) in
     let plain = coset-plain _ _ _ (p .0 .group) _ (c .before .before .before .before .lowest .result) (p .1 .small) below in
-    rw (c .outside .ensures, c .before .coset .ensures ∙ plain, c .before .before .earlier-of .ensures, c .before .before .before .conjugate-set .ensures (p .0) (p .1 .small) below)
-    (trying-next _ _ _ (p .0 .group) _ (p .1) (l .left) (l .best) (l .inv) (c .before .before .before .before .lowest .result) (c .before .before .before .before .lowest .ensures (c .before .before .before .before .before .loop-test .taken) .0) (p .0 .cells .limit))
+    rw (
+      c .outside .ensures,
+      c .before .coset .ensures ∙ plain,
+      c .before .before .earlier-of .ensures,
+      c .before .before .before .conjugate-set .ensures (p .0) (p .1 .small) below,
+    )
+    (trying-next _ _ _ (p .0 .group) _ (p .1) (l .left) (l .best) (l .inv) (c .before .before .before .before .lowest .result)
+    (c .before .before .before .before .lowest .ensures (c .before .before .before .before .before .loop-test .taken) .0) (p .0 .cells .limit))
 
 returns : tie.Need-returns Inv-loop μ-loop
 returns c =

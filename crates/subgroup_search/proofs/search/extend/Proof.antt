@@ -17,7 +17,8 @@ use Rattle.subgroup_search.proofs.search.extend.Tie as tie
 
 abbrev Inv-loop : tie.InvT-loop
 Inv-loop sets₀ t n e classes count h c₀ left₀ sets c left =
-    (length sets ≡ length sets₀) × (left < 2 ^ n) × ((j : ℕ) → member left j ≡ true → member h j ≡ false) × ExtendedBut n (product n t) e classes h left count sets₀ sets (Count c)
+    (length sets ≡ length sets₀) × (left < 2 ^ n) × ((j : ℕ) → member left j ≡ true → member h j ≡ false)
+    × ExtendedBut n (product n t) e classes h left count sets₀ sets (Count c)
 
 abbrev μ-loop : tie.MeasureT-loop
 μ-loop sets₀ t n e classes count h c₀ left₀ sets c left = left
@@ -29,8 +30,12 @@ loop-holds : tie.Need-loop-holds Inv-loop μ-loop
 loop-holds c =
     let a = c .before .before .before .args in
     let p = c .before .before .before .pre in
-    rw (c .rest-of .ensures (let h = p .0 .cells .limit in omega arith))
-    (refl, rest-below (a .n) (a .h), rest-apart (a .n) (a .h), extended-start (a .n) (product (a .n) (a .t .now)) (a .e) (a .classes) (p .0 .group) (a .h) (p .1) (a .count) (a .sets .now) (p .2))
+    rw (c .rest-of .ensures (let h = p .0 .cells .limit in omega arith)) (
+      refl,
+      rest-below (a .n) (a .h),
+      rest-apart (a .n) (a .h),
+      extended-start (a .n) (product (a .n) (a .t .now)) (a .e) (a .classes) (p .0 .group) (a .h) (p .1) (a .count) (a .sets .now) (p .2),
+    )
 
 lowest-requires : tie.Need-lowest-requires Inv-loop μ-loop
 lowest-requires c κs = search needs
@@ -79,7 +84,10 @@ loop-less c =
     let i = c .before .before .before .before .before .before .before .before .before .lowest .ensures (c .before .before .before .before .before .before .before .before .before .before .loop-test .taken) .0 in
     let below = member-below _ _ _ (l .inv .1) i in
     let plain = coset-plain (a .n) (product (a .n) (a .t .now)) (a .e) (p .0 .group) (a .h) (c .before .before .before .before .before .before .before .before .before .lowest .result) (p .1 .small) below in
-    rw (c .before .before .before .before .before .before .before .outside .ensures, c .before .before .before .before .before .before .before .before .coset .ensures ∙ plain)
+    rw (
+      c .before .before .before .before .before .before .before .outside .ensures,
+      c .before .before .before .before .before .before .before .before .coset .ensures ∙ plain,
+    )
     (outside-less (l .left) _ _ i (coset-new (a .n) (product (a .n) (a .t .now)) (a .e) (p .0 .group) (a .h) (p .1) _ (member-below _ _ _ (l .inv .1) i)))
 
 loop-again : tie.Need-loop-again Inv-loop μ-loop
@@ -91,12 +99,17 @@ loop-again c =
     let low = g .ensures (c .before .before .before .before .before .before .before .before .before .before .loop-test .taken) in
     let below = member-below (a .n) (l .left) (g .result) (l .inv .1) (low .0) in
     let X = extended-next (a .n) (product (a .n) (a .t .now)) (a .e) (a .classes) (p .0 .group) (a .h) (p .1) (l .left) (g .result) (a .count) (l .c) (a .sets .now) (l .sets) (c .before .before .before .before .before .extend-by .last .0) (Count (c .before .k .given .0 .0))
-    (l .inv .0) below (l .inv .2 _ (low .0)) (low .2) (l .inv .3) (rw (c .before .k .given .1) at (c .before .before .before .before .before .extend-by .ensures)) in
+    (l .inv .0) below (l .inv .2 _ (low .0)) (low .2) (l .inv .3) (rw (c .before .k .given .1) at
+    (c .before .before .before .before .before .extend-by .ensures)) in
     let same : length (c .before .before .before .before .before .extend-by .last .0) ≡ length (l .sets) = omega arith in
     let plain = coset-plain (a .n) (product (a .n) (a .t .now)) (a .e) (p .0 .group) (a .h) (g .result) (p .1 .small) below in
     let coset = cosetOf (a .n) (product (a .n) (a .t .now)) (a .e) (a .h) (g .result) in
-    let less = outside-less (l .left) coset (g .result) (low .0) (coset-new (a .n) (product (a .n) (a .t .now)) (a .e) (p .0 .group) (a .h) (p .1) (g .result) below) in
-    rw (c .before .before .before .before .before .before .before .outside .ensures, c .before .before .before .before .before .before .before .before .coset .ensures ∙ plain)
+    let less = outside-less (l .left) coset (g .result) (low .0) (coset-new (a .n) (product (a .n) (a .t .now)) (a .e) (p .0 .group) (a .h) (p .1)
+    (g .result) below) in
+    rw (
+      c .before .before .before .before .before .before .before .outside .ensures,
+      c .before .before .before .before .before .before .before .before .coset .ensures ∙ plain,
+    )
     (same ∙ l .inv .0, omega (arith, less, l .inv .1), λ j i. l .inv .2 j (outside-old (l .left) coset j i), X)
 
 same-length-2 : tie.Need-same-length-2 Inv-loop μ-loop

@@ -38,7 +38,8 @@ same-length-2 c = search needs
 returns-2 : tie.Need-returns-2
 returns-2 c =
     let a = c .before .before .before .before .before .before .before .before .before .args in
-    answer-count (a .n) (product (a .n) (a .t .now)) (a .e) (a .classes) (a .sets .now) _ _ (rw (c .before .count .given .1) at (c .before .before .before .before .before .search .ensures))
+    answer-count (a .n) (product (a .n) (a .t .now)) (a .e) (a .classes) (a .sets .now) _ _ (rw (c .before .count .given .1) at
+    (c .before .before .before .before .before .search .ensures))
 
 pub list-sets-spec : {M : Type 1} → statement M
 list-sets-spec =

@@ -18,10 +18,12 @@ abbrev μ-loop : tie.MeasureT-loop
 μ-loop sets₀ t n e classes count₀ done₀ sets count done = length sets₀ - done
 
 returns : tie.Need-returns Inv-loop μ-loop
-returns c = none-result (c .before .before .before .args .n) (product (c .before .before .before .args .n) (c .before .before .before .args .t .now)) (c .before .before .before .args .e) (c .before .before .before .args .classes) (c .before .before .before .pre .group) (c .before .before .before .pre .cells .limit) (c .before .before .before .args .sets .now) (c .if1 .taken)
+returns c = none-result (c .before .before .before .args .n) (product (c .before .before .before .args .n)
+    (c .before .before .before .args .t .now)) (c .before .before .before .args .e) (c .before .before .before .args .classes) (c .before .before .before .pre .group) (c .before .before .before .pre .cells .limit) (c .before .before .before .args .sets .now) (c .if1 .taken)
 
 shl-set-slot : tie.Need-shl-set-slot Inv-loop μ-loop
-shl-set-slot c = let a = c .before .before .before .before .pre .group .identity-below in let b = c .before .before .before .before .pre .cells .limit in omega arith
+shl-set-slot c = let a = c .before .before .before .before .pre .group .identity-below in let b = c .before .before .before .before .pre .cells .limit in
+    omega arith
 
 set-slot-requires : tie.Need-set-slot-requires Inv-loop μ-loop
 set-slot-requires c κs = search needs
@@ -30,8 +32,12 @@ loop-holds : tie.Need-loop-holds Inv-loop μ-loop
 loop-holds c =
     let a = c .before .before .before .before .before .before .before .args in
     let p = c .before .before .before .before .before .before .before .pre in
-    let small : a .e < 64 = let x = p .group .identity-below in let y = p .cells .limit in omega arith in
-    (refl, restart-start (a .n) (product (a .n) (a .t .now)) (a .e) (a .classes) (p .group) (p .cells .limit) (a .sets .now) (c .before .before .set-slot .last .0) _ (c .before .before .set-slot .ensures (c .before .before .before .before .if1 .left)) (c .before .before .before .before .if1 .left) (shifted-one 64 (a .e) small))
+    let small : a .e < 64 = let x = p .group .identity-below in let y = p .cells .limit in omega arith in (
+      refl,
+      restart-start (a .n) (product (a .n) (a .t .now)) (a .e) (a .classes) (p .group) (p .cells .limit) (a .sets .now)
+          (c .before .before .set-slot .last .0) _ (c .before .before .set-slot .ensures
+          (c .before .before .before .before .if1 .left)) (c .before .before .before .before .if1 .left) (shifted-one 64 (a .e) small),
+    )
 
 sub-slot : tie.Need-sub-slot Inv-loop μ-loop
 sub-slot c = omega arith
@@ -46,8 +52,13 @@ extend-requires : tie.Need-extend-requires Inv-loop μ-loop
 extend-requires c κs =
     let p = c .before .before .before .before .before .before .before .before .before .before .before .before .pre in
     let l = c .before .before .before .before .loop in
-    let room = l .inv .1 .holding .room in
-    (p, rw (c .before .slot .ensures (let h = l .inv .1 .holding .room in omega (arith, c .before .before .before .loop-test .taken))) (searching-subgroup _ _ _ _ (p .group) (p .cells .limit) _ (l .sets) (l .count) (l .done) (l .inv .1) (c .before .before .before .loop-test .taken)), omega arith)
+    let room = l .inv .1 .holding .room in (
+      p,
+      rw (c .before .slot .ensures (let h = l .inv .1 .holding .room in omega (arith, c .before .before .before .loop-test .taken)))
+          (searching-subgroup _ _ _ _ (p .group) (p .cells .limit) _ (l .sets) (l .count) (l .done) (l .inv .1)
+          (c .before .before .before .loop-test .taken)),
+      omega arith,
+    )
 
 enum-known-k : tie.Need-enum-known-k Inv-loop μ-loop
 enum-known-k c = search needs
@@ -63,9 +74,17 @@ returns-2 c =
     let p = c .before .before .before .before .before .before .before .before .before .before .before .before .before .before .before .before .before .pre in
     let l = c .before .before .before .before .before .before .before .before .before .loop in
     let a = c .before .before .before .before .before .before .before .before .before .before .before .before .before .before .before .before .before .args in
-    let X = rw (c .enum-told .given .1, c .before .before .before .before .before .before .slot .ensures (let h = l .inv .1 .holding .room in omega (arith, c .before .before .before .before .before .before .before .before .loop-test .taken))) at (c .before .before .before .before .extend .ensures) in
+    let X = rw (
+      c .enum-told .given .1,
+      c .before .before .before .before .before .before .slot .ensures
+          (let h = l .inv .1 .holding .room in omega (
+            arith,
+            c .before .before .before .before .before .before .before .before .loop-test .taken,
+          )),
+    ) at (c .before .before .before .before .extend .ensures) in
     restart (a .n) (product (a .n) (a .t .now)) (a .e) (a .classes) (p .group) (p .cells .limit) (a .sets .now) (c .before .before .before .before .before .before .before .before .before .before .before .before .set-slot .last .0) _ (c .before .before .before .before .before .before .before .before .before .before .before .before .set-slot .ensures (c .before .before .before .before .before .before .before .before .before .before .before .before .before .before .if1 .left)) (c .before .before .before .before .before .before .before .before .before .before .before .before .before .before .if1 .left) _ Full
-    (searching-overflow (a .n) (product (a .n) (a .t .now)) (a .e) (a .classes) (p .group) (p .cells .limit) _ (l .sets) (l .count) (l .done) (l .inv .1) (c .before .before .before .before .before .before .before .before .loop-test .taken) _ (l .inv .0) X)
+    (searching-overflow (a .n) (product (a .n) (a .t .now)) (a .e) (a .classes) (p .group) (p .cells .limit) _ (l .sets) (l .count) (l .done) (l .inv .1)
+    (c .before .before .before .before .before .before .before .before .loop-test .taken) _ (l .inv .0) X)
 
 add-done : tie.Need-add-done Inv-loop μ-loop
 add-done c = let room = c .before .before .before .before .before .before .before .before .before .before .loop .inv .1 .holding .room in omega arith
@@ -77,9 +96,19 @@ loop-again : tie.Need-loop-again Inv-loop μ-loop
 loop-again c =
     let p = c .before .before .before .before .before .before .before .before .before .before .before .before .before .before .before .before .before .before .pre in
     let l = c .before .before .before .before .before .before .before .before .before .before .loop in
-    let X = rw (c .before .k .given .1, c .before .before .before .before .before .before .before .slot .ensures (let h = l .inv .1 .holding .room in omega (arith, c .before .before .before .before .before .before .before .before .before .loop-test .taken))) at (c .before .before .before .before .before .extend .ensures) in
-    let same : length (l .sets) ≡ length (c .before .before .before .before .before .extend .last .0) = omega arith in
-    (l .inv .0 ∙ same, searching-next _ _ _ _ (p .group) (p .cells .limit) _ (l .sets) (l .count) (l .done) (l .inv .1) (c .before .before .before .before .before .before .before .before .before .loop-test .taken) _ _ (l .inv .0) X)
+    let X = rw (
+      c .before .k .given .1,
+      c .before .before .before .before .before .before .before .slot .ensures
+          (let h = l .inv .1 .holding .room in omega (
+            arith,
+            c .before .before .before .before .before .before .before .before .before .loop-test .taken,
+          )),
+    ) at (c .before .before .before .before .before .extend .ensures) in
+    let same : length (l .sets) ≡ length (c .before .before .before .before .before .extend .last .0) = omega arith in (
+      l .inv .0 ∙ same,
+      searching-next _ _ _ _ (p .group) (p .cells .limit) _ (l .sets) (l .count) (l .done) (l .inv .1)
+          (c .before .before .before .before .before .before .before .before .before .loop-test .taken) _ _ (l .inv .0) X,
+    )
 
 same-length-2 : tie.Need-same-length-2 Inv-loop μ-loop
 same-length-2 c = let l = c .before .loop .inv .0 in omega arith
@@ -90,7 +119,8 @@ returns-3 c =
     let l = c .before .loop in
     let a = c .before .before .before .before .before .before .before .before .before .args in
     restart (a .n) (product (a .n) (a .t .now)) (a .e) (a .classes) (p .group) (p .cells .limit) (a .sets .now) (c .before .before .before .before .set-slot .last .0) _ (c .before .before .before .before .set-slot .ensures (c .before .before .before .before .before .before .if1 .left)) (c .before .before .before .before .before .before .if1 .left) _ (Count (l .count))
-    (searching-end (a .n) (product (a .n) (a .t .now)) (a .e) (a .classes) (p .group) (p .cells .limit) _ (l .sets) (l .count) (l .done) (l .inv .1) (c .loop-test .left))
+    (searching-end (a .n) (product (a .n) (a .t .now)) (a .e) (a .classes) (p .group) (p .cells .limit) _ (l .sets) (l .count) (l .done) (l .inv .1)
+    (c .loop-test .left))
 
 pub search-spec : {M : Type 1} → statement M
 search-spec =

@@ -41,22 +41,35 @@ with-element-requires c κs = search needs
 widen-requires : tie.Need-widen-requires Inv-loop μ-loop
 widen-requires c κs =
     let p = c .before .before .before .before .before .before .before .pre in
-    let l = c .before .before .before .before .loop in
-    (p .0, l .inv .small, p .1 .below, member-below _ _ _ (l .inv .left-small) (c .before .before .lowest .ensures (c .before .before .before .loop-test .taken) .0))
+    let l = c .before .before .before .before .loop in (
+      p .0,
+      l .inv .small,
+      p .1 .below,
+      member-below _ _ _ (l .inv .left-small)
+          (c .before .before .lowest .ensures (c .before .before .before .loop-test .taken) .0),
+    )
 
 outside-requires : tie.Need-outside-requires Inv-loop μ-loop
 outside-requires c κs = search needs
 
 loop-less : tie.Need-loop-less Inv-loop μ-loop
 loop-less c =
-    rw (c .outside .ensures) (fewer-left (c .before .before .before .before .before .before .loop .left) (c .before .before .before .before .lowest .result) (c .before .before .before .without .result) (c .before .widen .result) (c .before .before .before .without .ensures (c .before .before .before .before .lowest .ensures (c .before .before .before .before .before .loop-test .taken) .0)))
+    rw (c .outside .ensures) (fewer-left (c .before .before .before .before .before .before .loop .left)
+    (c .before .before .before .before .lowest .result) (c .before .before .before .without .result) (c .before .widen .result) (c .before .before .before .without .ensures (c .before .before .before .before .lowest .ensures (c .before .before .before .before .before .loop-test .taken) .0)))
 
 loop-again : tie.Need-loop-again Inv-loop μ-loop
 loop-again c =
     let p = c .before .before .before .before .before .before .before .before .before .pre in
     let l = c .before .before .before .before .before .before .loop in
-    rw (c .outside .ensures, c .before .widen .ensures, c .before .before .with-element .ensures (c .before .before .before .before .lowest .ensures (c .before .before .before .before .before .loop-test .taken) .1))
-    (generating-next _ _ _ (p .1) (product-below _ _ (p .0)) (l .found) (l .reached) (l .left) (c .before .before .before .before .lowest .result) (c .before .before .before .without .result) (l .inv) (c .before .before .before .before .lowest .ensures (c .before .before .before .before .before .loop-test .taken) .0) (c .before .before .before .without .ensures (c .before .before .before .before .lowest .ensures (c .before .before .before .before .before .loop-test .taken) .0)))
+    rw (
+      c .outside .ensures,
+      c .before .widen .ensures,
+      c .before .before .with-element .ensures (c .before .before .before .before .lowest .ensures
+          (c .before .before .before .before .before .loop-test .taken) .1),
+    )
+    (generating-next _ _ _ (p .1) (product-below _ _ (p .0)) (l .found) (l .reached) (l .left) (c .before .before .before .before .lowest .result)
+    (c .before .before .before .without .result) (l .inv) (c .before .before .before .before .lowest .ensures
+    (c .before .before .before .before .before .loop-test .taken) .0) (c .before .before .before .without .ensures (c .before .before .before .before .lowest .ensures (c .before .before .before .before .before .loop-test .taken) .0)))
 
 returns : tie.Need-returns Inv-loop μ-loop
 returns c =

@@ -54,7 +54,8 @@ loop-holds : tie.Need-loop-holds Inv-loop2 μ-loop2 Inv-loop μ-loop Inv-search 
 loop-holds c = (omega arith, c .before .before .before .search .inv .0, λ m h. absurd (omega arith))
 
 search-less : tie.Need-search-less Inv-loop2 μ-loop2 Inv-loop μ-loop Inv-search μ-search
-search-less c = without-less _ _ _ (c .before .before .without .ensures (c .before .before .before .lowest .ensures (c .before .before .before .before .search-test .taken) .0))
+search-less c = without-less _ _ _ (c .before .before .without .ensures
+    (c .before .before .before .lowest .ensures (c .before .before .before .before .search-test .taken) .0))
 
 search-again : tie.Need-search-again Inv-loop2 μ-loop2 Inv-loop μ-loop Inv-search μ-search
 search-again c =
@@ -73,19 +74,36 @@ search-again c =
     )
 
 cell-requires : tie.Need-cell-requires Inv-loop2 μ-loop2 Inv-loop μ-loop Inv-search μ-search
-cell-requires c κs = (c .before .before .before .before .before .before .before .before .pre .0, c .loop-test .taken, member-below _ _ _ (c .before .before .before .before .before .search .inv .1) (c .before .before .before .lowest .ensures (c .before .before .before .before .search-test .taken) .0))
+cell-requires c κs = (
+  c .before .before .before .before .before .before .before .before .pre .0,
+  c .loop-test .taken,
+  member-below _ _ _ (c .before .before .before .before .before .search .inv .1) (c .before .before .before .lowest .ensures
+      (c .before .before .before .before .search-test .taken) .0),
+)
 
 loop2-holds : tie.Need-loop2-holds Inv-loop2 μ-loop2 Inv-loop μ-loop Inv-search μ-search
 loop2-holds c = (omega arith, c .before .before .loop .inv .1, λ m h. absurd (omega arith))
 
 cell-requires-2 : tie.Need-cell-requires-2 Inv-loop2 μ-loop2 Inv-loop μ-loop Inv-search μ-search
-cell-requires-2 c κs = (c .before .before .before .before .before .before .before .before .before .before .before .pre .0, member-below _ _ _ (c .before .before .before .before .before .before .before .before .search .inv .1) (c .before .before .before .before .before .before .lowest .ensures (c .before .before .before .before .before .before .before .search-test .taken) .0), c .loop2-test .taken)
+cell-requires-2 c κs = (
+  c .before .before .before .before .before .before .before .before .before .before .before .pre .0,
+  member-below _ _ _ (c .before .before .before .before .before .before .before .before .search .inv .1) (c .before .before .before .before .before .before .lowest .ensures (c .before .before .before .before .before .before .before .search-test .taken) .0),
+  c .loop2-test .taken,
+)
 
 cell-requires-3 : tie.Need-cell-requires-3 Inv-loop2 μ-loop2 Inv-loop μ-loop Inv-search μ-search
-cell-requires-3 c κs = (c .before .before .before .before .before .before .before .before .before .before .before .before .pre .0, c .before .before .before .cell .ensures .1, c .before .loop2-test .taken)
+cell-requires-3 c κs = (
+  c .before .before .before .before .before .before .before .before .before .before .before .before .pre .0,
+  c .before .before .before .cell .ensures .1,
+  c .before .loop2-test .taken,
+)
 
 cell-requires-4 : tie.Need-cell-requires-4 Inv-loop2 μ-loop2 Inv-loop μ-loop Inv-search μ-search
-cell-requires-4 c κs = (c .before .before .before .before .before .before .before .before .before .before .before .before .before .pre .0, c .before .before .before .before .before .loop-test .taken, c .before .cell2 .ensures .1)
+cell-requires-4 c κs = (
+  c .before .before .before .before .before .before .before .before .before .before .before .before .before .pre .0,
+  c .before .before .before .before .before .loop-test .taken,
+  c .before .cell2 .ensures .1,
+)
 
 add-k : tie.Need-add-k Inv-loop2 μ-loop2 Inv-loop μ-loop Inv-search μ-search
 add-k c = omega arith
@@ -100,8 +118,11 @@ loop2-again c =
     let i = c .before .before .before .before .before .before .before .before .loop .i in
     let k = c .before .before .before .before .before .loop2 .k in
     let l = c .before .before .cell3 .ensures .0 ∙ ap (λ (z : ℕ). product n t z k) (c .before .before .before .before .before .before .cell .ensures .0) in
-    let r = c .before .cell4 .ensures .0 ∙ ap (product n t i) (c .before .before .before .cell2 .ensures .0) in
-    (omega arith, c .before .before .before .before .before .loop2 .inv .1, below-more _ _ (c .before .before .before .before .before .loop2 .inv .2) (sym l ∙ c .if1 .left ∙ r))
+    let r = c .before .cell4 .ensures .0 ∙ ap (product n t i) (c .before .before .before .cell2 .ensures .0) in (
+      omega arith,
+      c .before .before .before .before .before .loop2 .inv .1,
+      below-more _ _ (c .before .before .before .before .before .loop2 .inv .2) (sym l ∙ c .if1 .left ∙ r),
+    )
 
 add-i : tie.Need-add-i Inv-loop2 μ-loop2 Inv-loop μ-loop Inv-search μ-search
 add-i c = omega arith
@@ -118,7 +139,8 @@ returns c =
     let l = c .before .search in
     let p = c .before .before .before .before .pre in
     let none : l .left ≡ 0 = omega arith in
-    l .inv .0 ∙ sym (generators-associate _ _ _ (p .1) (product-below _ _ (p .0)) (c .before .before .generators .result) (c .before .before .generators .ensures .0)
+    l .inv .0 ∙ sym (generators-associate _ _ _ (p .1) (product-below _ _ (p .0)) (c .before .before .generators .result)
+    (c .before .before .generators .ensures .0)
     (λ j m. elim (l .inv .2 j m) [ inl i ↦ absurd (true≢false (sym i ∙ ap (λ (z : ℕ). member z j) none ∙ member-empty j)) | inr f ↦ f ]))
 
 returns-2 : tie.Need-returns-2 Inv-loop2 μ-loop2 Inv-loop μ-loop Inv-search μ-search
@@ -130,8 +152,10 @@ returns-2 c =
     let k = c .before .before .before .before .before .loop2 .k in
     let l = c .before .before .cell3 .ensures .0 ∙ ap (λ (z : ℕ). product n t z k) (c .before .before .before .before .before .before .cell .ensures .0) in
     let r = c .before .cell4 .ensures .0 ∙ ap (product n t i) (c .before .before .before .cell2 .ensures .0) in
-    let j : c .before .before .before .before .before .before .before .before .before .before .lowest .result < n = member-below _ _ _ (c .before .before .before .before .before .before .before .before .before .before .before .before .search .inv .1) (c .before .before .before .before .before .before .before .before .before .before .lowest .ensures (c .before .before .before .before .before .before .before .before .before .before .before .search-test .taken) .0) in
-    sym (fails-every _ n i (c .before .before .before .before .before .before .before .loop-test .taken) (fails-every _ n _ j (fails-every _ n k (c .before .before .before .before .loop2-test .taken) (ne-eqb _ _ (λ e. c .if1 .taken (l ∙ e ∙ sym r))))))
+    let j : c .before .before .before .before .before .before .before .before .before .before .lowest .result < n =
+    member-below _ _ _ (c .before .before .before .before .before .before .before .before .before .before .before .before .search .inv .1) (c .before .before .before .before .before .before .before .before .before .before .lowest .ensures (c .before .before .before .before .before .before .before .before .before .before .before .search-test .taken) .0) in
+    sym (fails-every _ n i (c .before .before .before .before .before .before .before .loop-test .taken)
+    (fails-every _ n _ j (fails-every _ n k (c .before .before .before .before .loop2-test .taken) (ne-eqb _ _ (λ e. c .if1 .taken (l ∙ e ∙ sym r))))))
 
 pub is-associative-spec : {M : Type 1} → statement M
 is-associative-spec =

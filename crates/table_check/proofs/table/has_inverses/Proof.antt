@@ -41,8 +41,11 @@ loop-less c = omega arith
 
 loop-again : tie.Need-loop-again Inv-loop μ-loop
 loop-again c =
-    let l = c .before .before .before .loop in
-    (omega arith, below-more _ _ (l .inv .1) (rw (← c .before .inverse .ensures (c .before .before .before .before .before .pre) (c .before .before .loop-test .taken)) (lt-ltb _ _ (c .if1 .left))))
+    let l = c .before .before .before .loop in (
+      omega arith,
+      below-more _ _ (l .inv .1) (rw (← c .before .inverse .ensures (c .before .before .before .before .before .pre)
+          (c .before .before .loop-test .taken)) (lt-ltb _ _ (c .if1 .left))),
+    )
 
 returns-2 : tie.Need-returns-2 Inv-loop μ-loop
 unfolding hasInverses

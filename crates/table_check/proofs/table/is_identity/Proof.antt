@@ -43,7 +43,8 @@ returns-2 c =
     let n = c .before .before .before .before .before .before .before .args .n in
     let h : l .x < n = c .before .before .before .before .loop-test .taken in
     let a = c .before .before .before .before .before .before .before .args in
-    sym (fails-every _ n (l .x) h (and-fails (eqb (product n (a .t .now) (a .e) (l .x)) (l .x)) _ (ne-eqb _ _ (λ q. c .if2 .taken (c .before .cell2 .ensures .0 ∙ q)))))
+    sym (fails-every _ n (l .x) h (and-fails (eqb (product n (a .t .now) (a .e) (l .x)) (l .x)) _
+    (ne-eqb _ _ (λ q. c .if2 .taken (c .before .cell2 .ensures .0 ∙ q)))))
 
 add-x : tie.Need-add-x Inv-loop μ-loop
 add-x c = omega arith
