@@ -1,22 +1,21 @@
 -- Which rotations map L onto L (R3): decided by the determinant and by where the points go, shown to be the rule about all of L.
 use mathlib.Core.Path.{_≡_, refl, sym, _∙_, ap}
-use mathlib.Core.Logic.{_⊎_, inl, inr, _↔_}
-use mathlib.Core.Bool.{Bool, true, false, _&&_, true≢false, false≢true}
+use mathlib.Core.Logic.{inl, inr, _↔_}
+use mathlib.Core.Bool.{Bool, true, false, _&&_, false≢true, and-eq-true-iff}
 use mathlib.Core.List.{List, [], _∷_, map, Memᴰ·cast as mem-cast}
 use Prim.Native.Nat.{ℕ, zero, suc, _+_, _<_, _≤_}
 use native.Mathlib.Omega.{arith}
 use native.Mathlib.Numerals.{add-one}
-use lib.Dec.{T, eqb, eqb→eq, leb, leb→le}
-use lib.IntN.{pos}
+use lib.Dec.{T, leb, leb→le}
 use lib.ListN.{length, getD, drop}
 use lib.Seq.{drop-cons, drop-length}
 use Rattle.laws.specs.Integer.{nought}
 use Rattle.laws.specs.Matrix.{Matrix, act, origin, act-origin, Unimodular}
-use Rattle.laws.specs.Residue.{residue, Triple, reduced, lifted, turned, reduced-again, reduced-act}
+use Rattle.laws.specs.Residue.{residue, Triple, reduced, lifted, turned, reduced-again}
 use Rattle.laws.specs.Distinct.{has, Mem→has, equality-equivalence}
 use Rattle.laws.specs.Lattice.{sameTriple, triple-decides, zeroTriple, filled, all, all-member, and-left, and-right}
 use Rattle.laws.specs.LatticeMaps.{MapsOnto, keepsPoints, maps-onto}
-use Rattle.operation.specs.Meaning.{matrixOf, vectorOf, allInside}
+use Rattle.operation.specs.Meaning.{matrixOf, vectorOf}
 use Rattle.operation.specs.Entries.{Entries, all-entries}
 use Rattle.operation.specs.Product.{rotatedOf}
 use Rattle.operation.specs.RotationType.{handednessOf, proper-determinant, improper-determinant, determinant-proper, determinant-improper}
@@ -49,16 +48,12 @@ unimodular-turn : (A : Matrix) → Entries A → Unimodular A → isTurn (handed
 unimodular-turn A e (inl d) = rw (determinant-proper A (all-entries A .1 e) d)
 unimodular-turn A e (inr d) = rw (determinant-improper A (all-entries A .1 e) d)
 
-and-both : (a b : Bool) → a && b ≡ true → (a ≡ true) × (b ≡ true)
-and-both true b h = (refl, h)
-and-both false b h = absurd (false≢true h)
-
 pub keeps-lattice : (c : Centering) (r : Rotation) → (keepsOf c r ≡ true) ↔ (Entries (matrixOf r) × MapsOnto (pointsOf c) (matrixOf r))
 unfolding keepsOf
 keeps-lattice c r =
     let onto = maps-onto (pointsOf c) (points c) (matrixOf r) in (
       (λ h.
-          let (t, k) = and-both (isTurn (handednessOf (matrixOf r))) _ h in
+          let (t, k) = and-eq-true-iff (isTurn (handednessOf (matrixOf r))) _ .0 h in
           let (e, u) = turn-unimodular (matrixOf r) (handednessOf (matrixOf r)) refl t in
           (e, onto .1 (u, holds .1 k))),
       λ (e, m).

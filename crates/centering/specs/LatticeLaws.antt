@@ -1,20 +1,19 @@
 -- What the answers of this room say of L, a set of integer vectors; and that a letter is told by its byte and by its L.
 use mathlib.Core.Path.{_≡_, refl, sym, _∙_, ap}
-use mathlib.Core.Logic.{_⊎_, inl, inr, _↔_}
+use mathlib.Core.Logic.{inl, inr, _↔_}
 use mathlib.Core.Bool.{Bool, true, false, _&&_, _||_, not, true≢false}
 use mathlib.Core.List.{List, [], _∷_, map, List·Memᴰ as Mem, List·Memᴰ·head as here, List·Memᴰ·tail as there, List·Memᴰ·cases-cons as cases, Memᴰ·cast as mem-cast}
 use lib.Dec.{T, T-not, eqb, eqb→eq}
 use Rattle.laws.specs.Matrix.{Vector, plus, opposite}
 use Rattle.laws.specs.Residue.{Triple, Reduced, reduced, lifted, reduced-lifted}
 use Rattle.laws.specs.Distinct.{has, has→Mem, Mem→has, or-cases, equality-equivalence}
-use Rattle.laws.specs.Lattice.{Points, InLattice, Congruent, sameTriple, triple-decides, Before, smallest, smallest-reduced, smallest-congruent, smallest-least, smallest-unique, smallest-classes, all, all-member, member-all, both}
+use Rattle.laws.specs.Lattice.{InLattice, Congruent, sameTriple, triple-decides, Before, smallest-reduced, smallest-congruent, smallest-least, smallest-unique, smallest-classes, all, all-member, member-all, both}
 use Rattle.operation.specs.Meaning.{vectorOf}
 use Rattle.operation.specs.declared.Translation.{Translation}
 use Rattle.centering.specs.Letters.{letters, byteOf, pointsOf, letterOf, letterAmong}
 use Rattle.centering.specs.Lattices.{listed, points, tripleOf, translationOf, containsOf, congruentOf, smallestOf}
 use Rattle.centering.specs.declared.Centering.{Centering}
-use Rattle.centering.specs.declared.Letter.{Letter}
-use Rattle.centering.specs.declared.Letter.the-variants.{Is, None}
+use Rattle.centering.specs.declared.Letter.the-variants.{Is}
 
 -- A Boolean answer and the fact it stands for.
 pub holds : {b : Bool} → T b ↔ (b ≡ true)

@@ -1,21 +1,18 @@
 -- The centred lattice L of a letter (R3): its points plus whole cells, classes modulo L, and the rotations that map L onto L.
-use mathlib.Core.Path.{_≡_, refl, sym, _∙_, ap}
-use mathlib.Core.Logic.{_⊎_, inl, inr, _↔_}
-use mathlib.Core.Bool.{Bool, true, false, _&&_, cond}
-use mathlib.Core.List.{List, [], _∷_, map, List·Memᴰ as Mem, List·Memᴰ·head as here, List·Memᴰ·tail as there}
+use mathlib.Core.Path.{_≡_, refl, ap}
+use mathlib.Core.Bool.{Bool}
+use mathlib.Core.List.{[], map, List·Memᴰ as Mem, List·Memᴰ·head as here, List·Memᴰ·tail as there}
 use Prim.Native.Nat.{ℕ}
-use lib.Dec.{T, eqb}
+use lib.Dec.{T}
 use lib.IntN.{pos, _+ℤ_, +ℤ-idr}
 use lib.ListN.{length}
-use Rattle.laws.specs.Matrix.{Matrix, Vector, Unimodular, plus, opposite}
-use Rattle.laws.specs.Residue.{residue, Triple, triple≡, reduced, lifted, _⊕_, minus}
+use Rattle.laws.specs.Matrix.{plus, opposite}
+use Rattle.laws.specs.Residue.{residue, Triple, triple≡, reduced, _⊕_, minus}
 use Rattle.laws.specs.Distinct.{has}
-use Rattle.laws.specs.Lattice.{Points, arePoints, are-points, InLattice, Congruent, zeroTriple, sameTriple, smallest, filled, all, all-member, keepsSums, belowTwelve, withoutRepeats}
-use Rattle.laws.specs.LatticeMaps.{MapsOnto, keepsPoints}
-use Rattle.operation.specs.Meaning.{matrixOf, vectorOf}
-use Rattle.operation.specs.declared.Rotation.{Rotation}
+use Rattle.laws.specs.Lattice.{Points, arePoints, are-points, zeroTriple, sameTriple, smallest, filled, all, all-member, keepsSums, belowTwelve, withoutRepeats}
+use Rattle.operation.specs.Meaning.{vectorOf}
 use Rattle.operation.specs.declared.Translation.{Translation}
-use Rattle.centering.specs.Letters.{letters, pointsOf, byteOf}
+use Rattle.centering.specs.Letters.{letters, pointsOf}
 use Rattle.centering.specs.declared.Centering.{Centering}
 use Rattle.centering.specs.declared.Centering.the-variants.{P, A, B, C, I, R, F, H}
 use Rattle.centering.specs.declared.LatticePoints.{LatticePoints}

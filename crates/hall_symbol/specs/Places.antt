@@ -5,15 +5,11 @@ use mathlib.Core.List.{List}
 use Prim.Native.Nat.{ℕ, _+_, _-_, _≤_}
 use native.Mathlib.Omega.{arith}
 use lib.ListN.{length, take, drop, length-drop}
-use lib.Seq.{drop-drop, take-length}
+use lib.Seq.{drop-drop}
 use Rattle.hall_symbol.specs.Bytes.{whitespace, solid}
 use Rattle.hall_symbol.specs.Runs.{run, run-within}
 use Rattle.hall_symbol.specs.declared.bytes.Word.{Word}
 use Rattle.hall_symbol.specs.Tokens.{trimmed, firstWord, behindWord, wordFrom}
-
--- A part of a text that goes to its end.
-pub tail-part : (text : List ℕ) (p : ℕ) → take (length text - p) (drop p text) ≡ drop p text
-tail-part text p = ap (λ (n : ℕ). take n (drop p text)) (sym (length-drop p text)) ∙ take-length (drop p text)
 
 -- A run from a place on stays within the text.
 pub run-reaches : (f : ℕ → Bool) (text : List ℕ) (p : ℕ) → p ≤ length text → p + run f (drop p text) ≤ length text

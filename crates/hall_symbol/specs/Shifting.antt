@@ -2,19 +2,15 @@
 use mathlib.Core.Path.{_≡_, sym, _∙_, ap}
 use Prim.Native.Nat.{ℕ, _+_, _*_, _%_}
 use native.Mathlib.Omega.{arith}
-use lib.IntN.{pos, negℤ, one, _*ℤ_, negℤ-+ℤ}
+use lib.IntN.{pos, negℤ, _*ℤ_, negℤ-+ℤ}
 use Rattle.laws.specs.Integer.{neg-*ℤ}
 use Rattle.laws.specs.Residue.{residue, residue-add, residue-neg, residue-mul, residue-pos, remainder-sum, remainder-product}
 use Rattle.operation.specs.Meaning.{entryOf}
+use Rattle.operation.specs.Digits.{entry-residue}
 use Rattle.operation.specs.declared.Translation.{Translation}
 use Rattle.hall_symbol.specs.Generators.{shiftedCoordinate}
 
 -- Modulo 12 the entry a − 1 is a + 11, and its negative 11·a + 1.
-entry-residue : (a : ℕ) → residue (entryOf a) ≡ (a + 11) % 12
-unfolding entryOf residue one
-entry-residue a = residue-add (pos a) (negℤ one) ∙ omega arith
-
--- The negative entry modulo 12.
 negative-residue : (a : ℕ) → residue (negℤ (entryOf a)) ≡ (11 * a + 1) % 12
 negative-residue a = residue-neg (entryOf a) ∙ rw (entry-residue a) (omega arith)
 

@@ -10,7 +10,6 @@ use lib.Dec.{eqb}
 use borrow.Author.Tests.{eqb-true}
 use lib.ListN.{length, take}
 use Rattle.hall_token.specs.declared.Fold.{Fold}
-use Rattle.hall_token.specs.declared.Fold.the-variants.{One}
 use Rattle.hall_token.specs.declared.FoldByte.{FoldByte}
 use Rattle.hall_token.specs.declared.FoldByte.the-variants.{Is, Other}
 use Rattle.hall_token.specs.declared.Mark.{Mark}
@@ -22,7 +21,7 @@ use Rattle.hall_token.specs.Runs.{every, mayStand}
 use Rattle.hall_token.specs.Offsets.{signLength, markLength, runStart, passing, passing-short, passing-good, passing-stays}
 use Rattle.hall_token.specs.Reader.{Parts, parts, no-parts, readRun, letterThen, readLetter, markThen, readMark, foldThen, readFold, readToken}
 use Rattle.hall_token.specs.Spelling.{Spells, read-exact}
-use Rattle.laws.specs.Prefixes.{Starts, FirstOffending}
+use Rattle.laws.specs.Prefixes.{FirstOffending}
 
 -- The parts that a token spells.
 pub record Spelling (token : List ℕ) : Type 0 where

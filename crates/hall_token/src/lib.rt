@@ -3,7 +3,6 @@
 // strings, twelfths for f64, refusals for panics and for what the Rust lets pass.
 
 ghost use mathlib.Core.Path.{_≡_};
-ghost use mathlib.Core.Bool.{Bool};
 ghost use Rattle.hall_token.specs.Reader.{operationToken, operationOfParts, readFold, readMark, readLetter, readRun};
 
 mod axes;

@@ -1,7 +1,7 @@
 // The twenty rotations, by fold and axis, and the sign.
 // Ported from data/hall_symbol.rs of moyo 0.21.0 (`parse_rotation_matrix`), and changed: enums for strings.
 ghost use mathlib.Core.Path.{_≡_};
-ghost use Prim.Native.Nat.{_-_, _/_, _%_, _<_};
+ghost use Prim.Native.Nat.{_-_, _/_, _%_};
 ghost use Rattle.hall_token.specs.Matrices.{turnOf, signed};
 ghost use Rattle.hall_token.specs.Packed.{aboutX, aboutY, aboutZ, aboutDiagonal, unmarkedTurn, twiceSingle, twiceDouble, markedTurn, packedTurn};
 use super::Axis;

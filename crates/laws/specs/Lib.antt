@@ -14,6 +14,8 @@ pub mod Words
 pub mod ShortlexClosure
 pub mod Growth
 pub mod GrowthClosure
+-- Parts of lists that are lent:
+pub mod LentParts
 -- The first byte at which a text leaves a spelling:
 pub mod Prefixes
 -- Lattices:

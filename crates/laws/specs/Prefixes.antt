@@ -6,7 +6,7 @@ use Prim.Native.Nat.{ℕ, suc, _<_, _≤_}
 use native.Mathlib.Omega.{arith}
 use lib.Dec.{ltb}
 use lib.ListN.{length, take, drop, take-append-drop}
-use lib.Seq.{take-take, take-length}
+use lib.Seq.{take-take}
 use borrow.Author.Tests.{ltb-true, ltb-false}
 
 -- Some spelt text starts so.

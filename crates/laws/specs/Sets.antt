@@ -293,7 +293,7 @@ abbrev pub Subset : ℕ → ℕ → Type 0
 Subset s t = (i : ℕ) → member s i ≡ true → member t i ≡ true
 
 -- tests that pass together are equal
-same-truth : (a b : Bool) → (a ≡ true → b ≡ true) → (b ≡ true → a ≡ true) → a ≡ b
+pub same-truth : (a b : Bool) → (a ≡ true → b ≡ true) → (b ≡ true → a ≡ true) → a ≡ b
 same-truth true b f g = sym (f refl)
 same-truth false true f g = g refl
 same-truth false false f g = refl

@@ -1,7 +1,7 @@
 -- A test that antt computes at every number below a bound, and so a fact about each of them.
-use mathlib.Core.Path.{_≡_, refl}
+use mathlib.Core.Path.{_≡_}
 use mathlib.Core.Logic.{⊎-elim}
-use mathlib.Core.Bool.{Bool, true, false, false≢true, _&&_}
+use mathlib.Core.Bool.{Bool, true, _&&_, and-eq-true-iff}
 use Prim.Native.Nat.{ℕ, zero, suc, _<_, _≤_}
 use native.Mathlib.Nat.{eq-or-lt-of-le}
 use native.Mathlib.Omega.{arith}
@@ -10,11 +10,6 @@ use native.Mathlib.Omega.{arith}
 unfoldable pub allBelow : ℕ → (ℕ → Bool) → Bool
 allBelow zero f = true
 allBelow (suc n) f = f n && allBelow n f
-
--- Two tests that pass together pass each.
-pub both : (a b : Bool) → (a && b) ≡ true → (a ≡ true) × (b ≡ true)
-both true b h = (refl, h)
-both false b h = absurd (false≢true h)
 
 -- Below the next number is at most this one.
 at-most : {k n : ℕ} → k < suc n → k ≤ n
@@ -25,5 +20,5 @@ pub below : (n : ℕ) (f : ℕ → Bool) → allBelow n f ≡ true → (k : ℕ)
 unfolding allBelow
 below zero f h k l = absurd (omega arith)
 below (suc n) f h k l =
-    let t = both (f n) (allBelow n f) h in
+    let t = and-eq-true-iff (f n) (allBelow n f) .0 h in
     ⊎-elim (λ e. rw e (t .0)) (λ m. below n f (t .1) k m) (eq-or-lt-of-le (at-most l))

@@ -62,7 +62,7 @@ module _ (a b c x y z p q : ℕ) (products : p ≡ a * x + b * y + c * z + 4) (s
 
 -- ---- translations
 -- Modulo 12 the entry a − 1 is a + 11.
-entry-residue : (a : ℕ) → residue (entryOf a) ≡ (a + 11) % 12
+pub entry-residue : (a : ℕ) → residue (entryOf a) ≡ (a + 11) % 12
 unfolding entryOf residue one
 entry-residue a = residue-add (pos a) (negℤ one) ∙ omega arith
 

@@ -2,7 +2,7 @@
 -- trace −1 to 3 with determinant 1, or the negatives of both.
 use mathlib.Core.Path.{_≡_, refl, sym, _∙_, ap}
 use mathlib.Core.Logic.{_↔_}
-use mathlib.Core.Bool.{Bool, true, false, cond, _&&_, true≢false}
+use mathlib.Core.Bool.{Bool, true, false, cond, _&&_, true≢false, and-eq-true-iff}
 use mathlib.Core.List.{List, [], _∷_, List·Memᴰ as Mem, List·Memᴰ·head as here, List·Memᴰ·tail as there, List·Memᴰ·not-nil as no-member}
 use Prim.Native.Nat.{ℕ, zero, suc, _≤_}
 use native.Mathlib.Omega.{arith}
@@ -36,10 +36,6 @@ equal-same (negsuc a) (negsuc b) e = let h : a ≡ b = cc in eq-eqb a b h
 abbrev Has : ℤ → ℤ → List Pair → Type 0
 Has t d l = (p : Pair) × Mem p l × (t ≡ p .trace) × (d ≡ p .determinant)
 
-both-same : (a b : Bool) → a && b ≡ true → (a ≡ true) × (b ≡ true)
-both-same true b e = (refl, e)
-both-same false b e = absurd (true≢false (sym e))
-
 -- One step of `lookup-has`: the first line fits, or a later one does.
 has-step : (b : Bool) (t d : ℤ) (q p : Pair) (l : List Pair) → same t (q .trace) && same d (q .determinant) ≡ b → Mem p (q ∷ l) → t ≡ p .trace → d ≡ p .determinant → (Mem p l → (k : RotationType) × (lookup t d l ≡ given k)) → (k : RotationType) × (cond b (given (q .type)) (lookup t d l) ≡ given k)
 has-step true t d q p l e m x y rest = (q .type, refl)
@@ -58,7 +54,7 @@ lookup-has t d (q ∷ l) (p, m, x, y) =
 -- One step of `lookup-none`.
 none-step : (b : Bool) (t d : ℤ) (q : Pair) (l : List Pair) → same t (q .trace) && same d (q .determinant) ≡ b → ¬ Has t d (q ∷ l) → lookup t d l ≡ refused 15 0 tt → cond b (given (q .type)) (lookup t d l) ≡ refused 15 0 tt
 none-step true t d q l e none rest =
-    let (x, y) = both-same (same t (q .trace)) (same d (q .determinant)) e in
+    let (x, y) = and-eq-true-iff (same t (q .trace)) (same d (q .determinant)) .0 e in
     absurd (none (q, here refl, same-equal t (q .trace) x, same-equal d (q .determinant) y))
 none-step false t d q l e none rest = rest
 

@@ -1,7 +1,7 @@
 -- What a loop over the numbers below a bound decides: whether all of them pass a test, whether one of them does, and which is the first.
 use mathlib.Core.Path.{_≡_, refl, sym, ap, _∙_}
 use mathlib.Core.Logic.{_⊎_, inl, inr}
-use mathlib.Core.Bool.{Bool, true, false, cond, _&&_, _||_, true≢false}
+use mathlib.Core.Bool.{Bool, true, false, cond, _&&_, _||_, true≢false, and-eq-true-iff}
 use Prim.Native.Nat.{ℕ, zero, suc, _<_}
 use native.Mathlib.Decide.{ℕ-discrete, decLt}
 use native.Mathlib.Omega.{arith}
@@ -12,13 +12,11 @@ use borrow.Author.Tests.{lt-ltb, le-ltb}
 
 -- a conjunction that holds holds on both sides
 pub and-both : (a b : Bool) → (a && b) ≡ true → (a ≡ true) × (b ≡ true)
-and-both true b e = (refl, e)
-and-both false b e = absurd (true≢false (sym e))
+and-both a b e = and-eq-true-iff a b .0 e
 
 -- two tests that pass make a conjunction that does
 pub both-and : (a b : Bool) → a ≡ true → b ≡ true → (a && b) ≡ true
-both-and true b e f = f
-both-and false b e f = absurd (true≢false (sym e))
+both-and a b e f = and-eq-true-iff a b .1 (e, f)
 
 -- a conjunction fails if its second test does
 pub and-fails : (a b : Bool) → b ≡ false → (a && b) ≡ false
@@ -54,12 +52,6 @@ passes-or-fails false = inr refl
 pub not-passing : (a : Bool) → (a ≡ true → ⊥) → a ≡ false
 not-passing true f = absurd (f refl)
 not-passing false f = refl
-
--- tests that pass together are equal
-pub same-truth : (a b : Bool) → (a ≡ true → b ≡ true) → (b ≡ true → a ≡ true) → a ≡ b
-same-truth true b f g = sym (f refl)
-same-truth false true f g = g refl
-same-truth false false f g = refl
 
 -- ---- all
 

@@ -16,10 +16,10 @@ use borrow.Author.Tests.{eq-eqb, ne-eqb, eqb-true}
 use Rattle.laws.specs.Distinct.{has, Distinct, nil, cons, DecidesEquality, eqb-decides, eqb-equivalence, equality-equivalence, has→Mem, Mem→has, pigeonhole}
 use Rattle.laws.specs.GrowthClosure.{T-true}
 use Rattle.laws.specs.ListOrder.{Precedes, precedes-compare, LongerOrSmaller}
-use Rattle.laws.specs.Sets.{member, member-below, member-singleton, members, members-unique, listed-member, member-listed, onesIn-suc, ones-below, ones-proper, Subset, setOf, setOf-below, setOf-same, setOf-member, member-setOf}
+use Rattle.laws.specs.Sets.{member, member-below, member-singleton, members, members-unique, listed-member, member-listed, onesIn-suc, ones-below, ones-proper, Subset, setOf, setOf-below, setOf-same, setOf-member, member-setOf, same-truth}
 use Rattle.laws.specs.Sorted.{StrictOrder, Sorted, sorted-nil, sorted-cons, sorted-one, unique}
 use Rattle.subgroup_laws.specs.Adjoin.{Extension, singleton-self, singleton-only}
-use Rattle.subgroup_laws.specs.Bounded.{some, passes-some, some-passes, passes-or-fails, and-both, both-and, or-either, or-holds-left, or-holds-right, same-truth}
+use Rattle.subgroup_laws.specs.Bounded.{some, passes-some, some-passes, passes-or-fails, and-both, both-and, or-either, or-holds-left, or-holds-right}
 use Rattle.subgroup_laws.specs.Groups.{Group}
 use Rattle.subgroup_laws.specs.ListedSubgroups.{only-subgroups, subgroup-listed, subgroups-sorted}
 use Rattle.subgroup_laws.specs.Lists.{subgroupsOf}

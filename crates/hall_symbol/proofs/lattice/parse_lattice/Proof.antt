@@ -5,7 +5,7 @@ use mathlib.Core.List.{List}
 use Prim.Native.Nat.{ℕ}
 use borrow.Author.Tests.{eq-eqb, ne-eqb}
 use Rattle.hall_symbol.specs.Lattice.{letterToken, latticeToken, no-token}
-use Rattle.hall_symbol.specs.Places.{tail-part}
+use Rattle.laws.specs.LentParts.{tail-part}
 use borrow.Author.Needs.{needs}
 use Rattle.hall_symbol.proofs.lattice.parse_lattice.Statement.{statement}
 use Rattle.hall_symbol.proofs.lattice.parse_lattice.Tie as tie

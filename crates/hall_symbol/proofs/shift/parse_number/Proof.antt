@@ -4,7 +4,7 @@ use mathlib.Core.List.{List}
 use Prim.Native.Nat.{ℕ}
 use borrow.Author.Tests.{eq-eqb, ne-eqb}
 use Rattle.hall_symbol.specs.Shift.{digitsOf, opposed, numberOf, no-word}
-use Rattle.hall_symbol.specs.Places.{tail-part}
+use Rattle.laws.specs.LentParts.{tail-part}
 use borrow.Author.Needs.{needs}
 use Rattle.hall_symbol.proofs.shift.parse_number.Statement.{statement}
 use Rattle.hall_symbol.proofs.shift.parse_number.Tie as tie

@@ -1,10 +1,8 @@
 -- The bytes passed so far, and those still to pass behind them, come to what the whole run comes to.
 use mathlib.Core.Path.{_≡_, sym, _∙_}
-use mathlib.Core.Bool.{true, false}
-use Prim.Native.Nat.{ℕ, _+_, _≤_, _-_}
+use Prim.Native.Nat.{_+_, _≤_, _-_}
 use native.Mathlib.Omega.{arith}
 use lib.ListN.{length, take, drop}
-use borrow.Author.Needs.{needs}
 use Rattle.hall_token.specs.RunLetters.{repeatFrom, repeatAt, repeat-end, repeat-stop, repeat-next}
 use Rattle.hall_token.proofs.letters.first_repeat.Statement.{statement}
 use Rattle.hall_token.proofs.letters.first_repeat.Tie as tie

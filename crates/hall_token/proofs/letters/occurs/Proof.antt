@@ -3,7 +3,6 @@ use mathlib.Core.Path.{_≡_, refl, sym, _∙_, ap}
 use Prim.Native.Nat.{ℕ, _≤_, _-_}
 use native.Mathlib.Omega.{arith}
 use lib.ListN.{length, drop}
-use borrow.Author.Needs.{needs}
 use Rattle.hall_token.specs.RunLetters.{occurs, occurs-end, occurs-stop, occurs-next}
 use Rattle.hall_token.proofs.letters.occurs.Statement.{statement}
 use Rattle.hall_token.proofs.letters.occurs.Tie as tie

@@ -1,8 +1,6 @@
 -- The front byte by itself is answered, and behind a right one the first digit is wrong.
-use mathlib.Core.Path.{sym, _∙_}
+use mathlib.Core.Path.{sym}
 use native.Mathlib.Omega.{arith}
-use Rattle.hall_token.specs.Runs.{noScrew}
-use Rattle.hall_token.specs.Front.{rest}
 use Rattle.hall_token.specs.Offsets.{wrong-nothing, alone-wrong, alone-right, wrong-within}
 use borrow.Author.Needs.{needs}
 use Rattle.hall_token.proofs.offsets.wrong_digit.Statement.{statement}

@@ -1,12 +1,12 @@
 -- `type_of_folded`: each key of the match has its pair in the table, and a test at every other key of a byte finds none. Assumes nothing.
 use mathlib.Core.Path.{_≡_, refl, sym, ap}
-use mathlib.Core.Bool.{Bool, true, false, false≢true, _||_, _&&_}
+use mathlib.Core.Bool.{Bool, true, false, false≢true, _||_, _&&_, and-eq-true-iff}
 use Prim.Native.Nat.{ℕ}
 use native.Mathlib.Omega.{arith}
 use borrow.Author.Tests.{eqb-true, ne-eqb}
 use lib.Dec.{eqb}
 use Rattle.operation.specs.Answer.{Answer, Nothing, given, refused}
-use Rattle.operation.specs.Below.{allBelow, both, below}
+use Rattle.operation.specs.Below.{allBelow, below}
 use Rattle.operation.specs.DigitDeterminant.{tracePart, determinantPart}
 use Rattle.operation.specs.RotationType.{typeAnswer, lookup, pairs, typeOf, unknown}
 use Rattle.operation.specs.declared.rotation_type.RotationType.{RotationType}
@@ -27,7 +27,7 @@ is-unknown : (a : Answer RotationType Nothing) → isUnknown a ≡ true → unkn
 unfolding isUnknown
 is-unknown (given k) h = absurd (false≢true h)
 is-unknown (refused n p u) h =
-    let t = both (eqb n 15) (eqb p 0) h in
+    let t = and-eq-true-iff (eqb n 15) (eqb p 0) .0 h in
     rw (eqb-true n 15 (t .0), eqb-true p 0 (t .1))
 
 -- A key of the match, or one that stands for no type.
