@@ -1,9 +1,12 @@
 -- What the answers of this room say of L, a set of integer vectors; and that a letter is told by its byte and by its L.
 use mathlib.Core.Path.{_≡_, refl, sym, _∙_, ap}
 use mathlib.Core.Logic.{inl, inr, _↔_}
-use mathlib.Core.Bool.{Bool, true, false, _&&_, _||_, not, true≢false}
+use mathlib.Core.Bool.{Bool, true, false, cond, _&&_, _||_, not, true≢false, and-eq-true-iff}
 use mathlib.Core.List.{List, [], _∷_, map, List·Memᴰ as Mem, List·Memᴰ·head as here, List·Memᴰ·tail as there, List·Memᴰ·cases-cons as cases, Memᴰ·cast as mem-cast}
-use lib.Dec.{T, T-not, eqb, eqb→eq}
+use Prim.Native.Nat.{ℕ, _<_}
+use native.Mathlib.Omega.{arith}
+use lib.Dec.{T, T-not, eqb, eqb→eq, ltb}
+use borrow.Author.Tests.{eqb-true, ltb-true}
 use Rattle.laws.specs.Matrix.{Vector, plus, opposite}
 use Rattle.laws.specs.Residue.{Triple, Reduced, reduced, lifted, reduced-lifted}
 use Rattle.laws.specs.Distinct.{has, has→Mem, Mem→has, or-cases, equality-equivalence}
@@ -79,6 +82,29 @@ letters-by-byte = refl
 -- A letter's byte spells it, so letters with one byte are one letter.
 pub letter-by-byte : (c : Centering) → letterOf (byteOf c) ≡ Is c
 letter-by-byte c = at-each (λ c. letterOf (byteOf c)) Is letters letters-by-byte c (listed c)
+
+-- The way back: a byte that spells a letter among some is that letter's.
+among-byte : (b : ℕ) (cs : List Centering) (c : Centering) → letterAmong b cs ≡ Is c → b ≡ byteOf c
+unfolding letterAmong
+among-byte b [] c h = let z : _≡_ {A = ℕ} 0 1 = cc in absurd (omega arith)
+among-byte b (d ∷ cs) c h = go (eqb b (byteOf d)) refl h (among-byte b cs c)
+  where
+    go : (t : Bool) → eqb b (byteOf d) ≡ t → cond t (Is d) (letterAmong b cs) ≡ Is c → (letterAmong b cs ≡ Is c → b ≡ byteOf c) → b ≡ byteOf c
+    go true e k r = let same : d ≡ c = cc in eqb-true b (byteOf d) e ∙ ap byteOf same
+    go false e k r = r k
+
+pub letter-byte : (b : ℕ) (c : Centering) → letterOf b ≡ Is c → b ≡ byteOf c
+unfolding letterOf
+letter-byte b c h = among-byte b letters c h
+
+letters-capital : all (λ c. ltb 64 (byteOf c) && ltb (byteOf c) 91) letters ≡ true
+letters-capital = refl
+
+-- Every letter's byte is that of a capital.
+pub letter-capital : (c : Centering) → (64 < byteOf c) × (byteOf c < 91)
+letter-capital c =
+    let (low, high) = and-eq-true-iff (ltb 64 (byteOf c)) _ .0 (holds .0 (all-member (λ c. ltb 64 (byteOf c) && ltb (byteOf c) 91) (holds .1 letters-capital) (listed c))) in
+    (ltb-true 64 (byteOf c) low, ltb-true (byteOf c) 91 high)
 
 pub byte-injective : (c d : Centering) → byteOf c ≡ byteOf d → c ≡ d
 byte-injective c d e =

@@ -11,7 +11,7 @@ use Rattle.hall_symbol.specs.Bytes.{whitespace, unclosed}
 use Rattle.hall_symbol.specs.Runs.{run}
 use Rattle.hall_symbol.specs.Tokens.{firstWord, behindWord, wordFrom}
 use Rattle.hall_symbol.specs.Places.{word-behind, word-within}
-use Rattle.hall_symbol.specs.Shift.{numberOf, numberEnding, numberFrom, blank, numbersOf, closedShift, shiftOf}
+use Rattle.hall_symbol.specs.Shift.{shiftNumber, numberEnding, numberFrom, blank, numbersOf, closedShift, shiftOf}
 use Rattle.hall_symbol.specs.declared.shift.Number.{Number}
 use Rattle.hall_symbol.specs.declared.shift.Number.the-variants.{Is, None}
 use Rattle.hall_symbol.specs.declared.shift.NumberRead.the-variants.{Is as IsRead, None as NoneRead}
@@ -30,19 +30,19 @@ ending-is e (Is n) m q h = ((cc), cc)
 ending-is e None m q h = let z : _≡_ {A = ℕ} 0 1 = cc in absurd (omega arith)
 
 -- No number from place p on.
-from-none : (p : ℕ) (s : List ℕ) → numberFrom p s ≡ NoneRead → numberOf (firstWord (drop p s)) ≡ None
-from-none p s h = ending-none (wordFrom p s .end) (numberOf (firstWord (drop p s))) h
+from-none : (p : ℕ) (s : List ℕ) → numberFrom p s ≡ NoneRead → shiftNumber (firstWord (drop p s)) ≡ None
+from-none p s h = ending-none (wordFrom p s .end) (shiftNumber (firstWord (drop p s))) h
 
 -- The number m from place p on, and q behind it.
-from-is : (p : ℕ) (s : List ℕ) (m q : ℕ) → numberFrom p s ≡ IsRead m q → (numberOf (firstWord (drop p s)) ≡ Is m) × (drop q s ≡ behindWord (drop p s))
+from-is : (p : ℕ) (s : List ℕ) (m q : ℕ) → numberFrom p s ≡ IsRead m q → (shiftNumber (firstWord (drop p s)) ≡ Is m) × (drop q s ≡ behindWord (drop p s))
 from-is p s m q h =
-    let (n, e) = ending-is (wordFrom p s .end) (numberOf (firstWord (drop p s))) m q h in
+    let (n, e) = ending-is (wordFrom p s .end) (shiftNumber (firstWord (drop p s))) m q h in
     (n, ap (λ (k : ℕ). drop k s) e ∙ word-behind s p (wordFrom p s) refl)
 
 -- The place behind a number is in the text.
 pub behind-within : (p : ℕ) (s : List ℕ) (m q : ℕ) → p ≤ length s → numberFrom p s ≡ IsRead m q → q ≤ length s
 behind-within p s m q l h =
-    let (n, e) = ending-is (wordFrom p s .end) (numberOf (firstWord (drop p s))) m q h in
+    let (n, e) = ending-is (wordFrom p s .end) (shiftNumber (firstWord (drop p s))) m q h in
     let (a, b, c) = word-within s p (wordFrom p s) refl l in
     omega arith
 
@@ -63,12 +63,12 @@ module _ (s : List ℕ) where
     unfolding numbersOf
     no-second h =
         let (n, r) = from-is 0 s x a first in
-        let none : numberOf (firstWord (behindWord s)) ≡ None = rw r at (from-none a s h) in
+        let none : shiftNumber (firstWord (behindWord s)) ≡ None = rw r at (from-none a s h) in
         rw (n, none) (either-way (blank (behindWord (behindWord (behindWord s)))))
 
     module _ (y b : ℕ) (second : numberFrom a s ≡ IsRead y b) where
       -- The second number is the one read behind the first.
-      second-is : (numberOf (firstWord (behindWord s)) ≡ Is y) × (drop b s ≡ behindWord (behindWord s))
+      second-is : (shiftNumber (firstWord (behindWord s)) ≡ Is y) × (drop b s ≡ behindWord (behindWord s))
       second-is = let (n, r) = from-is 0 s x a first in rw r at (from-is a s y b second)
 
       -- No third number.
@@ -77,12 +77,12 @@ module _ (s : List ℕ) where
       no-third h =
           let (n, r) = from-is 0 s x a first in
           let (m, q) = second-is in
-          let none : numberOf (firstWord (behindWord (behindWord s))) ≡ None = rw q at (from-none b s h) in
+          let none : shiftNumber (firstWord (behindWord (behindWord s))) ≡ None = rw q at (from-none b s h) in
           rw (n, m, none) (either-way (blank (behindWord (behindWord (behindWord s)))))
 
       module _ (z d : ℕ) (third : numberFrom b s ≡ IsRead z d) where
         -- The third is the one read behind the second.
-        third-is : (numberOf (firstWord (behindWord (behindWord s))) ≡ Is z) × (drop d s ≡ behindWord (behindWord (behindWord s)))
+        third-is : (shiftNumber (firstWord (behindWord (behindWord s))) ≡ Is z) × (drop d s ≡ behindWord (behindWord (behindWord s)))
         third-is = let (m, q) = second-is in rw q at (from-is b s z d third)
 
         -- More than whitespace is left behind the third.

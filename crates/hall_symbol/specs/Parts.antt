@@ -1,6 +1,6 @@
 -- The reader's parts against the spelling rules: the first token, a shift's number, its three numbers, the shift. Each is read exactly as it is spelled.
 use mathlib.Core.Path.{_≡_, refl, _∙_, ap}
-use mathlib.Core.Bool.{Bool, true, false, cond, not, _&&_, false≢true}
+use mathlib.Core.Bool.{Bool, true, false, cond, not, _&&_, false≢true, and-eq-true-iff}
 use mathlib.Core.Logic.{_↔_, _≢_}
 use mathlib.Core.List.{List, [], _∷_, _++_, List·Memᴰ as Mem, List·Memᴰ·head as here}
 use Prim.Native.Nat.{ℕ, suc, _+_, _-_, _%_, _<_, _≤_}
@@ -14,9 +14,9 @@ use lib.Seq.{take-append-seam, drop-append-add, drop-length, split-at}
 use Rattle.laws.specs.Matrix.{Vector}
 use Rattle.laws.specs.Residue.{residue, residue-pos, residue-neg}
 use Rattle.operation.specs.declared.Translation.{Translation}
-use Rattle.centering.specs.Letters.{byteOf, letterOf, letterAmong, letters}
+use Rattle.centering.specs.Letters.{byteOf, letterOf}
+use Rattle.centering.specs.LatticeLaws.{letter-by-byte, letter-byte, letter-capital}
 use Rattle.centering.specs.declared.Centering.{Centering}
-use Rattle.centering.specs.declared.Centering.the-variants.{P, A, B, C, I, R, F, H}
 use Rattle.centering.specs.declared.Letter.{Letter}
 use Rattle.centering.specs.declared.Letter.the-variants.{Is as IsLetter, None as NoLetter}
 use Rattle.hall_symbol.specs.Bytes.{whitespace, unclosed, opening}
@@ -24,7 +24,7 @@ use Rattle.hall_symbol.specs.Runs.{run, Every, run-seam, run-at, run-all
 use Rattle.hall_symbol.specs.Tokens.{trimmed, firstWord, behindWord}
 use Rattle.hall_symbol.specs.Cut.{Cut, FirstToken, blank, token, first-token, cut-firstword, cut-behind}
 use Rattle.hall_symbol.specs.Lattice.{latticeOf, letterToken, latticeToken}
-use Rattle.hall_symbol.specs.Shift.{oneDigit, twoDigits, digitsOf, belowZero, opposed, numberOf, triple, numbersOf, closedShift, shiftOf}
+use Rattle.hall_symbol.specs.Shift.{oneDigit, twoDigits, digitsOf, belowZero, opposed, shiftNumber, triple, numbersOf, closedShift, shiftOf}
 use Rattle.hall_symbol.specs.Generators.{shiftBy}
 use Rattle.hall_symbol.specs.Spelling.{latticeSpelling, decimal, NumberSpelled, above, below, NumbersSpelled, ShiftSpelled, Opens}
 use Rattle.hall_symbol.specs.declared.lattice.Lattice.the-variants.{Is as IsLattice, Wrong}
@@ -32,45 +32,16 @@ use Rattle.hall_symbol.specs.declared.shift.Number.{Number}
 use Rattle.hall_symbol.specs.declared.shift.Number.the-variants.{Is, None}
 use Rattle.hall_symbol.specs.declared.shift.Shift.the-variants.{By, Malformed}
 
--- ---- tests
-and-both : (a b : Bool) → a && b ≡ true → (a ≡ true) × (b ≡ true)
-and-both true b h = (refl, h)
-and-both false b h = absurd (false≢true h)
-
 -- ---- the first token
--- Each letter's byte is read as the letter, and none is `-`.
-letter-read : (c : Centering) → (letterOf (byteOf c) ≡ IsLetter c) × (eqb (byteOf c) 45 ≡ false)
-unfolding letterOf letterAmong
-letter-read P = (refl, refl)
-letter-read A = (refl, refl)
-letter-read B = (refl, refl)
-letter-read C = (refl, refl)
-letter-read I = (refl, refl)
-letter-read R = (refl, refl)
-letter-read F = (refl, refl)
-letter-read H = (refl, refl)
-
--- A byte that is read as a letter is the letter's.
-among-byte : (b : ℕ) (cs : List Centering) (c : Centering) → letterAmong b cs ≡ IsLetter c → b ≡ byteOf c
-unfolding letterAmong
--- A byte that is read as a letter is the letter's.
-among-byte b [] c h = let z : _≡_ {A = ℕ} 0 1 = cc in absurd (omega arith)
-among-byte b (d ∷ cs) c h = go (eqb b (byteOf d)) refl h (among-byte b cs c)
-  where
-    go : (t : Bool) → eqb b (byteOf d) ≡ t → cond t (IsLetter d) (letterAmong b cs) ≡ IsLetter c → (letterAmong b cs ≡ IsLetter c → b ≡ byteOf c) → b ≡ byteOf c
-    go true e k r = let same : d ≡ c = cc in eqb-true b (byteOf d) e ∙ ap byteOf same
-    go false e k r = r k
-
--- The same among all letters.
-letter-byte : (b : ℕ) (c : Centering) → letterOf b ≡ IsLetter c → b ≡ byteOf c
-unfolding letterOf
-letter-byte b c h = among-byte b letters c h
+-- No letter's byte is `-`.
+letter-unsigned : (c : Centering) → eqb (byteOf c) 45 ≡ false
+letter-unsigned c = ne-eqb (byteOf c) 45 (omega (arith, letter-capital c))
 
 -- The spelling of a first token is read as what it spells.
 pub lattice-read : (inverted : Bool) (c : Centering) → latticeToken (latticeSpelling inverted c) ≡ IsLattice inverted c
 unfolding latticeToken letterToken
-lattice-read true c = rw (letter-read c .0)
-lattice-read false c = rw (letter-read c .1, letter-read c .0)
+lattice-read true c = rw (letter-by-byte c)
+lattice-read false c = rw (letter-unsigned c, letter-by-byte c)
 
 -- Exactly one letter.
 lattice-letter : (inverted again : Bool) (l : Letter) (c : Centering) → latticeOf inverted l ≡ IsLattice again c → (inverted ≡ again) × (l ≡ IsLetter c)
@@ -145,8 +116,8 @@ pub minus-residue : (k : ℕ) → 1 ≤ k → k ≤ 11 → residue (negℤ (pos 
 minus-residue k h l = residue-neg (pos k) ∙ rw (residue-pos k) (omega arith)
 
 -- The spelling of an integer is read as its residue.
-pub number-read : (w : List ℕ) (z : ℤ) → NumberSpelled w z → numberOf w ≡ Is (residue z)
-unfolding numberOf belowZero
+pub number-read : (w : List ℕ) (z : ℤ) → NumberSpelled w z → shiftNumber w ≡ Is (residue z)
+unfolding shiftNumber belowZero
 number-read w z′ (above n h e) =
     let small : n % 12 ≡ n = omega arith in
     rw (e, decimal-front n, digits-read (decimal n) n h refl, residue-pos n, small)
@@ -160,7 +131,7 @@ one-spelled b n h = go (leb 48 b && leb b 57) refl h
   where
     go : (t : Bool) → leb 48 b && leb b 57 ≡ t → cond t (Is (b - 48)) None ≡ Is n → (n < 12) × (b ∷ [] ≡ decimal n)
     go true e k =
-        let (low, high) = and-both (leb 48 b) (leb b 57) e in
+        let (low, high) = and-eq-true-iff (leb 48 b) (leb b 57) .0 e in
         let same : b - 48 ≡ n = cc in
         let above = leb-true 48 b low in
         let below = leb-true b 57 high in
@@ -175,8 +146,8 @@ two-spelled a b n h = go (eqb a 49 && (leb 48 b && leb b 49)) refl h
   where
     go : (t : Bool) → eqb a 49 && (leb 48 b && leb b 49) ≡ t → cond t (Is (b - 38)) None ≡ Is n → (n < 12) × (a ∷ b ∷ [] ≡ decimal n)
     go true e k =
-        let (lead, rest) = and-both (eqb a 49) (leb 48 b && leb b 49) e in
-        let (low, high) = and-both (leb 48 b) (leb b 49) rest in
+        let (lead, rest) = and-eq-true-iff (eqb a 49) (leb 48 b && leb b 49) .0 e in
+        let (low, high) = and-eq-true-iff (leb 48 b) (leb b 49) .0 rest in
         let same : b - 38 ≡ n = cc in
         let above = leb-true 48 b low in
         let below = leb-true b 49 high in
@@ -208,7 +179,7 @@ below-spelled w n (Is k) e h = go (leb 1 k && leb k 11) refl h
   where
     go : (t : Bool) → leb 1 k && leb k 11 ≡ t → cond t (Is (12 - k)) None ≡ Is n → Spelling (45 ∷ w) n
     go true f g =
-        let (low, high) = and-both (leb 1 k) (leb k 11) f in
+        let (low, high) = and-eq-true-iff (leb 1 k) (leb k 11) .0 f in
         let (small, same) = digits-spelled w k e in
         let value : 12 - k ≡ n = cc in (
           negℤ (pos k),
@@ -224,8 +195,8 @@ above-spelled w n h =
     (pos n, above n small same, residue-pos n ∙ omega arith)
 
 -- A word that is read as a number spells an integer with that residue.
-pub number-spelled : (w : List ℕ) (n : ℕ) → numberOf w ≡ Is n → Spelling w n
-unfolding numberOf
+pub number-spelled : (w : List ℕ) (n : ℕ) → shiftNumber w ≡ Is n → Spelling w n
+unfolding shiftNumber
 number-spelled [] n h = above-spelled [] n h
 number-spelled (b ∷ w) n h = go (eqb b 45) refl h
   where
@@ -234,8 +205,8 @@ number-spelled (b ∷ w) n h = go (eqb b 45) refl h
     go false e k = above-spelled (b ∷ w) n k
 
 -- A word without `-` is read as the numbers 0 to 11 are, and as nothing else.
-pub plain-numbers : (w : List ℕ) (n : ℕ) → ((b : ℕ) → Mem b w → b ≢ 45) → (numberOf w ≡ Is n) ↔ ((n < 12) × (w ≡ decimal n))
-unfolding numberOf
+pub plain-numbers : (w : List ℕ) (n : ℕ) → ((b : ℕ) → Mem b w → b ≢ 45) → (shiftNumber w ≡ Is n) ↔ ((n < 12) × (w ≡ decimal n))
+unfolding shiftNumber
 plain-numbers [] n h = (digits-spelled [] n, λ k. digits-read [] n (k .0) (k .1))
 plain-numbers (b ∷ w) n h =
     let plain = ne-eqb b 45 (h b (here refl)) in
@@ -254,8 +225,8 @@ triple-by (Is x) None n v h = let z : _≡_ {A = ℕ} 0 1 = cc in absurd (omega 
 triple-by None m n v h = let z : _≡_ {A = ℕ} 0 1 = cc in absurd (omega arith)
 
 -- Where the next word is a number, there is a token.
-word-cut : (s : List ℕ) (n : ℕ) → numberOf (firstWord s) ≡ Is n → (w : List ℕ) × Cut s w (firstWord s) (behindWord s)
-unfolding numberOf digitsOf run
+word-cut : (s : List ℕ) (n : ℕ) → shiftNumber (firstWord s) ≡ Is n → (w : List ℕ) × Cut s w (firstWord s) (behindWord s)
+unfolding shiftNumber digitsOf run
 word-cut s n h = go (first-token s)
   where
     go : FirstToken s → (w : List ℕ) × Cut s w (firstWord s) (behindWord s)
@@ -296,10 +267,10 @@ numbers-spelled s t h = go (leb (length r) (run whitespace r)) refl h
     r = behindWord q
 
     go : (b : Bool) → leb (length r) (run whitespace r) ≡ b
-        → cond b (triple (numberOf (firstWord s)) (numberOf (firstWord (behindWord s))) (numberOf (firstWord q))) Malformed ≡ By t → (v : Vector)
+        → cond b (triple (shiftNumber (firstWord s)) (shiftNumber (firstWord (behindWord s))) (shiftNumber (firstWord q))) Malformed ≡ By t → (v : Vector)
         × NumbersSpelled s v × (shiftBy v ≡ t)
     go true e k =
-        let (x, y, z) = triple-by (numberOf (firstWord s)) (numberOf (firstWord (behindWord s))) (numberOf (firstWord q)) t k in
+        let (x, y, z) = triple-by (shiftNumber (firstWord s)) (shiftNumber (firstWord (behindWord s))) (shiftNumber (firstWord q)) t k in
         let (wx, cx) = word-cut s (t .x) x in
         let (wy, cy) = word-cut (behindWord s) (t .y) y in
         let (wz, cz) = word-cut q (t .z) z in
@@ -420,7 +391,7 @@ closed-spelled s t h = go (ltb close (length s) && leb (length after) (run white
     go : (b : Bool) → ltb close (length s) && leb (length after) (run whitespace after) ≡ b → cond b (numbersOf (take close s)) Malformed ≡ By t
         → (v : Vector) × ShiftSpelled (40 ∷ s) v × (shiftBy v ≡ t)
     go true e k =
-        let (there, only) = and-both (ltb close (length s)) (leb (length after) (run whitespace after)) e in
+        let (there, only) = and-eq-true-iff (ltb close (length s)) (leb (length after) (run whitespace after)) .0 e in
         let within = ltb-true close (length s) there in
         let bracket = closed-byte (getD s close 0) (run-at unclosed s within) in
         let (v, numbers, same) = numbers-spelled (take close s) t k in (

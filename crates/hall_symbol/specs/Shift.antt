@@ -41,12 +41,12 @@ opposed (Is n) = belowZero n
 opposed None = None
 
 -- The byte 45, `-`, may stand directly before the digits.
-unfoldable pub numberOf : List ℕ → Number
-numberOf w = cond (eqb (getD w 0 0) 45) (opposed (digitsOf (drop 1 w))) (digitsOf w)
+unfoldable pub shiftNumber : List ℕ → Number
+shiftNumber w = cond (eqb (getD w 0 0) 45) (opposed (digitsOf (drop 1 w))) (digitsOf w)
 
 -- An empty word is none.
-pub no-word : (w : List ℕ) → length w ≡ 0 → None ≡ numberOf w
-unfolding numberOf digitsOf
+pub no-word : (w : List ℕ) → length w ≡ 0 → None ≡ shiftNumber w
+unfolding shiftNumber digitsOf
 no-word [] h = refl
 no-word (b ∷ w) h = absurd (omega arith)
 
@@ -56,7 +56,7 @@ numberEnding e (Is n) = IsRead n e
 numberEnding e None = NoneRead
 
 abbrev pub numberFrom : ℕ → List ℕ → NumberRead
-numberFrom p text = numberEnding (wordFrom p text .end) (numberOf (firstWord (drop p text)))
+numberFrom p text = numberEnding (wordFrom p text .end) (shiftNumber (firstWord (drop p text)))
 
 -- ---- three of them
 abbrev pub triple : Number → Number → Number → Shift
@@ -73,7 +73,7 @@ blank s = leb (length s) (run whitespace s)
 unfoldable pub numbersOf : List ℕ → Shift
 numbersOf s =
     cond (blank (behindWord (behindWord (behindWord s))))
-    (triple (numberOf (firstWord s)) (numberOf (firstWord (behindWord s))) (numberOf (firstWord (behindWord (behindWord s)))))
+    (triple (shiftNumber (firstWord s)) (shiftNumber (firstWord (behindWord s))) (shiftNumber (firstWord (behindWord (behindWord s)))))
     Malformed
 
 -- The text behind `(`: what stands before the first `)`, and only whitespace after it.

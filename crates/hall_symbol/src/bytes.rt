@@ -8,7 +8,7 @@ ghost use Rattle.hall_symbol.specs.Runs.{run};
 ghost use Rattle.hall_symbol.specs.Tokens.{wordFrom};
 
 // Whitespace separates tokens, and a token holds none. Allowed bytes may stand in a symbol. Inside a shift stands any byte but `)`.
-pub enum Class {
+pub(crate) enum Class {
     Whitespace,
     Token,
     Allowed,
@@ -16,7 +16,7 @@ pub enum Class {
 }
 
 // Where a word starts, and the place behind it.
-pub struct Word {
+pub(crate) struct Word {
     pub start: usize,
     pub end: usize,
 }
@@ -51,7 +51,7 @@ fn is_of(class: Class, byte: u8) -> bool
 }
 
 // The place behind the run of a class's bytes that starts at a place.
-pub fn scan(text: &[u8], at: usize, class: Class) -> usize
+pub(crate) fn scan(text: &[u8], at: usize, class: Class) -> usize
     ensures { λ r. ⌜ r ≡ at + run (belongs class) (drop at (now (text .entry))) ⌝ }
 {
     let mut i = at;
@@ -65,7 +65,7 @@ pub fn scan(text: &[u8], at: usize, class: Class) -> usize
 }
 
 // The first word from a place on. It is empty, and stands at the end, where only whitespace is left.
-pub fn next_word(text: &[u8], at: usize) -> Word
+pub(crate) fn next_word(text: &[u8], at: usize) -> Word
     ensures { λ r. ⌜ r ≡ wordFrom at (now (text .entry)) ⌝ }
 {
     let start = scan(text, at, Class::Whitespace);

@@ -10,7 +10,7 @@ use operation::Translation;
 use operation::product::identity;
 
 // The first `count` operations are the list.
-pub struct Generators {
+pub(crate) struct Generators {
     pub count: usize,
     pub operations: [Operation; 9],
 }
@@ -56,7 +56,7 @@ fn shifted_coordinate(a: u8, b: u8, c: u8, v: Translation, w: u8, t: u8) -> u8
 }
 
 // A generator at the origin moved by v.
-pub fn shifted(g: Operation, v: Translation) -> Operation
+pub(crate) fn shifted(g: Operation, v: Translation) -> Operation
     ensures { λ r. ⌜ r ≡ shifted v g ⌝ }
 {
     let r = g.rotation;
@@ -82,7 +82,7 @@ pub(crate) fn push(list: Generators, g: Operation) -> Generators
 }
 
 // The generators that the first token gives: the inversion, or none.
-pub fn leading(inverted: bool) -> Generators
+pub(crate) fn leading(inverted: bool) -> Generators
     ensures { λ r. ⌜ Started inverted r ⌝ }
 {
     let e = identity();

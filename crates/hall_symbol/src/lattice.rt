@@ -6,7 +6,7 @@ use centering::Centering;
 use centering::Letter;
 
 // Whether the inversion is there, and the letter; or a token that is wrong.
-pub enum Lattice {
+pub(crate) enum Lattice {
     Is(bool, Centering),
     Wrong,
 }
@@ -23,7 +23,7 @@ fn parse_letter(token: &[u8], inverted: bool) -> Lattice
     Lattice::Is(inverted, centering)
 }
 
-pub fn parse_lattice(token: &[u8]) -> Lattice
+pub(crate) fn parse_lattice(token: &[u8]) -> Lattice
     ensures { λ r. ⌜ r ≡ latticeToken (now (token .entry)) ⌝ }
 {
     if token.len() == 0 {

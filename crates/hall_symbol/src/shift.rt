@@ -3,25 +3,25 @@
 ghost use mathlib.Core.Path.{_≡_};
 ghost use Prim.Native.Nat.{_<_, _≤_};
 ghost use lib.ListN.{length, drop};
-ghost use Rattle.hall_symbol.specs.Shift.{oneDigit, twoDigits, digitsOf, belowZero, opposed, numberOf, numberFrom, numbersOf, shiftOf};
+ghost use Rattle.hall_symbol.specs.Shift.{oneDigit, twoDigits, digitsOf, belowZero, opposed, shiftNumber, numberFrom, numbersOf, shiftOf};
 use super::bytes::Class;
 use super::bytes::next_word;
 use super::bytes::scan;
 use operation::Translation;
 
 // A number of twelfths that a shift may hold, modulo 12.
-pub enum Number {
+pub(crate) enum Number {
     Is(u8),
     None,
 }
 
 // Such a number, and the place behind it.
-pub enum NumberRead {
+pub(crate) enum NumberRead {
     Is(u8, usize),
     None,
 }
 
-pub enum Shift {
+pub(crate) enum Shift {
     By(Translation),
     Malformed,
 }
@@ -80,7 +80,7 @@ fn parse_below(digits: &[u8]) -> Number
 }
 
 fn parse_number(word: &[u8]) -> Number
-    ensures { λ r. ⌜ r ≡ numberOf (now (word .entry)) ⌝ }
+    ensures { λ r. ⌜ r ≡ shiftNumber (now (word .entry)) ⌝ }
 {
     if word.len() == 0 {
         return Number::None;

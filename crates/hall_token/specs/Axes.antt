@@ -24,8 +24,8 @@ abbrev pub plain : Direction → Axis
 plain d = axis None d
 
 -- Which N token it is, by how many stand before it.
-unfoldable pub placeOf : ℕ → Place
-placeOf n = cond (eqb n 0) First (cond (eqb n 1) Second (cond (eqb n 2) Third Later))
+unfoldable pub tokenPlace : ℕ → Place
+tokenPlace n = cond (eqb n 0) First (cond (eqb n 1) Second (cond (eqb n 2) Third Later))
 
 -- Neither mark nor letter, second token: by the fold before.
 abbrev pub secondAxis : Fold → SettledAxis
@@ -82,9 +82,9 @@ withMark m Absent = Open
 -- Folds 2, 3, 4 and 6: a letter settles the axis; without one the mark, or its absence, picks the rule.
 abbrev pub turningAxis : Fold → Mark → AxisLetter → Previous → SettledAxis
 turningAxis own m (Along d) p = Settled (axis m d)
-turningAxis own None Absent p = defaultAxis (placeOf (p .count)) (p .fold) own
-turningAxis own Single Absent p = withMark Single (markedDirection (placeOf (p .count)) (p .fold) (p .axis))
-turningAxis own Double Absent p = withMark Double (markedDirection (placeOf (p .count)) (p .fold) (p .axis))
+turningAxis own None Absent p = defaultAxis (tokenPlace (p .count)) (p .fold) own
+turningAxis own Single Absent p = withMark Single (markedDirection (tokenPlace (p .count)) (p .fold) (p .axis))
+turningAxis own Double Absent p = withMark Double (markedDirection (tokenPlace (p .count)) (p .fold) (p .axis))
 
 -- Fold 1 takes no mark and no axis, and counts as plain z at any place.
 abbrev pub identityAxis : Mark → AxisLetter → SettledAxis

@@ -20,7 +20,7 @@ use Rattle.hall_token.specs.declared.Place.the-variants.{First, Second, 
 use Rattle.hall_token.specs.declared.Previous.{Previous}
 use Rattle.hall_token.specs.declared.SettledAxis.{SettledAxis}
 use Rattle.hall_token.specs.declared.SettledAxis.the-variants.{Settled, Open}
-use Rattle.hall_token.specs.Axes.{axis, plain, placeOf, defaultAxis, plainDirection, secondDirection, markedDirection, withMark, turningAxis, axisOf}
+use Rattle.hall_token.specs.Axes.{axis, plain, tokenPlace, defaultAxis, plainDirection, secondDirection, markedDirection, withMark, turningAxis, axisOf}
 
 -- ---- the rules
 
@@ -54,8 +54,8 @@ PlacedAt n Second = n ≡ 1
 PlacedAt n Third = n ≡ 2
 PlacedAt n Later = 2 < n
 
-placed : (n : ℕ) → PlacedAt n (placeOf n)
-unfolding placeOf PlacedAt
+placed : (n : ℕ) → PlacedAt n (tokenPlace n)
+unfolding tokenPlace PlacedAt
 placed n = first (eqb n 0) refl
   where
     third : (t : Bool) → eqb n 2 ≡ t → (n ≡ 0 → ⊥) → (n ≡ 1 → ⊥) → PlacedAt n (cond t Third Later)
@@ -77,9 +77,9 @@ ByRule own m l p (Settled a) = Settles own m l p a
 ByRule own m l p Open = Unit {0}
 
 -- Without mark and letter.
-bare-by-rule : (own : Fold) → own ≢ One → (p : Previous) → ByRule own None Absent p (defaultAxis (placeOf (p .count)) (p .fold) own)
+bare-by-rule : (own : Fold) → own ≢ One → (p : Previous) → ByRule own None Absent p (defaultAxis (tokenPlace (p .count)) (p .fold) own)
 unfolding PlacedAt
-bare-by-rule own t p = go (placeOf (p .count)) (placed (p .count)) (p .fold) refl own refl
+bare-by-rule own t p = go (tokenPlace (p .count)) (placed (p .count)) (p .fold) refl own refl
   where
     go : (w : Place) → PlacedAt (p .count) w → (before : Fold) → p .fold ≡ before → (f : Fold) → own ≡ f → ByRule own None Absent p (defaultAxis w before f)
     go First h before e f i = bare-first t refl refl h refl
@@ -129,9 +129,9 @@ handed a = go (a .mark) refl (a .direction) refl
 
 -- With a mark and no letter.
 marked-by-rule : (own : Fold) → own ≢ One → (m : Mark) → m ≢ None → (p : Previous)
-    → ByRule own m Absent p (withMark m (markedDirection (placeOf (p .count)) (p .fold) (p .axis)))
+    → ByRule own m Absent p (withMark m (markedDirection (tokenPlace (p .count)) (p .fold) (p .axis)))
 unfolding PlacedAt
-marked-by-rule own t m k p = go (placeOf (p .count)) (placed (p .count))
+marked-by-rule own t m k p = go (tokenPlace (p .count)) (placed (p .count))
   where
     passed-on : 0 < p .count → (l : AxisLetter) → Handed (p .axis) l → ByRule own m Absent p (withMark m l)
     passed-on h (Along d) g = mark-handed t k refl d (record { stands = h; is-plain = g .0; is-letter = g .1 }) refl
@@ -200,19 +200,19 @@ turning-axis Four t m l p = refl
 turning-axis Six t m l p = refl
 
 marked-axis : (own : Fold) (m : Mark) → m ≢ None → (p : Previous)
-    → turningAxis own m Absent p ≡ withMark m (markedDirection (placeOf (p .count)) (p .fold) (p .axis))
+    → turningAxis own m Absent p ≡ withMark m (markedDirection (tokenPlace (p .count)) (p .fold) (p .axis))
 marked-axis own None k p = absurd (k refl)
 marked-axis own Single k p = refl
 marked-axis own Double k p = refl
 
 -- The axis of folds 2, 3, 4, 6 with a mark and no letter.
 marked-table : (own : Fold) (m : Mark) (l : AxisLetter) (p : Previous) → own ≢ One → m ≢ None → l ≡ Absent → (w : AxisLetter)
-    → markedDirection (placeOf (p .count)) (p .fold) (p .axis) ≡ w → axisOf own m l p ≡ withMark m w
+    → markedDirection (tokenPlace (p .count)) (p .fold) (p .axis) ≡ w → axisOf own m l p ≡ withMark m w
 marked-table own m l p t k e w h = ap (λ (x : AxisLetter). axisOf own m x p) e ∙ turning-axis own t m Absent p ∙ marked-axis own m k p ∙ ap (withMark m) h
 
 -- The same without a mark.
 bare-table : (own : Fold) (m : Mark) (l : AxisLetter) (p : Previous) → own ≢ One → m ≡ None → l ≡ Absent
-    → axisOf own m l p ≡ defaultAxis (placeOf (p .count)) (p .fold) own
+    → axisOf own m l p ≡ defaultAxis (tokenPlace (p .count)) (p .fold) own
 bare-table own m l p t k e = rw (e, k) (turning-axis own t None Absent p)
 
 handed-direction : (a : Axis) (d : Direction) → a ≡ plain d → d ≢ Diagonal → plainDirection (a .mark) (a .direction) ≡ Along d
@@ -225,9 +225,9 @@ handed-direction a d e k = ap (λ (b : Axis). plainDirection (b .mark) (b .direc
     go Diagonal h = absurd (h refl)
 
 -- Where an axis is handed on, the place does not matter.
-handed-marked : (p : Previous) (d : Direction) → HandsOn p d → markedDirection (placeOf (p .count)) (p .fold) (p .axis) ≡ Along d
+handed-marked : (p : Previous) (d : Direction) → HandsOn p d → markedDirection (tokenPlace (p .count)) (p .fold) (p .axis) ≡ Along d
 unfolding PlacedAt
-handed-marked p d h = go (placeOf (p .count)) (placed (p .count))
+handed-marked p d h = go (tokenPlace (p .count)) (placed (p .count))
   where
     e : plainDirection (p .axis .mark) (p .axis .direction) ≡ Along d
     e = handed-direction (p .axis) d (h .is-plain) (h .is-letter)
@@ -240,8 +240,8 @@ handed-marked p d h = go (placeOf (p .count)) (placed (p .count))
 
 -- Where none is, a second token after fold 2 takes x.
 second-marked : (p : Previous) → ((d : Direction) → ¬ (HandsOn p d)) → p .count ≡ 1 → p .fold ≡ Two
-    → markedDirection (placeOf (p .count)) (p .fold) (p .axis) ≡ Along X
-unfolding placeOf
+    → markedDirection (tokenPlace (p .count)) (p .fold) (p .axis) ≡ Along X
+unfolding tokenPlace
 second-marked p n h f = rw (h, f) (go (plainDirection (p .axis .mark) (p .axis .direction)) (handed (p .axis)))
   where
     go : (l : AxisLetter) → Handed (p .axis) l → secondDirection l Two ≡ Along X
@@ -249,7 +249,7 @@ second-marked p n h f = rw (h, f) (go (plainDirection (p .axis .mark) (p .axis .
     go Absent g = refl
 
 by-table : (own : Fold) (m : Mark) (l : AxisLetter) (p : Previous) (a : Axis) → Settles own m l p a → axisOf own m l p ≡ Settled a
-unfolding placeOf
+unfolding tokenPlace
 by-table own m l p a (fold-one o k e q) = rw (o, k, e, q)
 by-table own m l p a (letter t d e q) = rw (e, q) (turning-axis own t m (Along d) p)
 by-table own m l p a (mark-handed t k e d h q) = rw q (marked-table own m l p t k e (Along d) (handed-marked p d h))

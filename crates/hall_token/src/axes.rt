@@ -1,7 +1,7 @@
 // The axis of an N token, by its fold, mark and letter and by what stands to its left.
 // Ported from data/hall_symbol.rs of moyo 0.21.0 (`parse_operation`), and changed: enums for strings, and a refusal where no axis is settled.
 ghost use mathlib.Core.Path.{_≡_};
-ghost use Rattle.hall_token.specs.Axes.{axis, placeOf, secondAxis, thirdAxis, defaultAxis, plainDirection, secondDirection, markedDirection, withMark, turningAxis, identityAxis, axisOf};
+ghost use Rattle.hall_token.specs.Axes.{axis, tokenPlace, secondAxis, thirdAxis, defaultAxis, plainDirection, secondDirection, markedDirection, withMark, turningAxis, identityAxis, axisOf};
 use super::Axis;
 use super::AxisLetter;
 use super::Direction;
@@ -12,7 +12,7 @@ use super::Previous;
 use super::SettledAxis;
 
 fn place_of(count: usize) -> Place
-    ensures { λ r. ⌜ r ≡ placeOf count ⌝ }
+    ensures { λ r. ⌜ r ≡ tokenPlace count ⌝ }
 {
     match count {
         0 => Place::First,

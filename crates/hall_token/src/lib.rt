@@ -73,19 +73,19 @@ pub enum ParsedOperation {
 }
 
 // The fold that a byte spells, if it spells one.
-pub enum FoldByte {
+pub(crate) enum FoldByte {
     Is(Fold),
     Other,
 }
 
 // The letter of an axis, where one is written.
-pub enum AxisLetter {
+pub(crate) enum AxisLetter {
     Along(Direction),
     Absent,
 }
 
 // What a byte of a token's run says: a screw's digit, a letter's translation, time reversal, or nothing that may stand there.
-pub enum RunByte {
+pub(crate) enum RunByte {
     Screw(u8),
     Letter(Translation),
     Prime,
@@ -93,32 +93,32 @@ pub enum RunByte {
 }
 
 // The place of a token among the N tokens.
-pub enum Place {
+pub(crate) enum Place {
     First,
     Second,
     Third,
     Later,
 }
 
-pub enum SettledAxis {
+pub(crate) enum SettledAxis {
     Settled(Axis),
     Open,
 }
 
 // The rotation of a fold about an axis, if there is one among the twenty.
-pub enum Turn {
+pub(crate) enum Turn {
     Matrix(Rotation),
     NoMatrix,
 }
 
 // Classes of a run's bytes: those that may stand in it, and those that are no digit.
-pub enum RunClass {
+pub(crate) enum RunClass {
     Alphabet,
     NoDigit,
 }
 
 // The translation of a run, or a digit where none may stand.
-pub enum Moved {
+pub(crate) enum Moved {
     By(Translation),
     WrongDigit,
 }

@@ -52,12 +52,12 @@ placeIn [] b = 0
 placeIn (p ∷ ps) b = cond (eqb b p) 0 (suc (placeIn ps b))
 
 -- The number of twelfths that a component is, or 12 where it is off the grid.
-unfoldable pub numberOf : Float → ℕ
-numberOf v = placeIn patterns (toBits binary64 v)
+unfoldable pub twelfthsOf : Float → ℕ
+twelfthsOf v = placeIn patterns (toBits binary64 v)
 
 -- Whether a component is one of the twelve.
 abbrev pub isOnGrid : Float → Bool
-isOnGrid v = ltb (numberOf v) 12
+isOnGrid v = ltb (twelfthsOf v) 12
 
 -- Refusal 16 of R8: the place is the component's index, and the component comes along.
 abbrev pub offGrid : ℕ → Float → Answer Translation Float
@@ -68,7 +68,7 @@ unfoldable pub onGrid : Doubles → Answer Translation Float
 onGrid d =
     cond (isOnGrid (d .x))
     (cond (isOnGrid (d .y))
-    (cond (isOnGrid (d .z)) (given (record { x = numberOf (d .x); y = numberOf (d .y); z = numberOf (d .z) })) (offGrid 2 (d .z)))
+    (cond (isOnGrid (d .z)) (given (record { x = twelfthsOf (d .x); y = twelfthsOf (d .y); z = twelfthsOf (d .z) })) (offGrid 2 (d .z)))
     (offGrid 1 (d .y)))
     (offGrid 0 (d .x))
 
@@ -110,13 +110,13 @@ pattern-at k h =
 
 -- ---- there and back
 -- The fact of `number-of-quotient`, at all twelve.
-number-test : allBelow 12 (λ k. eqb (numberOf (quotient k)) k) ≡ true
-unfolding allBelow numberOf placeIn patterns quotient toBits div ofInt round size units odd span climb trailingZeros
+number-test : allBelow 12 (λ k. eqb (twelfthsOf (quotient k)) k) ≡ true
+unfolding allBelow twelfthsOf placeIn patterns quotient toBits div ofInt round size units odd span climb trailingZeros
 number-test = refl
 
 -- The number of k / 12 is k.
-pub number-of-quotient : (k : ℕ) → k < 12 → numberOf (quotient k) ≡ k
-number-of-quotient k h = eqb-true _ _ (below 12 (λ k. eqb (numberOf (quotient k)) k) number-test k h)
+pub number-of-quotient : (k : ℕ) → k < 12 → twelfthsOf (quotient k) ≡ k
+number-of-quotient k h = eqb-true _ _ (below 12 (λ k. eqb (twelfthsOf (quotient k)) k) number-test k h)
 
 -- Every translation in 0..11 comes back.
 pub there-and-back : (t : Translation) → t .x < 12 → t .y < 12 → t .z < 12 → onGrid (doublesOf t) ≡ given t
@@ -145,10 +145,10 @@ unfolding quotient
 quotient-fits k = div-fits binary64 (ofInt binary64 (pos k)) (ofInt binary64 (pos 12))
 
 -- A component on the grid is the quotient of its number.
-pub quotient-of-number : (v : Float) → T (fits binary64 v) → numberOf v < 12 → quotient (numberOf v) ≡ v
-unfolding numberOf patterns
+pub quotient-of-number : (v : Float) → T (fits binary64 v) → twelfthsOf v < 12 → quotient (twelfthsOf v) ≡ v
+unfolding twelfthsOf patterns
 quotient-of-number v hv h =
-    same-bits _ v (quotient-fits (numberOf v)) hv (sym (pattern-at (numberOf v) h) ∙ place-found patterns (toBits binary64 v) h)
+    same-bits _ v (quotient-fits (twelfthsOf v)) hv (sym (pattern-at (twelfthsOf v) h) ∙ place-found patterns (toBits binary64 v) h)
 
 -- A translation is the answer only where all three components are on the grid.
 all-on-grid : (a b c : Bool) (s t : Translation) (u v w : Float) → cond a (cond b (cond c (given s) (offGrid 2 w)) (offGrid 1 v)) (offGrid 0 u) ≡ given t → (a ≡ true) × (b ≡ true) × (c ≡ true) × (s ≡ t)
@@ -166,9 +166,9 @@ pub back-and-there : (d : Doubles) (t : Translation) → AreDoubles d → onGrid
 unfolding onGrid doublesOf
 back-and-there d t f e =
     let on = all-on-grid (isOnGrid (d .x)) (isOnGrid (d .y)) (isOnGrid (d .z)) _ t (d .x) (d .y) (d .z) e in
-    let hx = ltb-true (numberOf (d .x)) 12 (on .0) in
-    let hy = ltb-true (numberOf (d .y)) 12 (on .1) in
-    let hz = ltb-true (numberOf (d .z)) 12 (on .2) in
+    let hx = ltb-true (twelfthsOf (d .x)) 12 (on .0) in
+    let hy = ltb-true (twelfthsOf (d .y)) 12 (on .1) in
+    let hz = ltb-true (twelfthsOf (d .z)) 12 (on .2) in
     rw (← on .3) (rw (quotient-of-number (d .x) (f .0) hx, quotient-of-number (d .y) (f .1) hy, quotient-of-number (d .z) (f .2) hz) (refl, hx, hy, hz))
 
 -- One of the twelve bit patterns: those of 0/12, 1/12, .., 11/12.
@@ -177,12 +177,12 @@ OnGrid v = (k : ℕ) × (k < 12) × (toBits binary64 v ≡ toBits binary64 (quot
 
 -- The test of a component says whether it has one of them.
 pub on-grid : (v : Float) → (isOnGrid v ≡ true) ↔ OnGrid v
-unfolding numberOf patterns
+unfolding twelfthsOf patterns
 on-grid v = (
   (λ e.
-      let h = ltb-true (numberOf v) 12 e in
-      (numberOf v, h, sym (place-found patterns (toBits binary64 v) h) ∙ pattern-at (numberOf v) h)),
-  λ (k, h, e). let same : numberOf v ≡ k = ap (placeIn patterns) e ∙ number-of-quotient k h in lt-ltb (numberOf v) 12 (omega arith),
+      let h = ltb-true (twelfthsOf v) 12 e in
+      (twelfthsOf v, h, sym (place-found patterns (toBits binary64 v) h) ∙ pattern-at (twelfthsOf v) h)),
+  λ (k, h, e). let same : twelfthsOf v ≡ k = ap (placeIn patterns) e ∙ number-of-quotient k h in lt-ltb (twelfthsOf v) 12 (omega arith),
 )
 
 -- ---- what is off the grid
@@ -199,5 +199,5 @@ strangers =
 
 -- None of these is on the grid.
 pub strangers-off : map (λ b. isOnGrid (ofBits binary64 b)) strangers ≡ false ∷ false ∷ false ∷ false ∷ false ∷ false ∷ []
-unfolding strangers numberOf placeIn patterns toBits ofBits ofFields size odd span climb trailingZeros
+unfolding strangers twelfthsOf placeIn patterns toBits ofBits ofFields size odd span climb trailingZeros
 strangers-off = refl

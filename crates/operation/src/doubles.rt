@@ -2,7 +2,7 @@
 
 use crate::Translation;
 ghost use mathlib.Core.Path.{_≡_};
-ghost use Rattle.operation.specs.Doubles.{quotient, doublesOf, numberOf, onGrid, gridAnswer};
+ghost use Rattle.operation.specs.Doubles.{quotient, doublesOf, twelfthsOf, onGrid, gridAnswer};
 
 pub struct Doubles {
     pub x: f64,
@@ -63,7 +63,7 @@ fn over_twelve(k: u8) -> f64
 
 // The k below 12 whose k / 12 has the bits of the component; 12 where there is none.
 fn grid_number(component: f64) -> u8
-    ensures { λ k. ⌜ k ≡ numberOf component ⌝ }
+    ensures { λ k. ⌜ k ≡ twelfthsOf component ⌝ }
 {
     if component != component {
         return 12;

@@ -4,7 +4,7 @@ use mathlib.Core.List.{List, [], _∷_}
 use Prim.Native.Nat.{ℕ, zero, suc, _+_, _*_, _-_, _/_, _%_, _<_, _^_}
 use native.Mathlib.Omega.{arith}
 use lib.ListN.{getD, length}
-use Rattle.subgroup_laws.specs.Slots.{bytesOf, numberOf}
+use Rattle.subgroup_laws.specs.Slots.{bytesOf, numberInBytes}
 
 -- there are eight,
 pub eight-bytes : (m : ℕ) → length (bytesOf m) ≡ 8
@@ -33,6 +33,6 @@ pub counted-bytes : bytesOf 72623859790382856 ≡ 1 ∷ 2 ∷ 3 ∷ 4 ∷ 5 ∷ 
 counted-bytes = refl
 
 -- Read back, the first byte counts most too.
-pub counted-back : (l : List ℕ) → numberOf (1 ∷ 2 ∷ 3 ∷ 4 ∷ 5 ∷ 6 ∷ 7 ∷ 8 ∷ l) ≡ 72623859790382856
-unfolding numberOf
+pub counted-back : (l : List ℕ) → numberInBytes (1 ∷ 2 ∷ 3 ∷ 4 ∷ 5 ∷ 6 ∷ 7 ∷ 8 ∷ l) ≡ 72623859790382856
+unfolding numberInBytes
 counted-back l = refl

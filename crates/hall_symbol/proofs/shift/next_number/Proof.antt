@@ -3,7 +3,7 @@ use mathlib.Core.Path.{_≡_, sym, _∙_, ap}
 use native.Mathlib.Omega.{arith}
 use lib.ListN.{drop}
 use Rattle.hall_symbol.specs.Tokens.{firstWord}
-use Rattle.hall_symbol.specs.Shift.{numberOf}
+use Rattle.hall_symbol.specs.Shift.{shiftNumber}
 use Rattle.hall_symbol.specs.Places.{word-within, word-bytes}
 use Rattle.hall_symbol.specs.declared.bytes.Word.{Word}
 use Rattle.hall_symbol.specs.declared.shift.Number.the-variants.{Is, None}
@@ -43,8 +43,8 @@ returns : tie.Need-returns
 returns c =
     let a = c .before .before .before .before .before .before .args in
     let bytes = word-bytes (a .inside .now) (a .at) (c .before .before .before .before .next-word .result) (c .before .before .before .before .next-word .ensures) in
-    let none : numberOf (firstWord (drop (a .at) (a .inside .now))) ≡ None =
-    ap numberOf (sym bytes) ∙ sym (c .before .before .parse-number .ensures) ∙ c .enum-told .given .1 in
+    let none : shiftNumber (firstWord (drop (a .at) (a .inside .now))) ≡ None =
+    ap shiftNumber (sym bytes) ∙ sym (c .before .before .parse-number .ensures) ∙ c .enum-told .given .1 in
     rw none
 
 returns-2 : tie.Need-returns-2
@@ -53,8 +53,8 @@ returns-2 c =
     let found = c .before .before .before .before .before .next-word .ensures in
     let bytes = word-bytes (a .inside .now) (a .at) (c .before .before .before .before .before .next-word .result) found in
     let n = c .before .n .given .0 .0 in
-    let is : numberOf (firstWord (drop (a .at) (a .inside .now))) ≡ Is n =
-    ap numberOf (sym bytes) ∙ sym (c .before .before .before .parse-number .ensures) ∙ c .before .n .given .1 in
+    let is : shiftNumber (firstWord (drop (a .at) (a .inside .now))) ≡ Is n =
+    ap shiftNumber (sym bytes) ∙ sym (c .before .before .before .parse-number .ensures) ∙ c .before .n .given .1 in
     rw is (ap (λ (w : Word). IsRead n (w .end)) found)
 
 pub next-number-spec : {M : Type 1} → statement M

@@ -3,7 +3,7 @@ use mathlib.Core.Path.{_∙_, ap}
 use mathlib.Core.List.{List}
 use Prim.Native.Nat.{ℕ}
 use borrow.Author.Tests.{eq-eqb, ne-eqb}
-use Rattle.hall_symbol.specs.Shift.{digitsOf, opposed, numberOf, no-word}
+use Rattle.hall_symbol.specs.Shift.{digitsOf, opposed, shiftNumber, no-word}
 use Rattle.laws.specs.LentParts.{tail-part}
 use borrow.Author.Needs.{needs}
 use Rattle.hall_symbol.proofs.shift.parse_number.Statement.{statement}
@@ -28,7 +28,7 @@ parse-below-requires : tie.Need-parse-below-requires
 parse-below-requires c κs = search needs
 
 returns-2 : tie.Need-returns-2
-unfolding numberOf
+unfolding shiftNumber
 returns-2 c =
     c .parse-below .ensures
     ∙ simp (eq-eqb _ _ (c .before .before .if2 .taken)) (ap (λ (t : List ℕ). opposed (digitsOf t))
@@ -38,7 +38,7 @@ parse-digits-requires : tie.Need-parse-digits-requires
 parse-digits-requires c κs = search needs
 
 returns-3 : tie.Need-returns-3
-unfolding numberOf
+unfolding shiftNumber
 returns-3 c = c .parse-digits .ensures ∙ simp (ne-eqb _ _ (c .before .if2 .left))
 
 pub parse-number-spec : {M : Type 1} → statement M

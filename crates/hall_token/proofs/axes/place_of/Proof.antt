@@ -1,24 +1,24 @@
 -- Each key of the match is a place of the table; past the last key the three tests fail.
 use mathlib.Core.Path.{sym, ap}
 use borrow.Author.Tests.{ne-eqb}
-use Rattle.hall_token.specs.Axes.{placeOf}
+use Rattle.hall_token.specs.Axes.{tokenPlace}
 use Rattle.hall_token.proofs.axes.place_of.Statement.{statement}
 use Rattle.hall_token.proofs.axes.place_of.Tie as tie
 
 returns : tie.Need-returns
-unfolding placeOf
-returns c = sym (ap placeOf (c .match .keys1))
+unfolding tokenPlace
+returns c = sym (ap tokenPlace (c .match .keys1))
 
 returns-2 : tie.Need-returns-2
-unfolding placeOf
-returns-2 c = sym (ap placeOf (c .match .keys2))
+unfolding tokenPlace
+returns-2 c = sym (ap tokenPlace (c .match .keys2))
 
 returns-3 : tie.Need-returns-3
-unfolding placeOf
-returns-3 c = sym (ap placeOf (c .match .keys3))
+unfolding tokenPlace
+returns-3 c = sym (ap tokenPlace (c .match .keys3))
 
 returns-4 : tie.Need-returns-4
-unfolding placeOf
+unfolding tokenPlace
 returns-4 c = simp (ne-eqb _ _ (c .match .rest .0 .0 .1), ne-eqb _ _ (c .match .rest .0 .1), ne-eqb _ _ (c .match .rest .1))
 
 pub place-of-spec : {M : Type 1} → statement M

@@ -6,7 +6,7 @@ use borrow.Author.Tests.{ne-eqb}
 use lib.Dec.{T}
 use lib.Ieee.{Float, nan, inf, fin, binary64, toBits, isNan, ne, eq}
 use lib.Ieee.Compare.{differs-from-itself}
-use Rattle.operation.specs.Doubles.{patterns, placeIn, numberOf}
+use Rattle.operation.specs.Doubles.{patterns, placeIn, twelfthsOf}
 use Rattle.operation.proofs.doubles.grid_number.Statement.{statement}
 use Rattle.operation.proofs.doubles.grid_number.Tie as tie
 
@@ -22,62 +22,62 @@ not-nan (inf s) h = tt
 not-nan (fin s m e) h = tt
 
 returns : tie.Need-returns
-unfolding toBits numberOf patterns placeIn
-returns c = sym (ap numberOf (differs-from-itself _ (subst T (sym (c .if1 .taken)) tt)))
+unfolding toBits twelfthsOf patterns placeIn
+returns c = sym (ap twelfthsOf (differs-from-itself _ (subst T (sym (c .if1 .taken)) tt)))
 
 float-to-bits-bits : tie.Need-float-to-bits-bits
 float-to-bits-bits c = not-nan _ (c .if1 .left)
 
 returns-2 : tie.Need-returns-2
-unfolding numberOf patterns placeIn
+unfolding twelfthsOf patterns placeIn
 returns-2 c = hit _ (c .match .keys1)
 
 returns-3 : tie.Need-returns-3
-unfolding numberOf patterns placeIn
+unfolding twelfthsOf patterns placeIn
 returns-3 c = hit _ (c .match .keys2)
 
 returns-4 : tie.Need-returns-4
-unfolding numberOf patterns placeIn
+unfolding twelfthsOf patterns placeIn
 returns-4 c = hit _ (c .match .keys3)
 
 returns-5 : tie.Need-returns-5
-unfolding numberOf patterns placeIn
+unfolding twelfthsOf patterns placeIn
 returns-5 c = hit _ (c .match .keys4)
 
 returns-6 : tie.Need-returns-6
-unfolding numberOf patterns placeIn
+unfolding twelfthsOf patterns placeIn
 returns-6 c = hit _ (c .match .keys5)
 
 returns-7 : tie.Need-returns-7
-unfolding numberOf patterns placeIn
+unfolding twelfthsOf patterns placeIn
 returns-7 c = hit _ (c .match .keys6)
 
 returns-8 : tie.Need-returns-8
-unfolding numberOf patterns placeIn
+unfolding twelfthsOf patterns placeIn
 returns-8 c = hit _ (c .match .keys7)
 
 returns-9 : tie.Need-returns-9
-unfolding numberOf patterns placeIn
+unfolding twelfthsOf patterns placeIn
 returns-9 c = hit _ (c .match .keys8)
 
 returns-10 : tie.Need-returns-10
-unfolding numberOf patterns placeIn
+unfolding twelfthsOf patterns placeIn
 returns-10 c = hit _ (c .match .keys9)
 
 returns-11 : tie.Need-returns-11
-unfolding numberOf patterns placeIn
+unfolding twelfthsOf patterns placeIn
 returns-11 c = hit _ (c .match .keys10)
 
 returns-12 : tie.Need-returns-12
-unfolding numberOf patterns placeIn
+unfolding twelfthsOf patterns placeIn
 returns-12 c = hit _ (c .match .keys11)
 
 returns-13 : tie.Need-returns-13
-unfolding numberOf patterns placeIn
+unfolding twelfthsOf patterns placeIn
 returns-13 c = hit _ (c .match .keys12)
 
 returns-14 : tie.Need-returns-14
-unfolding numberOf patterns placeIn
+unfolding twelfthsOf patterns placeIn
 returns-14 c =
     let bits = toBits binary64 (c .before .before .args .component) in
     let none = c .match .rest in
