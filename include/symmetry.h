@@ -129,6 +129,7 @@ static inline const char *symmetry_reason(unsigned number)
     case SYMMETRY_SHIFT_MALFORMED: return "a malformed shift of origin";
     case SYMMETRY_NO_ROTATION: return "no rotation";
     case SYMMETRY_TOO_MANY_TOKENS: return "over eight rotations are spelled";
+    case SYMMETRY_LETTER_DOUBLED: return "a letter twice in one token";
     case SYMMETRY_LATTICE_NOT_KEPT: return "a generator does not keep the lattice";
     case SYMMETRY_TOO_MANY_ROTATIONS: return "too many rotations, or too large an entry";
     case SYMMETRY_TWO_TRANSLATIONS: return "one rotation with two translations";

@@ -22,7 +22,7 @@ static const struct { unsigned constant, number; } refusals[] = {
     { SYMMETRY_LATTICE_WRONG, 4 }, { SYMMETRY_TOKEN_MISSPELT, 5 }, { SYMMETRY_AXIS_UNSETTLED, 6 },
     { SYMMETRY_DIGIT_WRONG, 7 }, { SYMMETRY_TOKEN_PRIMED, 8 }, { SYMMETRY_SHIFT_MALFORMED, 9 },
     { SYMMETRY_NO_ROTATION, 10 }, { SYMMETRY_TOO_MANY_TOKENS, 11 }, { SYMMETRY_LATTICE_NOT_KEPT, 12 },
-    { SYMMETRY_TOO_MANY_ROTATIONS, 13 }, { SYMMETRY_TWO_TRANSLATIONS, 14 }, { SYMMETRY_NO_ROOM, 20 },
+    { SYMMETRY_TOO_MANY_ROTATIONS, 13 }, { SYMMETRY_TWO_TRANSLATIONS, 14 }, { SYMMETRY_LETTER_DOUBLED, 17 }, { SYMMETRY_NO_ROOM, 20 },
     { SYMMETRY_ORDER, 21 }, { SYMMETRY_CELLS, 22 }, { SYMMETRY_NO_IDENTITY, 23 },
     { SYMMETRY_NO_INVERSE, 24 }, { SYMMETRY_NOT_ASSOCIATIVE, 25 }, { SYMMETRY_TOO_FEW_SLOTS, 26 },
     { SYMMETRY_NOT_A_SUBGROUP, 27 }, { SYMMETRY_NOT_AN_ELEMENT, 28 }, { SYMMETRY_NOT_NORMALIZING, 29 },
@@ -49,6 +49,8 @@ static void check_refusals(void)
     for (i = 1; i < ABOVE; i++)
         said += strcmp(words[i], others) != 0;
     check("numbers with words", said, REFUSALS);
+    /* counted in the header's text by whoever compiles this, so that none is forgotten above */
+    check("refusals of the header", ENUMERATORS, REFUSALS);
 }
 
 static void check_sizes(void)
