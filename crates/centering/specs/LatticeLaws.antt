@@ -97,13 +97,15 @@ pub letter-byte : (b : ℕ) (c : Centering) → letterOf b ≡ Is c → b ≡ by
 unfolding letterOf
 letter-byte b c h = among-byte b letters c h
 
-letters-capital : all (λ c. ltb 64 (byteOf c) && ltb (byteOf c) 91) letters ≡ true
-letters-capital = refl
+-- One test over all letters.
+letters-capital : T (all (λ c. ltb 64 (byteOf c) && ltb (byteOf c) 91) letters)
+unfolding all
+letters-capital = tt
 
 -- Every letter's byte is that of a capital.
 pub letter-capital : (c : Centering) → (64 < byteOf c) × (byteOf c < 91)
 letter-capital c =
-    let (low, high) = and-eq-true-iff (ltb 64 (byteOf c)) _ .0 (holds .0 (all-member (λ c. ltb 64 (byteOf c) && ltb (byteOf c) 91) (holds .1 letters-capital) (listed c))) in
+    let (low, high) = and-eq-true-iff (ltb 64 (byteOf c)) _ .0 (holds .0 (all-member (λ c. ltb 64 (byteOf c) && ltb (byteOf c) 91) letters-capital (listed c))) in
     (ltb-true 64 (byteOf c) low, ltb-true (byteOf c) 91 high)
 
 pub byte-injective : (c d : Centering) → byteOf c ≡ byteOf d → c ≡ d
