@@ -1,0 +1,284 @@
+-- When generators are answered a list, and when each refusal; and what the refusals show. The idea: the closure ends exactly if few keys are generated,
+-- the tests of its members and of their steps decide what holds of everything that is generated, and a test that fails of a list fails at a member.
+use mathlib.Core.Path.{_≡_, refl, sym, _∙_}
+use mathlib.Core.Logic.{_⊎_, inl, inr, _↔_}
+use mathlib.Core.Bool.{Bool, true, false, cond, _&&_, false≢true}
+use mathlib.Core.Option.{Option, some, none}
+use mathlib.Core.List.{List, [], _∷_, List·Memᴰ as Mem, List·Memᴰ·head as here, List·Memᴰ·tail as there}
+use Prim.Native.Nat.{ℕ, zero, suc, _<_}
+use native.Mathlib.Omega.{arith}
+use lib.Dec.{T}
+use lib.ListN.{length, getD}
+use Rattle.laws.specs.Distinct.{has-member, distinct-equal}
+use Rattle.laws.specs.Closure.{step, closure-lists, closure-ends, closure-fails, ListsReached, Congruence}
+use Rattle.laws.specs.Keyed.{Steady, key-congruence, steady-each-key, steady-unit-key}
+use Rattle.laws.specs.Lattice.{all, all-member, member-all}
+use Rattle.laws.specs.Growth.{place}
+use Rattle.laws.specs.GrowthClosure.{T-true, true-T, place-lt, place-same, agrees, steadyFrom}
+use Rattle.group_growth.specs.Verdicts.{Verdict, listed, overgrown, torn, onList, onListing}
+use Rattle.group_growth.specs.Growing.{Growing, OkGenerators, listing, stepsOf, verdict, Generated, Few, Many, AllFine, Unfit, OneToUnit, TwoToKey}
+
+-- ---- lists
+-- What stands at an index inside a list is a member of it.
+pub member-at : {A : Type 0} (l : List A) (i : ℕ) (d : A) → i < length l → Mem (getD l i d) l
+member-at [] i d h = absurd (omega arith)
+member-at (x ∷ l) zero d h = here refl
+member-at (x ∷ l) (suc i) d h = there (member-at l i d (omega arith))
+
+-- And every member stands at one.
+pub member-index : {A : Type 0} {l : List A} {x : A} (d : A) → Mem x l → (i : ℕ) × (i < length l) × (getD l i d ≡ x)
+member-index d (here p) = (0, omega arith, sym p)
+member-index d (there m) = let (i, h, p) = member-index d m in (suc i, omega arith, p)
+
+-- A test that fails of a list fails at a member.
+all-fails : {A : Type 0} (test : A → Bool) (l : List A) → all test l ≡ false → (x : A) × Mem x l × (test x ≡ false)
+unfolding all
+all-fails test [] e = absurd (false≢true (sym e))
+all-fails {A} test (x ∷ l) e = by-test (test x) refl e (all-fails test l)
+  where
+    by-test : (b : Bool) → test x ≡ b → (b && all test l) ≡ false → (all test l ≡ false → (y : A) × Mem y l × (test y ≡ false))
+        → (y : A) × Mem y (x ∷ l) × (test y ≡ false)
+    by-test true p q later = let (y, m, r) = later q in (y, there m, r)
+    by-test false p q later = (x, here refl, p)
+
+-- ---- the list and its tests
+module _ (S : Growing) (gens : List (S .Element)) where
+  -- Steps keep the key, of what is generated: so they do where the generators are Ok.
+  abbrev pub KeyKept : Type 0
+  KeyKept = Congruence (S .same) (S .product) (S .unit) gens
+
+  pub key-kept : OkGenerators S gens → KeyKept
+  key-kept ok = key-congruence (S .same) (S .Alike) (S .Ok) (S .product) (S .unit) (S .keyed) gens ok
+
+  module _ (kept : KeyKept) (limit : ℕ) where
+    -- The list ends within the limit exactly if the generated keys number at most as many.
+    pub ends-exactly : ((l : List (S .Element)) × (listing S limit gens ≡ some l)) ↔ Few S gens limit
+    ends-exactly = closure-ends (S .same) (S .product) (S .unit) gens (S .keyed .key-equivalence) kept limit
+
+    module _ (l : List (S .Element)) (e : listing S limit gens ≡ some l) where
+      -- What the list is.
+      pub lists : ListsReached (S .same) (S .product) (S .unit) gens l
+      lists = closure-lists (S .same) (S .product) (S .unit) gens (S .keyed .key-equivalence) kept limit l e
+
+      -- Its members pass the test exactly if all that is generated does.
+      pub listed-fine : T (all (S .fine) l) ↔ AllFine S gens
+      listed-fine = (
+        (λ t x r.
+            let (y, m, s) = has-member (S .same) x l (lists .complete x r) in
+            true-T (S .fine-key x y s (T-true (all-member (S .fine) t m)))),
+        λ fine. member-all (S .fine) l (λ x m. fine x (lists .sound x m)),
+      )
+
+      -- The listed element with the key of a generated one.
+      abbrev pub listedAt : S .Element → S .Element
+      listedAt x = getD l (place (S .same) x l) x
+
+      pub listed-at : (x : S .Element) → Generated S gens x → Mem (listedAt x) l × T (S .same x (listedAt x))
+      listed-at x r =
+          let h = lists .complete x r in
+          (member-at l (place (S .same) x l) x (place-lt (S .same) x l h), place-same (S .same) x l x h)
+
+      -- The step from a listed element by a generator is generated.
+      step-generated : (x g : S .Element) → Mem x l → Mem g gens → Generated S gens (S .product x g)
+      step-generated x g m k = step (lists .sound x m) k
+
+      -- The test of all steps.
+      abbrev pub steady : Bool
+      steady = steadyFrom (S .same) (S .alike) (S .fine) (S .product) gens l l
+
+      -- It passes exactly if every step from the list comes back to it.
+      steady-steps : T steady ↔ Steady (S .Alike) (S .product) gens l
+      unfolding steadyFrom agrees
+      steady-steps = (
+        (λ t x g m k.
+            let p = S .product x g in
+            let (member, near) = listed-at p (step-generated x g m k) in
+            let passes = all-member (λ h. S .alike (S .product x h) (listedAt (S .product x h))) (all-member (λ x. all (λ h. S .alike (S .product x h) (listedAt (S .product x h))) gens) t m) k in
+            (listedAt p, member, S .alike-decided p (listedAt p) near .0 passes)),
+        λ back. member-all _ l (λ x m. member-all _ gens (λ g k.
+            let p = S .product x g in
+            let (y, n, close) = back x g m k in
+            let (member, near) = listed-at p (step-generated x g m k) in
+            let E = S .keyed .key-equivalence in
+            let z : y ≡ listedAt p = distinct-equal (S .same) E (lists .distinct) n member (E .transitive y p (listedAt p) (E .symmetric p y (S .keyed .alike-key p y close)) near) in
+            S .alike-decided p (listedAt p) near .1 (rw z at close))),
+      )
+
+      -- A listed element fails the test.
+      fails-fine : all (S .fine) l ≡ false → Unfit S gens
+      fails-fine h = let (x, m, p) = all-fails (S .fine) l h in (x, lists .sound x m, λ t. false≢true (sym p ∙ T-true t))
+
+      -- A step from the list comes back to an element that is not alike.
+      fails-steady : steady ≡ false → TwoToKey S gens
+      unfolding steadyFrom agrees
+      fails-steady h =
+          let (x, m, p) = all-fails (λ x. all (λ g. S .alike (S .product x g) (listedAt (S .product x g))) gens) l h in
+          let (g, k, q) = all-fails (λ g. S .alike (S .product x g) (listedAt (S .product x g))) gens p in
+          let r = step-generated x g m k in
+          let y = listedAt (S .product x g) in
+          let (n, near) = listed-at (S .product x g) r in
+          (S .product x g, y, r, lists .sound y n, near, λ close. false≢true (sym q ∙ T-true (S .alike-decided (S .product x g) y near .1 close)))
+
+      -- ---- what the answers of the list show
+      on-list-unfit : onList (S .same) (S .alike) (S .fine) (S .product) gens l ≡ overgrown → Unfit S gens
+      on-list-unfit p = by-tests (all (S .fine) l) refl steady p
+        where
+          by-tests : (a : Bool) → all (S .fine) l ≡ a → (b : Bool) → cond a (cond b (listed l (stepsOf S gens l)) torn) overgrown ≡ overgrown → Unfit S gens
+          by-tests true q true r = let z : _≡_ {A = ℕ} 0 1 = cc in absurd (omega arith)
+          by-tests true q false r = let z : _≡_ {A = ℕ} 0 1 = cc in absurd (omega arith)
+          by-tests false q b r = fails-fine q
+
+      on-list-torn : onList (S .same) (S .alike) (S .fine) (S .product) gens l ≡ torn → TwoToKey S gens
+      on-list-torn p = by-tests (all (S .fine) l) steady refl p
+        where
+          by-tests : (a b : Bool) → steady ≡ b → cond a (cond b (listed l (stepsOf S gens l)) torn) overgrown ≡ torn → TwoToKey S gens
+          by-tests true true q r = let z : _≡_ {A = ℕ} 0 1 = cc in absurd (omega arith)
+          by-tests true false q r = fails-steady q
+          by-tests false b q r = let z : _≡_ {A = ℕ} 0 1 = cc in absurd (omega arith)
+
+    on-listing-unfit : (o : Option (List (S .Element))) → listing S limit gens ≡ o → onListing (S .same) (S .alike) (S .fine) (S .product) gens o ≡ overgrown
+        → Many S gens limit ⊎ Unfit S gens
+    on-listing-unfit none e p = inl (closure-fails (S .same) (S .product) (S .unit) gens (S .keyed .key-equivalence) kept limit .0 e)
+    on-listing-unfit (some l) e p = inr (on-list-unfit l e p)
+
+    on-listing-torn : (o : Option (List (S .Element))) → listing S limit gens ≡ o → onListing (S .same) (S .alike) (S .fine) (S .product) gens o ≡ torn
+        → TwoToKey S gens
+    on-listing-torn none e p = let z : _≡_ {A = ℕ} 0 1 = cc in absurd (omega arith)
+    on-listing-torn (some l) e p = on-list-torn l e p
+
+    -- The first refusal shows more keys than the limit, or an element that fails the test.
+    pub overgrown-shown : verdict S limit gens ≡ overgrown → Many S gens limit ⊎ Unfit S gens
+    overgrown-shown p = on-listing-unfit (listing S limit gens) refl p
+
+    -- The second shows two elements of one key that are not alike.
+    pub torn-shown : verdict S limit gens ≡ torn → TwoToKey S gens
+    torn-shown p = on-listing-torn (listing S limit gens) refl p
+
+-- What is known of a list that is answered.
+pub record Whole (S : Growing) (gens : List (S .Element)) (limit : ℕ) (l : List (S .Element)) (steps : List ℕ) : Type 0 where
+  pub is-listing : listing S limit gens ≡ some l
+  pub steps-are : steps ≡ stepsOf S gens l
+  pub few : Few S gens limit
+  pub all-fine : AllFine S gens
+  pub one : OneToUnit S gens
+
+-- The ways in which the answer comes about.
+data Course (S : Growing) (gens : List (S .Element)) (limit : ℕ) : Verdict (S .Element) → Type 0 where
+  growing : ¬ (Few S gens limit × AllFine S gens) → Course S gens limit overgrown
+  tearing : Few S gens limit → AllFine S gens → ¬ OneToUnit S gens → Course S gens limit torn
+  ending : {l : List (S .Element)} {steps : List ℕ} → Whole S gens limit l steps → Course S gens limit (listed l steps)
+
+module _ (S : Growing) (gens : List (S .Element)) (ok : OkGenerators S gens) (limit : ℕ) where
+  -- Two generated elements of one key are alike, where that holds at the key of the unit.
+  pub one-to-key : (l : List (S .Element)) → listing S limit gens ≡ some l → OneToUnit S gens
+      → (x y : S .Element) → Generated S gens x → Generated S gens y → T (S .same x y) → S .Alike x y
+  one-to-key l e one =
+      let L = lists S gens (key-kept S gens ok) limit l e in
+      let back = steady-unit-key (S .same) (S .Alike) (S .Ok) (S .product) (S .unit) (S .keyed) gens ok L .1 one in
+      steady-each-key (S .same) (S .Alike) (S .Ok) (S .product) (S .unit) (S .keyed) gens ok L .0 back
+
+  -- The test of all steps passes exactly if whatever is generated with the key of the unit is alike to it.
+  steady-exactly : (l : List (S .Element)) (e : listing S limit gens ≡ some l) → T (steady S gens (key-kept S gens ok) limit l e) ↔ OneToUnit S gens
+  steady-exactly l e =
+      let L = lists S gens (key-kept S gens ok) limit l e in
+      let back = steady-steps S gens (key-kept S gens ok) limit l e in
+      let one = steady-unit-key (S .same) (S .Alike) (S .Ok) (S .product) (S .unit) (S .keyed) gens ok L in
+      ((λ t. one .0 (back .0 t)), λ h. back .1 (one .1 h))
+
+  -- Of the list.
+  course-list : (l : List (S .Element)) → listing S limit gens ≡ some l → Course S gens limit (onList (S .same) (S .alike) (S .fine) (S .product) gens l)
+  course-list l e = by-tests (all (S .fine) l) refl (steady S gens kept limit l e) refl
+    where
+      kept : KeyKept S gens
+      kept = key-kept S gens ok
+
+      by-tests : (a : Bool) → all (S .fine) l ≡ a → (b : Bool) → steady S gens kept limit l e ≡ b
+          → Course S gens limit (cond a (cond b (listed l (stepsOf S gens l)) torn) overgrown)
+      by-tests false p b q = growing (λ (_, h). false≢true (sym p ∙ T-true (listed-fine S gens kept limit l e .1 h)))
+      by-tests true p false q =
+          tearing (ends-exactly S gens kept limit .0 (l, e)) (listed-fine S gens kept limit l e .0 (true-T p)) (λ h. false≢true (sym q ∙ T-true (steady-exactly l e .1 h)))
+      by-tests true p true q = ending (record {
+        is-listing = e;
+        steps-are = refl;
+        few = ends-exactly S gens kept limit .0 (l, e);
+        all-fine = listed-fine S gens kept limit l e .0 (true-T p);
+        one = steady-exactly l e .0 (true-T q);
+      })
+
+  course-listing : (o : Option (List (S .Element))) → listing S limit gens ≡ o → Course S gens limit (onListing (S .same) (S .alike) (S .fine) (S .product) gens o)
+  course-listing none e = growing (λ (few, _).
+      let (l, p) = ends-exactly S gens (key-kept S gens ok) limit .1 few in
+      let both = sym e ∙ p in
+      let z : _≡_ {A = ℕ} 0 1 = cc in omega arith)
+  course-listing (some l) e = course-list l e
+
+  -- Every answer comes about in one of them.
+  course : Course S gens limit (verdict S limit gens)
+  course = course-listing (listing S limit gens) refl
+
+module _ {S : Growing} {gens : List (S .Element)} {limit : ℕ} where
+  course-whole : {v : Verdict (S .Element)} → Course S gens limit v → (l : List (S .Element)) (steps : List ℕ) → v ≡ listed l steps → Whole S gens limit l steps
+  course-whole (growing n) l steps e = let z : _≡_ {A = ℕ} 0 1 = cc in absurd (omega arith)
+  course-whole (tearing few fine n) l steps e = let z : _≡_ {A = ℕ} 0 1 = cc in absurd (omega arith)
+  course-whole (ending {l = k} {steps = t} W) l steps e = let p : k ≡ l = cc in let q : t ≡ steps = cc in rw (← p, ← q) W
+
+  course-listed : {v : Verdict (S .Element)} → Course S gens limit v → Few S gens limit × AllFine S gens × OneToUnit S gens
+      → (l : List (S .Element)) × (steps : List ℕ) × (v ≡ listed l steps)
+  course-listed (growing n) (few, fine, one) = absurd (n (few, fine))
+  course-listed (tearing _ _ n) (few, fine, one) = absurd (n one)
+  course-listed (ending W) _ = (_, _, refl)
+
+  course-overgrown : {v : Verdict (S .Element)} → Course S gens limit v → (v ≡ overgrown) ↔ (¬ (Few S gens limit × AllFine S gens))
+  course-overgrown (growing n) = ((λ _. n), λ _. refl)
+  course-overgrown (tearing few fine n) = ((λ e. let z : _≡_ {A = ℕ} 0 1 = cc in absurd (omega arith)), λ h. absurd (h (few, fine)))
+  course-overgrown (ending W) = ((λ e. let z : _≡_ {A = ℕ} 0 1 = cc in absurd (omega arith)), λ h. absurd (h (W .few, W .all-fine)))
+
+  course-torn : {v : Verdict (S .Element)} → Course S gens limit v → (v ≡ torn) ↔ (Few S gens limit × AllFine S gens × (¬ OneToUnit S gens))
+  course-torn (growing n) = ((λ e. let z : _≡_ {A = ℕ} 0 1 = cc in absurd (omega arith)), λ (few, fine, _). absurd (n (few, fine)))
+  course-torn (tearing few fine n) = ((λ _. (few, fine, n)), λ _. refl)
+  course-torn (ending W) = ((λ e. let z : _≡_ {A = ℕ} 0 1 = cc in absurd (omega arith)), λ (_, _, n). absurd (n (W .one)))
+
+-- ---- each answer, exactly
+module _ (S : Growing) (gens : List (S .Element)) (ok : OkGenerators S gens) (limit : ℕ) where
+  -- A list is answered exactly if the generated keys number at most as many as the limit, all that is generated passes the test, and what has the key of
+  -- the unit is alike to it.
+  pub listed-exactly : ((l : List (S .Element)) × (steps : List ℕ) × (verdict S limit gens ≡ listed l steps)) ↔ (Few S gens limit × AllFine S gens × OneToUnit S gens)
+  listed-exactly = (
+    (λ (l, steps, e). let W = course-whole (course S gens ok limit) l steps e in (W .few, W .all-fine, W .one)),
+    course-listed (course S gens ok limit),
+  )
+
+  -- What is answered then.
+  pub listed-whole : (l : List (S .Element)) (steps : List ℕ) → verdict S limit gens ≡ listed l steps → Whole S gens limit l steps
+  listed-whole l steps e = course-whole (course S gens ok limit) l steps e
+
+  -- The first refusal: exactly if not both hold, the limit of keys and the test.
+  pub overgrown-exactly : (verdict S limit gens ≡ overgrown) ↔ (¬ (Few S gens limit × AllFine S gens))
+  overgrown-exactly = course-overgrown (course S gens ok limit)
+
+  -- Or: exactly if more keys are generated, or something that fails the test.
+  pub overgrown-refused : (verdict S limit gens ≡ overgrown) ↔ (Many S gens limit ⊎ Unfit S gens)
+  overgrown-refused = (
+    overgrown-shown S gens (key-kept S gens ok) limit,
+    λ shown. overgrown-exactly .1 (λ (few, fine). elim shown [
+      | inl (l, distinct, each, more) ↦ omega (arith, few l distinct each)
+      | inr (x, r, n) ↦ n (fine x r)
+    ]),
+  )
+
+  -- The second: exactly if both hold, and not everything with the key of the unit is alike to it.
+  pub torn-exactly : (verdict S limit gens ≡ torn) ↔ (Few S gens limit × AllFine S gens × (¬ OneToUnit S gens))
+  torn-exactly = course-torn (course S gens ok limit)
+
+  -- Or: exactly if both hold, and two generated elements of one key are not alike.
+  pub torn-refused : (verdict S limit gens ≡ torn) ↔ (Few S gens limit × AllFine S gens × TwoToKey S gens)
+  torn-refused = (
+    (λ e. let (few, fine, _) = torn-exactly .0 e in (few, fine, torn-shown S gens (key-kept S gens ok) limit e)),
+    λ (few, fine, (x, y, r, t, near, apart)). torn-exactly .1 (
+      few,
+      fine,
+      λ one.
+          let (l, e) = ends-exactly S gens (key-kept S gens ok) limit .1 few in
+          apart (one-to-key S gens ok limit l e one x y r t near),
+    ),
+  )
