@@ -25,6 +25,7 @@ pub record Growing : Type 1 where
   pub Alike : Element → Element → Type 0
   pub Ok : Element → Type 0
   pub keyed : KeyedMonoid same Alike Ok product unit
+  pub ok-alike : (x y : Element) → Alike x y → Ok x → Ok y
   pub alike-decided : (x y : Element) → T (same x y) → T (alike x y) ↔ Alike x y
   pub fine-key : (x y : Element) → T (same x y) → fine y ≡ true → fine x ≡ true
   pub fine-unit : fine unit ≡ true

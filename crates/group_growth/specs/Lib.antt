@@ -4,3 +4,10 @@ pub mod Verdicts
 pub mod Growing
 -- When:
 pub mod Acceptance
+-- As a program holds and grows them:
+pub mod Forms
+-- What the list is: its members, its order, the set that it stands for:
+pub mod Members
+pub mod WordOrder
+pub mod WholeSet
+pub mod Flagged
