@@ -1,16 +1,16 @@
 -- When generators are answered a list, and when each refusal; and what the refusals show. The idea: the closure ends exactly if few keys are generated,
 -- the tests of its members and of their steps decide what holds of everything that is generated, and a test that fails of a list fails at a member.
-use mathlib.Core.Path.{_≡_, refl, sym, _∙_}
+use mathlib.Core.Path.{_≡_, refl, sym, _∙_, ap}
 use mathlib.Core.Logic.{_⊎_, inl, inr, _↔_}
 use mathlib.Core.Bool.{Bool, true, false, cond, _&&_, false≢true}
 use mathlib.Core.Option.{Option, some, none}
 use mathlib.Core.List.{List, [], _∷_, List·Memᴰ as Mem, List·Memᴰ·head as here, List·Memᴰ·tail as there}
-use Prim.Native.Nat.{ℕ, zero, suc, _<_}
+use Prim.Native.Nat.{ℕ, zero, suc, _≤_, _<_}
 use native.Mathlib.Omega.{arith}
 use lib.Dec.{T}
 use lib.ListN.{length, getD}
 use Rattle.laws.specs.Distinct.{has-member, distinct-equal}
-use Rattle.laws.specs.Closure.{step, closure-lists, closure-ends, closure-fails, ListsReached, Congruence}
+use Rattle.laws.specs.Closure.{step, closure-length, closure-lists, closure-ends, closure-fails, ListsReached, Congruence}
 use Rattle.laws.specs.Keyed.{Steady, key-congruence, steady-each-key, steady-unit-key}
 use Rattle.laws.specs.Lattice.{all, all-member, member-all}
 use Rattle.laws.specs.Growth.{place}
@@ -153,6 +153,33 @@ module _ (S : Growing) (gens : List (S .Element)) where
     -- The second shows two elements of one key that are not alike.
     pub torn-shown : verdict S limit gens ≡ torn → TwoToKey S gens
     torn-shown p = on-listing-torn (listing S limit gens) refl p
+
+-- ---- what is answered of a list
+module _ (S : Growing) (gens : List (S .Element)) (limit : ℕ) where
+  on-list-listed : (k : List (S .Element)) (l : List (S .Element)) (steps : List ℕ) → onList (S .same) (S .alike) (S .fine) (S .product) gens k ≡ listed l steps
+      → (k ≡ l) × (steps ≡ stepsOf S gens l)
+  on-list-listed k l steps p = by-tests (all (S .fine) k) (steadyFrom (S .same) (S .alike) (S .fine) (S .product) gens k k) p
+    where
+      by-tests : (a b : Bool) → cond a (cond b (listed k (stepsOf S gens k)) torn) overgrown ≡ listed l steps → (k ≡ l) × (steps ≡ stepsOf S gens l)
+      by-tests true true q =
+          let e : k ≡ l = cc in
+          let f : stepsOf S gens k ≡ steps = cc in
+          (e, sym f ∙ ap (stepsOf S gens) e)
+      by-tests true false q = let z : _≡_ {A = ℕ} 0 1 = cc in absurd (omega arith)
+      by-tests false b q = let z : _≡_ {A = ℕ} 0 1 = cc in absurd (omega arith)
+
+  on-listing-listed : (o : Option (List (S .Element))) (l : List (S .Element)) (steps : List ℕ) → onListing (S .same) (S .alike) (S .fine) (S .product) gens o ≡ listed l steps
+      → (o ≡ some l) × (steps ≡ stepsOf S gens l)
+  on-listing-listed none l steps p = let z : _≡_ {A = ℕ} 0 1 = cc in absurd (omega arith)
+  on-listing-listed (some k) l steps p = let (e, f) = on-list-listed k l steps p in (ap some e, f)
+
+  -- A list that is answered is the listing, with its steps,
+  pub listed-listing : (l : List (S .Element)) (steps : List ℕ) → verdict S limit gens ≡ listed l steps → (listing S limit gens ≡ some l) × (steps ≡ stepsOf S gens l)
+  listed-listing l steps p = on-listing-listed (listing S limit gens) l steps p
+
+  -- and no longer than the limit.
+  pub listed-length : (l : List (S .Element)) (steps : List ℕ) → verdict S limit gens ≡ listed l steps → length l ≤ limit
+  listed-length l steps p = closure-length (S .same) (S .product) (S .unit) gens limit l (listed-listing l steps p .0)
 
 -- What is known of a list that is answered.
 pub record Whole (S : Growing) (gens : List (S .Element)) (limit : ℕ) (l : List (S .Element)) (steps : List ℕ) : Type 0 where

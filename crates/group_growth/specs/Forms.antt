@@ -11,7 +11,7 @@ use Rattle.laws.specs.Distinct.{has, Distinct, nil, cons}
 use Rattle.laws.specs.Lattice.{all}
 use Rattle.laws.specs.Growth.{Growth, grown, imageGrowth, Image, grown-image}
 use Rattle.laws.specs.GrowthClosure.{T-true, true-T, allowed, described, stepsFrom, steadyFrom, grown-closure}
-use Rattle.group_growth.specs.Verdicts.{Verdict, listed, overgrown, torn, imageVerdict, onListing, onGrowth}
+use Rattle.group_growth.specs.Verdicts.{listed, overgrown, torn, imageVerdict, onListing, onGrowth}
 use Rattle.group_growth.specs.Growing.{Growing, listing, verdict}
 use Rattle.group_growth.specs.Acceptance.{KeyKept}
 

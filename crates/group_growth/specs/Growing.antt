@@ -2,7 +2,7 @@
 use mathlib.Core.Path.{_≡_}
 use mathlib.Core.Logic.{_↔_}
 use mathlib.Core.Bool.{Bool, true}
-use mathlib.Core.Option.{Option, some}
+use mathlib.Core.Option.{Option}
 use mathlib.Core.List.{List, List·Memᴰ as Mem}
 use Prim.Native.Nat.{ℕ, _≤_, _<_}
 use lib.Dec.{T}

@@ -6,6 +6,7 @@ pub mod Growing
 pub mod Acceptance
 -- As a program holds and grows them:
 pub mod Forms
+pub mod Resuming
 -- What the list is: its members, its order, the set that it stands for:
 pub mod Members
 pub mod WordOrder

@@ -1,7 +1,7 @@
 -- The list that is answered, member by member: the unit first, each generated key once and nothing else; by their forms, any product and an inverse of
 -- each member are listed, up to what is alike. The idea of the inverse: a multiplication of the finitely many keys that cancels is onto.
-use mathlib.Core.Path.{_≡_, refl, sym, _∙_, ap, subst}
-use mathlib.Core.List.{List, [], _∷_, map, List·Memᴰ as Mem, Memᴰ·map as mem-map, Memᴰ·of-map as mem-of-map}
+use mathlib.Core.Path.{subst}
+use mathlib.Core.List.{List, map, List·Memᴰ as Mem, Memᴰ·map as mem-map, Memᴰ·of-map as mem-of-map}
 use Prim.Native.Nat.{ℕ, _≤_}
 use lib.Dec.{T}
 use lib.ListN.{length}

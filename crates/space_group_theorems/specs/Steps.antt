@@ -19,8 +19,9 @@ use Rattle.centering.specs.Letters.{pointsOf}
 use Rattle.centering.specs.Lattices.{points}
 use Rattle.centering.specs.declared.Centering.{Centering}
 use Rattle.space_group.specs.Generated.{motions, Generated, isSmall, sameVectorClass}
+use Rattle.space_group.specs.OperationGrowth.{operation-alike}
 use Rattle.space_group_theorems.specs.Acceptance.{Accepted, lists, member-at, motions-keep}
-use Rattle.space_group_theorems.specs.Members.{one-class, member-small, operation-alike, generated-keeps, alike-keeps}
+use Rattle.space_group_theorems.specs.Members.{one-class, member-small, generated-keeps, alike-keeps}
 
 -- What stands in the image of a list.
 image-at : {A B : Type 0} (f : A → B) (l : List A) (i : ℕ) (d : A) (e : B) → i < length l → getD (map f l) i e ≡ f (getD l i d)
@@ -126,7 +127,7 @@ module _ (c : Centering) (gens operations : List Operation) (steps : List ℕ) (
         let M = motions-keyed (pointsOf c) (points c) in
         let near = member-alike i (omega (arith, same-length)) in
         let keep = generated-keeps c gens operations steps A left left-generated in
-        let keep-right = motions-keep c gens (A .list) (A .listed) (A .keep) right right-member in
+        let keep-right = motions-keep c gens (A .keep) right right-member in
         M .alike-right left (motionOf (getD operations i identityOperation)) right keep (alike-keeps c gens operations steps A left (motionOf (getD operations i identityOperation)) near keep) keep-right near
 
     -- Member i times generator j is, modulo L, the member whose index is noted.
