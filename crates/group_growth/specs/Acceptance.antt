@@ -2,146 +2,128 @@
 -- the tests of its members and of their steps decide what holds of everything that is generated, and a test that fails of a list fails at a member.
 use mathlib.Core.Path.{_≡_, refl, sym, _∙_, ap}
 use mathlib.Core.Logic.{_⊎_, inl, inr, _↔_}
-use mathlib.Core.Bool.{Bool, true, false, cond, _&&_, false≢true}
+use mathlib.Core.Bool.{Bool, true, false, cond, false≢true}
 use mathlib.Core.Option.{Option, some, none}
-use mathlib.Core.List.{List, [], _∷_, List·Memᴰ as Mem, List·Memᴰ·head as here, List·Memᴰ·tail as there}
-use Prim.Native.Nat.{ℕ, zero, suc, _≤_, _<_}
+use mathlib.Core.List.{List, List·Memᴰ as Mem}
+use Prim.Native.Nat.{ℕ, _≤_}
 use native.Mathlib.Omega.{arith}
 use lib.Dec.{T}
 use lib.ListN.{length, getD}
 use Rattle.laws.specs.Distinct.{has-member, distinct-equal}
-use Rattle.laws.specs.Closure.{step, closure-length, closure-lists, closure-ends, closure-fails, ListsReached, Congruence}
+use Rattle.laws.specs.Closure.{step, closure-length, closure-limit, closure-unique, closure-bounded, closure-lists, closure-ends, closure-fails, ListsReached, Congruence}
 use Rattle.laws.specs.Keyed.{Steady, key-congruence, steady-each-key, steady-unit-key}
 use Rattle.laws.specs.Lattice.{all, all-member, member-all}
 use Rattle.laws.specs.Growth.{place}
 use Rattle.laws.specs.GrowthClosure.{T-true, true-T, place-lt, place-same, agrees, steadyFrom}
+use Rattle.group_growth.specs.Lists.{member-at, all-fails}
 use Rattle.group_growth.specs.Verdicts.{Verdict, listed, overgrown, torn, onList, onListing}
 use Rattle.group_growth.specs.Growing.{Growing, OkGenerators, listing, stepsOf, verdict, Generated, Few, Many, AllFine, Unfit, OneToUnit, TwoToKey}
 
--- ---- lists
--- What stands at an index inside a list is a member of it.
-pub member-at : {A : Type 0} (l : List A) (i : ℕ) (d : A) → i < length l → Mem (getD l i d) l
-member-at [] i d h = absurd (omega arith)
-member-at (x ∷ l) zero d h = here refl
-member-at (x ∷ l) (suc i) d h = there (member-at l i d (omega arith))
-
--- And every member stands at one.
-pub member-index : {A : Type 0} {l : List A} {x : A} (d : A) → Mem x l → (i : ℕ) × (i < length l) × (getD l i d ≡ x)
-member-index d (here p) = (0, omega arith, sym p)
-member-index d (there m) = let (i, h, p) = member-index d m in (suc i, omega arith, p)
-
--- A test that fails of a list fails at a member.
-all-fails : {A : Type 0} (test : A → Bool) (l : List A) → all test l ≡ false → (x : A) × Mem x l × (test x ≡ false)
-unfolding all
-all-fails test [] e = absurd (false≢true (sym e))
-all-fails {A} test (x ∷ l) e = by-test (test x) refl e (all-fails test l)
-  where
-    by-test : (b : Bool) → test x ≡ b → (b && all test l) ≡ false → (all test l ≡ false → (y : A) × Mem y l × (test y ≡ false))
-        → (y : A) × Mem y (x ∷ l) × (test y ≡ false)
-    by-test true p q later = let (y, m, r) = later q in (y, there m, r)
-    by-test false p q later = (x, here refl, p)
-
 -- ---- the list and its tests
 module _ (S : Growing) (gens : List (S .Element)) where
+  open Growing S using (Element, same, alike, fine, product, unit, Alike, Ok, keyed, alike-decided, fine-key)
+
   -- Steps keep the key, of what is generated: so they do where the generators are Ok.
   abbrev pub KeyKept : Type 0
-  KeyKept = Congruence (S .same) (S .product) (S .unit) gens
+  KeyKept = Congruence same product unit gens
 
   pub key-kept : OkGenerators S gens → KeyKept
-  key-kept ok = key-congruence (S .same) (S .Alike) (S .Ok) (S .product) (S .unit) (S .keyed) gens ok
+  key-kept ok = key-congruence same Alike Ok product unit keyed gens ok
 
   module _ (kept : KeyKept) (limit : ℕ) where
     -- The list ends within the limit exactly if the generated keys number at most as many.
-    pub ends-exactly : ((l : List (S .Element)) × (listing S limit gens ≡ some l)) ↔ Few S gens limit
-    ends-exactly = closure-ends (S .same) (S .product) (S .unit) gens (S .keyed .key-equivalence) kept limit
+    pub ends-exactly : ((l : List Element) × (listing S limit gens ≡ some l)) ↔ Few S gens limit
+    ends-exactly = closure-ends same product unit gens (keyed .key-equivalence) kept limit
 
-    module _ (l : List (S .Element)) (e : listing S limit gens ≡ some l) where
+    module _ (l : List Element) (e : listing S limit gens ≡ some l) where
       -- What the list is.
-      pub lists : ListsReached (S .same) (S .product) (S .unit) gens l
-      lists = closure-lists (S .same) (S .product) (S .unit) gens (S .keyed .key-equivalence) kept limit l e
+      pub lists : ListsReached same product unit gens l
+      lists = closure-lists same product unit gens (keyed .key-equivalence) kept limit l e
 
       -- Its members pass the test exactly if all that is generated does.
-      pub listed-fine : T (all (S .fine) l) ↔ AllFine S gens
+      pub listed-fine : T (all fine l) ↔ AllFine S gens
       listed-fine = (
         (λ t x r.
-            let (y, m, s) = has-member (S .same) x l (lists .complete x r) in
-            true-T (S .fine-key x y s (T-true (all-member (S .fine) t m)))),
-        λ fine. member-all (S .fine) l (λ x m. fine x (lists .sound x m)),
+            let (y, m, s) = has-member same x l (lists .complete x r) in
+            true-T (fine-key x y s (T-true (all-member fine t m)))),
+        λ each. member-all fine l (λ x m. each x (lists .sound x m)),
       )
 
       -- The listed element with the key of a generated one.
-      abbrev pub listedAt : S .Element → S .Element
-      listedAt x = getD l (place (S .same) x l) x
+      abbrev pub listedAt : Element → Element
+      listedAt x = getD l (place same x l) x
 
-      pub listed-at : (x : S .Element) → Generated S gens x → Mem (listedAt x) l × T (S .same x (listedAt x))
+      pub listed-at : (x : Element) → Generated S gens x → Mem (listedAt x) l × T (same x (listedAt x))
       listed-at x r =
           let h = lists .complete x r in
-          (member-at l (place (S .same) x l) x (place-lt (S .same) x l h), place-same (S .same) x l x h)
+          (member-at l (place same x l) x (place-lt same x l h), place-same same x l x h)
 
       -- The step from a listed element by a generator is generated.
-      step-generated : (x g : S .Element) → Mem x l → Mem g gens → Generated S gens (S .product x g)
+      step-generated : (x g : Element) → Mem x l → Mem g gens → Generated S gens (product x g)
       step-generated x g m k = step (lists .sound x m) k
 
       -- The test of all steps.
       abbrev pub steady : Bool
-      steady = steadyFrom (S .same) (S .alike) (S .fine) (S .product) gens l l
+      steady = steadyFrom same alike fine product gens l l
 
       -- It passes exactly if every step from the list comes back to it.
-      steady-steps : T steady ↔ Steady (S .Alike) (S .product) gens l
+      steady-steps : T steady ↔ Steady Alike product gens l
       unfolding steadyFrom agrees
       steady-steps = (
         (λ t x g m k.
-            let p = S .product x g in
+            let p = product x g in
             let (member, near) = listed-at p (step-generated x g m k) in
-            let passes = all-member (λ h. S .alike (S .product x h) (listedAt (S .product x h))) (all-member (λ x. all (λ h. S .alike (S .product x h) (listedAt (S .product x h))) gens) t m) k in
-            (listedAt p, member, S .alike-decided p (listedAt p) near .0 passes)),
+            let row = all-member (λ x. all (λ h. alike (product x h) (listedAt (product x h))) gens) t m in
+            let passes = all-member (λ h. alike (product x h) (listedAt (product x h))) row k in
+            (listedAt p, member, alike-decided p (listedAt p) near .0 passes)),
         λ back. member-all _ l (λ x m. member-all _ gens (λ g k.
-            let p = S .product x g in
+            let p = product x g in
             let (y, n, close) = back x g m k in
             let (member, near) = listed-at p (step-generated x g m k) in
-            let E = S .keyed .key-equivalence in
-            let z : y ≡ listedAt p = distinct-equal (S .same) E (lists .distinct) n member (E .transitive y p (listedAt p) (E .symmetric p y (S .keyed .alike-key p y close)) near) in
-            S .alike-decided p (listedAt p) near .1 (rw z at close))),
+            let E = keyed .key-equivalence in
+            let one-key = E .transitive y p (listedAt p) (E .symmetric p y (keyed .alike-key p y close)) near in
+            let z : y ≡ listedAt p = distinct-equal same E (lists .distinct) n member one-key in
+            alike-decided p (listedAt p) near .1 (rw z at close))),
       )
 
       -- A listed element fails the test.
-      fails-fine : all (S .fine) l ≡ false → Unfit S gens
-      fails-fine h = let (x, m, p) = all-fails (S .fine) l h in (x, lists .sound x m, λ t. false≢true (sym p ∙ T-true t))
+      fails-fine : all fine l ≡ false → Unfit S gens
+      fails-fine h = let (x, m, p) = all-fails fine l h in (x, lists .sound x m, λ t. false≢true (sym p ∙ T-true t))
 
       -- A step from the list comes back to an element that is not alike.
       fails-steady : steady ≡ false → TwoToKey S gens
       unfolding steadyFrom agrees
       fails-steady h =
-          let (x, m, p) = all-fails (λ x. all (λ g. S .alike (S .product x g) (listedAt (S .product x g))) gens) l h in
-          let (g, k, q) = all-fails (λ g. S .alike (S .product x g) (listedAt (S .product x g))) gens p in
+          let (x, m, p) = all-fails (λ x. all (λ g. alike (product x g) (listedAt (product x g))) gens) l h in
+          let (g, k, q) = all-fails (λ g. alike (product x g) (listedAt (product x g))) gens p in
           let r = step-generated x g m k in
-          let y = listedAt (S .product x g) in
-          let (n, near) = listed-at (S .product x g) r in
-          (S .product x g, y, r, lists .sound y n, near, λ close. false≢true (sym q ∙ T-true (S .alike-decided (S .product x g) y near .1 close)))
+          let y = listedAt (product x g) in
+          let (n, near) = listed-at (product x g) r in
+          (product x g, y, r, lists .sound y n, near, λ close. false≢true (sym q ∙ T-true (alike-decided (product x g) y near .1 close)))
 
       -- ---- what the answers of the list show
-      on-list-unfit : onList (S .same) (S .alike) (S .fine) (S .product) gens l ≡ overgrown → Unfit S gens
-      on-list-unfit p = by-tests (all (S .fine) l) refl steady p
+      on-list-unfit : onList same alike fine product gens l ≡ overgrown → Unfit S gens
+      on-list-unfit p = by-tests (all fine l) refl steady p
         where
-          by-tests : (a : Bool) → all (S .fine) l ≡ a → (b : Bool) → cond a (cond b (listed l (stepsOf S gens l)) torn) overgrown ≡ overgrown → Unfit S gens
+          by-tests : (a : Bool) → all fine l ≡ a → (b : Bool) → cond a (cond b (listed l (stepsOf S gens l)) torn) overgrown ≡ overgrown → Unfit S gens
           by-tests true q true r = let z : _≡_ {A = ℕ} 0 1 = cc in absurd (omega arith)
           by-tests true q false r = let z : _≡_ {A = ℕ} 0 1 = cc in absurd (omega arith)
           by-tests false q b r = fails-fine q
 
-      on-list-torn : onList (S .same) (S .alike) (S .fine) (S .product) gens l ≡ torn → TwoToKey S gens
-      on-list-torn p = by-tests (all (S .fine) l) steady refl p
+      on-list-torn : onList same alike fine product gens l ≡ torn → TwoToKey S gens
+      on-list-torn p = by-tests (all fine l) steady refl p
         where
           by-tests : (a b : Bool) → steady ≡ b → cond a (cond b (listed l (stepsOf S gens l)) torn) overgrown ≡ torn → TwoToKey S gens
           by-tests true true q r = let z : _≡_ {A = ℕ} 0 1 = cc in absurd (omega arith)
           by-tests true false q r = fails-steady q
           by-tests false b q r = let z : _≡_ {A = ℕ} 0 1 = cc in absurd (omega arith)
 
-    on-listing-unfit : (o : Option (List (S .Element))) → listing S limit gens ≡ o → onListing (S .same) (S .alike) (S .fine) (S .product) gens o ≡ overgrown
+    on-listing-unfit : (o : Option (List Element)) → listing S limit gens ≡ o → onListing same alike fine product gens o ≡ overgrown
         → Many S gens limit ⊎ Unfit S gens
-    on-listing-unfit none e p = inl (closure-fails (S .same) (S .product) (S .unit) gens (S .keyed .key-equivalence) kept limit .0 e)
+    on-listing-unfit none e p = inl (closure-fails same product unit gens (keyed .key-equivalence) kept limit .0 e)
     on-listing-unfit (some l) e p = inr (on-list-unfit l e p)
 
-    on-listing-torn : (o : Option (List (S .Element))) → listing S limit gens ≡ o → onListing (S .same) (S .alike) (S .fine) (S .product) gens o ≡ torn
+    on-listing-torn : (o : Option (List Element)) → listing S limit gens ≡ o → onListing same alike fine product gens o ≡ torn
         → TwoToKey S gens
     on-listing-torn none e p = let z : _≡_ {A = ℕ} 0 1 = cc in absurd (omega arith)
     on-listing-torn (some l) e p = on-list-torn l e p
@@ -156,9 +138,11 @@ module _ (S : Growing) (gens : List (S .Element)) where
 
 -- ---- what is answered of a list
 module _ (S : Growing) (gens : List (S .Element)) (limit : ℕ) where
-  on-list-listed : (k : List (S .Element)) (l : List (S .Element)) (steps : List ℕ) → onList (S .same) (S .alike) (S .fine) (S .product) gens k ≡ listed l steps
+  open Growing S using (Element, same, alike, fine, product, unit, keyed)
+
+  on-list-listed : (k : List Element) (l : List Element) (steps : List ℕ) → onList same alike fine product gens k ≡ listed l steps
       → (k ≡ l) × (steps ≡ stepsOf S gens l)
-  on-list-listed k l steps p = by-tests (all (S .fine) k) (steadyFrom (S .same) (S .alike) (S .fine) (S .product) gens k k) p
+  on-list-listed k l steps p = by-tests (all fine k) (steadyFrom same alike fine product gens k k) p
     where
       by-tests : (a b : Bool) → cond a (cond b (listed k (stepsOf S gens k)) torn) overgrown ≡ listed l steps → (k ≡ l) × (steps ≡ stepsOf S gens l)
       by-tests true true q =
@@ -168,18 +152,37 @@ module _ (S : Growing) (gens : List (S .Element)) (limit : ℕ) where
       by-tests true false q = let z : _≡_ {A = ℕ} 0 1 = cc in absurd (omega arith)
       by-tests false b q = let z : _≡_ {A = ℕ} 0 1 = cc in absurd (omega arith)
 
-  on-listing-listed : (o : Option (List (S .Element))) (l : List (S .Element)) (steps : List ℕ) → onListing (S .same) (S .alike) (S .fine) (S .product) gens o ≡ listed l steps
+  on-listing-listed : (o : Option (List Element)) (l : List Element) (steps : List ℕ) → onListing same alike fine product gens o ≡ listed l steps
       → (o ≡ some l) × (steps ≡ stepsOf S gens l)
   on-listing-listed none l steps p = let z : _≡_ {A = ℕ} 0 1 = cc in absurd (omega arith)
   on-listing-listed (some k) l steps p = let (e, f) = on-list-listed k l steps p in (ap some e, f)
 
   -- A list that is answered is the listing, with its steps,
-  pub listed-listing : (l : List (S .Element)) (steps : List ℕ) → verdict S limit gens ≡ listed l steps → (listing S limit gens ≡ some l) × (steps ≡ stepsOf S gens l)
+  pub listed-listing : (l : List Element) (steps : List ℕ) → verdict S limit gens ≡ listed l steps
+      → (listing S limit gens ≡ some l) × (steps ≡ stepsOf S gens l)
   listed-listing l steps p = on-listing-listed (listing S limit gens) l steps p
 
   -- and no longer than the limit.
-  pub listed-length : (l : List (S .Element)) (steps : List ℕ) → verdict S limit gens ≡ listed l steps → length l ≤ limit
-  listed-length l steps p = closure-length (S .same) (S .product) (S .unit) gens limit l (listed-listing l steps p .0)
+  pub listed-length : (l : List Element) (steps : List ℕ) → verdict S limit gens ≡ listed l steps → length l ≤ limit
+  listed-length l steps p = closure-length same product unit gens limit l (listed-listing l steps p .0)
+
+  -- ---- other limits
+  -- Under a higher limit the same list is answered,
+  pub limit-raised : (l : List Element) (steps : List ℕ) (higher : ℕ) → limit ≤ higher → verdict S limit gens ≡ listed l steps
+      → verdict S higher gens ≡ listed l steps
+  limit-raised l steps higher h p =
+      let e = listed-listing l steps p .0 in
+      let f = closure-limit same product unit gens limit higher l h e in
+      ap (onListing same alike fine product gens) (f ∙ sym e) ∙ p
+
+  -- and under a lower one, where it is no longer than that.
+  pub limit-lowered : KeyKept S gens → (l : List Element) (steps : List ℕ) (lower : ℕ) → length l ≤ lower → verdict S limit gens ≡ listed l steps
+      → verdict S lower gens ≡ listed l steps
+  limit-lowered kept l steps lower h p =
+      let e = listed-listing l steps p .0 in
+      let (k, f) = closure-bounded same product unit gens (keyed .key-equivalence) kept lower l (lists S gens kept limit l e .complete) h in
+      let z = closure-unique same product unit gens lower limit k l f e in
+      ap (onListing same alike fine product gens) (f ∙ ap some z ∙ sym e) ∙ p
 
 -- What is known of a list that is answered.
 pub record Whole (S : Growing) (gens : List (S .Element)) (limit : ℕ) (l : List (S .Element)) (steps : List ℕ) : Type 0 where
@@ -196,34 +199,37 @@ data Course (S : Growing) (gens : List (S .Element)) (limit : ℕ) : Verdict (S 
   ending : {l : List (S .Element)} {steps : List ℕ} → Whole S gens limit l steps → Course S gens limit (listed l steps)
 
 module _ (S : Growing) (gens : List (S .Element)) (ok : OkGenerators S gens) (limit : ℕ) where
+  open Growing S using (Element, same, alike, fine, product, unit, Alike, Ok, keyed)
+
   -- Two generated elements of one key are alike, where that holds at the key of the unit.
-  pub one-to-key : (l : List (S .Element)) → listing S limit gens ≡ some l → OneToUnit S gens
-      → (x y : S .Element) → Generated S gens x → Generated S gens y → T (S .same x y) → S .Alike x y
+  pub one-to-key : (l : List Element) → listing S limit gens ≡ some l → OneToUnit S gens
+      → (x y : Element) → Generated S gens x → Generated S gens y → T (same x y) → Alike x y
   one-to-key l e one =
       let L = lists S gens (key-kept S gens ok) limit l e in
-      let back = steady-unit-key (S .same) (S .Alike) (S .Ok) (S .product) (S .unit) (S .keyed) gens ok L .1 one in
-      steady-each-key (S .same) (S .Alike) (S .Ok) (S .product) (S .unit) (S .keyed) gens ok L .0 back
+      let back = steady-unit-key same Alike Ok product unit keyed gens ok L .1 one in
+      steady-each-key same Alike Ok product unit keyed gens ok L .0 back
 
   -- The test of all steps passes exactly if whatever is generated with the key of the unit is alike to it.
-  steady-exactly : (l : List (S .Element)) (e : listing S limit gens ≡ some l) → T (steady S gens (key-kept S gens ok) limit l e) ↔ OneToUnit S gens
+  steady-exactly : (l : List Element) (e : listing S limit gens ≡ some l) → T (steady S gens (key-kept S gens ok) limit l e) ↔ OneToUnit S gens
   steady-exactly l e =
       let L = lists S gens (key-kept S gens ok) limit l e in
       let back = steady-steps S gens (key-kept S gens ok) limit l e in
-      let one = steady-unit-key (S .same) (S .Alike) (S .Ok) (S .product) (S .unit) (S .keyed) gens ok L in
+      let one = steady-unit-key same Alike Ok product unit keyed gens ok L in
       ((λ t. one .0 (back .0 t)), λ h. back .1 (one .1 h))
 
   -- Of the list.
-  course-list : (l : List (S .Element)) → listing S limit gens ≡ some l → Course S gens limit (onList (S .same) (S .alike) (S .fine) (S .product) gens l)
-  course-list l e = by-tests (all (S .fine) l) refl (steady S gens kept limit l e) refl
+  course-list : (l : List Element) → listing S limit gens ≡ some l → Course S gens limit (onList same alike fine product gens l)
+  course-list l e = by-tests (all fine l) refl (steady S gens kept limit l e) refl
     where
       kept : KeyKept S gens
       kept = key-kept S gens ok
 
-      by-tests : (a : Bool) → all (S .fine) l ≡ a → (b : Bool) → steady S gens kept limit l e ≡ b
+      by-tests : (a : Bool) → all fine l ≡ a → (b : Bool) → steady S gens kept limit l e ≡ b
           → Course S gens limit (cond a (cond b (listed l (stepsOf S gens l)) torn) overgrown)
       by-tests false p b q = growing (λ (_, h). false≢true (sym p ∙ T-true (listed-fine S gens kept limit l e .1 h)))
       by-tests true p false q =
-          tearing (ends-exactly S gens kept limit .0 (l, e)) (listed-fine S gens kept limit l e .0 (true-T p)) (λ h. false≢true (sym q ∙ T-true (steady-exactly l e .1 h)))
+          tearing (ends-exactly S gens kept limit .0 (l, e)) (listed-fine S gens kept limit l e .0 (true-T p))
+          (λ h. false≢true (sym q ∙ T-true (steady-exactly l e .1 h)))
       by-tests true p true q = ending (record {
         is-listing = e;
         steps-are = refl;
@@ -232,7 +238,7 @@ module _ (S : Growing) (gens : List (S .Element)) (ok : OkGenerators S gens) (li
         one = steady-exactly l e .0 (true-T q);
       })
 
-  course-listing : (o : Option (List (S .Element))) → listing S limit gens ≡ o → Course S gens limit (onListing (S .same) (S .alike) (S .fine) (S .product) gens o)
+  course-listing : (o : Option (List Element)) → listing S limit gens ≡ o → Course S gens limit (onListing same alike fine product gens o)
   course-listing none e = growing (λ (few, _).
       let (l, p) = ends-exactly S gens (key-kept S gens ok) limit .1 few in
       let both = sym e ∙ p in
@@ -267,16 +273,19 @@ module _ {S : Growing} {gens : List (S .Element)} {limit : ℕ} where
 
 -- ---- each answer, exactly
 module _ (S : Growing) (gens : List (S .Element)) (ok : OkGenerators S gens) (limit : ℕ) where
+  open Growing S using (Element)
+
   -- A list is answered exactly if the generated keys number at most as many as the limit, all that is generated passes the test, and what has the key of
   -- the unit is alike to it.
-  pub listed-exactly : ((l : List (S .Element)) × (steps : List ℕ) × (verdict S limit gens ≡ listed l steps)) ↔ (Few S gens limit × AllFine S gens × OneToUnit S gens)
+  pub listed-exactly : ((l : List Element) × (steps : List ℕ) × (verdict S limit gens ≡ listed l steps))
+      ↔ (Few S gens limit × AllFine S gens × OneToUnit S gens)
   listed-exactly = (
     (λ (l, steps, e). let W = course-whole (course S gens ok limit) l steps e in (W .few, W .all-fine, W .one)),
     course-listed (course S gens ok limit),
   )
 
   -- What is answered then.
-  pub listed-whole : (l : List (S .Element)) (steps : List ℕ) → verdict S limit gens ≡ listed l steps → Whole S gens limit l steps
+  pub listed-whole : (l : List Element) (steps : List ℕ) → verdict S limit gens ≡ listed l steps → Whole S gens limit l steps
   listed-whole l steps e = course-whole (course S gens ok limit) l steps e
 
   -- The first refusal: exactly if not both hold, the limit of keys and the test.

@@ -10,19 +10,24 @@ use lib.ListN.{length}
 use Rattle.laws.specs.Distinct.{Distinct}
 use Rattle.laws.specs.Closure.{Reached, closure}
 use Rattle.laws.specs.Keyed.{KeyedMonoid}
-use Rattle.laws.specs.GrowthClosure.{stepsFrom}
+use Rattle.laws.specs.GrowthClosure.{allowed, stepsFrom}
 use Rattle.group_growth.specs.Verdicts as verdicts
 use Rattle.group_growth.specs.Verdicts.{Verdict}
 
 -- A keyed monoid, a decision of "alike" for two elements of one key, and a test of elements that the key decides and the unit passes.
 pub record Growing : Type 1 where
   pub Element : Type 0
+  -- whether two elements have one key
   pub same : Element → Element → Bool
+  -- whether two elements of one key are alike
   pub alike : Element → Element → Bool
+  -- the test of an element
   pub fine : Element → Bool
   pub product : Element → Element → Element
   pub unit : Element
+  -- what `alike` decides
   pub Alike : Element → Element → Type 0
+  -- the elements of which the laws are said
   pub Ok : Element → Type 0
   pub keyed : KeyedMonoid same Alike Ok product unit
   pub ok-alike : (x y : Element) → Alike x y → Ok x → Ok y
@@ -31,46 +36,52 @@ pub record Growing : Type 1 where
   pub fine-unit : fine unit ≡ true
 
 module _ (S : Growing) where
+  open Growing S using (Element, same, alike, fine, product, unit, Alike, Ok)
+
   -- The generators are such as the laws of the monoid speak of.
-  abbrev pub OkGenerators : List (S .Element) → Type 0
-  OkGenerators gens = (g : S .Element) → Mem g gens → S .Ok g
+  abbrev pub OkGenerators : List Element → Type 0
+  OkGenerators gens = (g : Element) → Mem g gens → Ok g
 
   -- Breadth first from the unit, right factor running over the generators in order, each key once, at most `limit`.
-  abbrev pub listing : ℕ → List (S .Element) → Option (List (S .Element))
-  listing limit gens = closure (S .same) (S .product) (S .unit) gens limit
+  abbrev pub listing : ℕ → List Element → Option (List Element)
+  listing limit gens = closure same product unit gens limit
+
+  -- A product, where it passes the test.
+  abbrev pub fineProduct : Element → Element → Option Element
+  fineProduct = allowed same alike fine product
 
   -- The index of each product of a listed element with a generator.
-  abbrev pub stepsOf : List (S .Element) → List (S .Element) → List ℕ
-  stepsOf gens l = stepsFrom (S .same) (S .alike) (S .fine) (S .product) gens l l
+  abbrev pub stepsOf : List Element → List Element → List ℕ
+  stepsOf gens l = stepsFrom same alike fine product gens l l
 
-  abbrev pub verdict : ℕ → List (S .Element) → Verdict (S .Element)
-  verdict limit gens = verdicts.verdict (S .same) (S .alike) (S .fine) (S .product) (S .unit) limit gens
+  abbrev pub verdict : ℕ → List Element → Verdict Element
+  verdict limit gens = verdicts.verdict same alike fine product unit limit gens
 
-  module _ (gens : List (S .Element)) where
+  module _ (gens : List Element) where
     -- The least set with the unit and closed under a generator as right factor.
-    abbrev pub Generated : S .Element → Type 0
-    Generated = Reached (S .product) (S .unit) gens
+    abbrev pub Generated : Element → Type 0
+    Generated = Reached product unit gens
 
     -- The generated keys number at most `limit`,
     abbrev pub Few : ℕ → Type 0
-    Few limit = (l : List (S .Element)) → Distinct (S .same) l → ((x : S .Element) → Mem x l → Generated x) → length l ≤ limit
+    Few limit = (l : List Element) → Distinct same l → ((x : Element) → Mem x l → Generated x) → length l ≤ limit
 
     -- or more.
     abbrev pub Many : ℕ → Type 0
-    Many limit = (l : List (S .Element)) × Distinct (S .same) l × ((x : S .Element) → Mem x l → Generated x) × (limit < length l)
+    Many limit = (l : List Element) × Distinct same l × ((x : Element) → Mem x l → Generated x) × (limit < length l)
 
     -- All that is generated passes the test,
     abbrev pub AllFine : Type 0
-    AllFine = (x : S .Element) → Generated x → T (S .fine x)
+    AllFine = (x : Element) → Generated x → T (fine x)
 
     -- or something does not.
     abbrev pub Unfit : Type 0
-    Unfit = (x : S .Element) × Generated x × (¬ T (S .fine x))
+    Unfit = (x : Element) × Generated x × (¬ T (fine x))
 
     -- Whatever is generated with the key of the unit is alike to the unit.
     abbrev pub OneToUnit : Type 0
-    OneToUnit = (x : S .Element) → Generated x → T (S .same x (S .unit)) → S .Alike x (S .unit)
+    OneToUnit = (x : Element) → Generated x → T (same x unit) → Alike x unit
 
     -- Two generated elements have one key and are not alike.
     abbrev pub TwoToKey : Type 0
-    TwoToKey = (x y : S .Element) × Generated x × Generated y × T (S .same x y) × (¬ S .Alike x y)
+    TwoToKey = (x y : Element) × Generated x × Generated y × T (same x y) × (¬ Alike x y)

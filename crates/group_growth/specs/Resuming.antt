@@ -62,7 +62,9 @@ module _ {A G : Type 0} (same alike : A → A → Bool) (_·_ : A → G → Opti
 
         module _ (p : A) (e : getD (s .found) i unit · getD gens j d ≡ some p) where
           -- The product is to be taken up.
-          taking : resume i j s ≡ bind (bind (takenUp same alike limit p s) (turns same alike _·_ limit (getD (s .found) i unit) (drop (j + 1) gens))) (grow same alike _·_ limit unit gens (limit - suc i) (suc i))
+          taking : resume i j s
+              ≡ bind (bind (takenUp same alike limit p s) (turns same alike _·_ limit (getD (s .found) i unit) (drop (j + 1) gens)))
+              (grow same alike _·_ limit unit gens (limit - suc i) (suc i))
           unfolding resume turns bind
           taking = rw (lt-ltb i (length (s .found)) h, drop-cons gens j d k, e, add-one j)
 

@@ -1,9 +1,11 @@
 -- What is answered of generators, in any monoid whose elements have keys. The elements are listed breadth first from the unit, one to each key, up to a
 -- limit; each has to pass a test, and each product with a generator has to be alike to the listed element of its key.
+use mathlib.Core.Path.{_≡_, sym, ap}
 use mathlib.Core.Bool.{Bool, cond}
 use mathlib.Core.Option.{Option, some, none}
 use mathlib.Core.List.{List, map}
 use Prim.Native.Nat.{ℕ}
+use native.Mathlib.Omega.{arith}
 use Rattle.laws.specs.Lattice.{all}
 use Rattle.laws.specs.Closure.{closure}
 use Rattle.laws.specs.Growth.{Growth}
@@ -21,6 +23,16 @@ abbrev pub imageVerdict : {A B : Type 0} → (A → B) → Verdict A → Verdict
 imageVerdict f (listed l steps) = listed (map f l) steps
 imageVerdict f overgrown = overgrown
 imageVerdict f torn = torn
+
+-- Images that are listed are those of listed elements.
+pub image-listed : {A B : Type 0} (f : A → B) (v : Verdict A) (k : List B) (steps : List ℕ) → imageVerdict f v ≡ listed k steps
+    → (l : List A) × (v ≡ listed l steps) × (k ≡ map f l)
+image-listed f (listed l others) k steps e =
+    let p : map f l ≡ k = cc in
+    let q : others ≡ steps = cc in
+    (l, ap (listed l) q, sym p)
+image-listed f overgrown k steps e = let z : _≡_ {A = ℕ} 0 1 = cc in absurd (omega arith)
+image-listed f torn k steps e = let z : _≡_ {A = ℕ} 0 1 = cc in absurd (omega arith)
 
 module _ {A : Type 0} (same alike : A → A → Bool) (fine : A → Bool) (_·_ : A → A → A) where
   infixl 70 _·_

@@ -35,12 +35,14 @@ module _ {A B G : Type 0} (same : A → A → Bool) (_·_ : A → G → A) (unit
       (w, x, L .spells, p, L .least)
 
 module _ (S : Growing) (gens : List (S .Element)) where
+  open Growing S using (Element, same, product, unit, keyed)
+
   -- The list is in this order,
-  pub listing-ordered : KeyKept S gens → (limit : ℕ) (l : List (S .Element)) → listing S limit gens ≡ some l → ShortlexList (S .same) (S .product) (S .unit) gens l
-  listing-ordered kept limit l e = closure-shortlex (S .same) (S .product) (S .unit) gens (S .keyed .key-equivalence) kept limit l .0 e .0
+  pub listing-ordered : KeyKept S gens → (limit : ℕ) (l : List Element) → listing S limit gens ≡ some l → ShortlexList same product unit gens l
+  listing-ordered kept limit l e = closure-shortlex same product unit gens (keyed .key-equivalence) kept limit l .0 e .0
 
   -- and so are its forms.
-  pub word-ordered : OkGenerators S gens → {B : Type 0} (form : S .Element → B) (limit : ℕ) (l : List (S .Element)) (steps : List ℕ) → Whole S gens limit l steps
-      → WordOrdered (S .same) (S .product) (S .unit) gens form (map form l)
+  pub word-ordered : OkGenerators S gens → {B : Type 0} (form : Element → B) (limit : ℕ) (l : List Element) (steps : List ℕ) → Whole S gens limit l steps
+      → WordOrdered same product unit gens form (map form l)
   word-ordered ok form limit l steps W =
       record { list = l; ordered = listing-ordered (key-kept S gens ok) limit l (W .is-listing); forms-are = refl }

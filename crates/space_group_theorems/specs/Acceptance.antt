@@ -21,7 +21,7 @@ use Rattle.laws.specs.GrowthClosure.{stepsFrom}
 use Rattle.group_growth.specs.Verdicts.{imageVerdict}
 use Rattle.group_growth.specs.Growing.{OkGenerators, Few, AllFine, OneToUnit}
 use Rattle.group_growth.specs.Acceptance.{Whole, listed-exactly, listed-whole, overgrown-exactly, torn-exactly}
-pub use Rattle.group_growth.specs.Acceptance.{member-at, member-index}
+pub use Rattle.group_growth.specs.Lists.{member-at, member-index}
 use Rattle.operation.specs.Meaning.{matrixOf, motionOf}
 use Rattle.operation.specs.Entries.{Entries}
 use Rattle.operation.specs.Product.{identityOperation, operationOf}
