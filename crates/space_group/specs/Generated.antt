@@ -11,10 +11,11 @@ use Rattle.laws.specs.Motion.{SpaceMotion, compose, identity}
 use Rattle.laws.specs.Residue.{reduced}
 use Rattle.laws.specs.Distinct.{has, Distinct}
 use Rattle.laws.specs.Closure.{Reached, closure}
-use Rattle.laws.specs.Lattice.{sameTriple, InLattice, all}
+use Rattle.laws.specs.Lattice.{sameTriple, InLattice}
 use Rattle.laws.specs.LatticeMaps.{MapsOnto}
 use Rattle.laws.specs.SameMatrix.{sameMatrix, sameRotation}
-use Rattle.laws.specs.GrowthClosure.{stepsFrom, steadyFrom}
+use Rattle.group_growth.specs.Verdicts as verdicts
+use Rattle.group_growth.specs.Verdicts.{Verdict, listed, overgrown, torn, imageVerdict}
 use Rattle.operation.specs.Meaning.{matrixOf, motionOf, allInside}
 use Rattle.operation.specs.Entries.{Entries}
 use Rattle.operation.specs.Product.{operationOf}
@@ -78,13 +79,15 @@ pub data Outcome : Type 0 where
   group : List Operation → List ℕ → Outcome
   refused : Refusal → Outcome
 
+-- 13 says that the list passes 48 or an entry leaves −1..1, 14 that two translations came for one rotation.
+abbrev pub ofVerdict : Verdict Operation → Outcome
+ofVerdict (listed operations steps) = group operations steps
+ofVerdict overgrown = refused Rotations
+ofVerdict torn = refused Translations
+
 -- Of the list: 13 goes before 14, which says that a step from the list does not come back to it.
 unfoldable pub onList : Centering → List Operation → List SpaceMotion → Outcome
-onList c gens l =
-    let steps = stepsFrom sameRotation (sameVectorClass c) isSmall compose (motions gens) l l in
-    let steady = steadyFrom sameRotation (sameVectorClass c) isSmall compose (motions gens) l l in
-    let answer = cond steady (group (map operationOf l) steps) (refused Translations) in
-    cond (all isSmall l) answer (refused Rotations)
+onList c gens l = ofVerdict (imageVerdict operationOf (verdicts.onList sameRotation (sameVectorClass c) isSmall compose (motions gens) l))
 
 abbrev pub onListing : Centering → List Operation → Option (List SpaceMotion) → Outcome
 onListing c gens none = refused Rotations

@@ -2,9 +2,9 @@
 -- translations modulo 12 go with products.
 use mathlib.Core.Path.{_≡_, refl, sym, _∙_, ap}
 use mathlib.Core.Bool.{Bool, true, false, cond}
-use mathlib.Core.Option.{Option, some, none, bind, Option·map}
+use mathlib.Core.Logic.{_↔_}
+use mathlib.Core.Option.{some, none, Option·map}
 use mathlib.Core.List.{List}
-use Prim.Native.Nat.{ℕ}
 use native.Mathlib.Omega.{arith}
 use lib.Dec.{T, eqb→eq, eqb-refl}
 use lib.IntN.{one}
@@ -12,12 +12,15 @@ use Rattle.laws.specs.Integer.{nought}
 use Rattle.laws.specs.Matrix.{Vector, times, act, plus, opposite, unit, origin}
 use Rattle.laws.specs.Motion.{SpaceMotion, product, compose, identity}
 use Rattle.laws.specs.Residue.{residue, reduced, reduced-plus, reduced-opposite, reduced-again, _⊕_}
-use Rattle.laws.specs.Distinct.{has, Mem→has, equality-equivalence}
-use Rattle.laws.specs.Lattice.{sameTriple, triple-decides, all, same-test, congruent-reflexive}
+use Rattle.laws.specs.Distinct.{has, has↔Mem}
+use Rattle.laws.specs.Lattice.{sameTriple, triple-decides, Congruent, same-test, congruent-reflexive}
 use Rattle.laws.specs.Closure.{Congruence}
-use Rattle.laws.specs.SameMatrix.{sameRotation, same-rotation, rotation-same, rotation-equivalence}
-use Rattle.laws.specs.Growth.{imageGrowth, Image, grown-image}
-use Rattle.laws.specs.GrowthClosure.{T-true, allowed, described, grown-closure}
+use Rattle.laws.specs.SameMatrix.{sameRotation, same-rotation, rotation-same}
+use Rattle.laws.specs.MotionsModulo.{Alike, Keeps, motions-keyed}
+use Rattle.laws.specs.GrowthClosure.{T-true, true-T, allowed}
+use Rattle.group_growth.specs.Verdicts.{imageVerdict, onGrowth}
+use Rattle.group_growth.specs.Growing.{Growing, verdict}
+use Rattle.group_growth.specs.Forms.{Forms, growth-verdict}
 use Rattle.operation.specs.Meaning.{matrixOf, vectorOf, motionOf, digitsOf, Digits, digitOf, digitAbove, inside, rowInside, allInside}
 use Rattle.operation.specs.Entries.{Entries, all-entries, digits-entries, digits-stand}
 use Rattle.operation.specs.Product.{identityOperation, operationOf, productOf}
@@ -27,7 +30,7 @@ use Rattle.operation.specs.declared.product.Product.the-variants.{Inside, Outsi
 use Rattle.centering.specs.Letters.{pointsOf}
 use Rattle.centering.specs.Lattices.{points, congruentOf}
 use Rattle.centering.specs.declared.Centering.{Centering}
-use Rattle.space_group.specs.Generated.{motions, listing, isSmall, sameVectorClass}
+use Rattle.space_group.specs.Generated.{motions, isSmall, sameVectorClass}
 use Rattle.space_group.specs.Traversal.{turnOf, sameTurn, sameClass, insideOf, productInside, growth}
 
 -- The rotation of a motion has its entries in −1..1.
@@ -97,60 +100,95 @@ pub compose-operation : (f g : SpaceMotion) → Small f → operationOf (compose
 compose-operation f g e =
     operation≡ (compose (motionOf (operationOf f)) g) (compose f g) (times-operation f g e) (moved-operation f g e)
 
-module _ (c : Centering) where
-  -- A product of motions, where its entries are in −1..1.
-  abbrev smallProduct : SpaceMotion → SpaceMotion → Option SpaceMotion
-  smallProduct = allowed sameRotation (sameVectorClass c) isSmall compose
+-- The product of an operation as that of its motion, where its entries are in −1..1.
+pub product-image : (c : Centering) (f : SpaceMotion) (h : Operation) → Small f
+    → productInside (operationOf f) h ≡ Option·map operationOf (allowed sameRotation (sameVectorClass c) isSmall compose f (motionOf h))
+unfolding productOf allowed isSmall
+product-image c f h e =
+    rw (compose-operation f (motionOf h) e, times-operation f (motionOf h) e) (by-test (allInside (compose f (motionOf h) .rotation)))
+  where
+    by-test : (b : Bool) → insideOf (cond b (Inside (operationOf (compose f (motionOf h)))) Outside) ≡ Option·map operationOf (cond b (some (compose f (motionOf h))) none)
+    by-test true = refl
+    by-test false = refl
 
-  product-image : (f : SpaceMotion) (h : Operation) → Small f → productInside (operationOf f) h ≡ Option·map operationOf (smallProduct f (motionOf h))
-  unfolding productOf allowed isSmall
-  product-image f h e =
-      rw (compose-operation f (motionOf h) e, times-operation f (motionOf h) e) (by-test (allInside (compose f (motionOf h) .rotation)))
-    where
-      by-test : (b : Bool) → insideOf (cond b (Inside (operationOf (compose f (motionOf h)))) Outside) ≡ Option·map operationOf (cond b (some (compose f (motionOf h))) none)
-      by-test true = refl
-      by-test false = refl
+-- ---- tests of motions
+-- The test of entries says whether they are in −1..1.
+pub small-test : (f : SpaceMotion) → T (isSmall f) ↔ Small f
+unfolding isSmall
+small-test f = ((λ t. all-entries (f .rotation) .0 (T-true t)), λ e. true-T (all-entries (f .rotation) .1 e))
 
-  product-small : (f p g : SpaceMotion) → Small f → smallProduct f g ≡ some p → Small p
-  unfolding allowed isSmall
-  product-small f p g e q = by-test (allInside (compose f g .rotation)) refl q
-    where
-      by-test : (b : Bool) → allInside (compose f g .rotation) ≡ b → cond b (some (compose f g)) none ≡ some p → Small p
-      by-test true t r = let z : compose f g ≡ p = cc in rw (← z) (all-entries (compose f g .rotation) .0 t)
-      by-test false t r = let z : _≡_ {A = ℕ} 0 1 = cc in absurd (omega arith)
+pub identity-small : isSmall identity ≡ true
+unfolding isSmall allInside rowInside inside unit one nought
+identity-small = refl
 
-  -- Tests and products go over to operations.
-  operations-image : Image sameRotation (sameVectorClass c) sameTurn (sameClass c) smallProduct productInside operationOf motionOf Small
-  operations-image =
-      record { same-image = same-image; alike-image = λ f g _ _. class-image c f g; product-image = product-image; product-fine = product-small }
+pub small-same : (f g : SpaceMotion) → T (sameRotation f g) → isSmall g ≡ true → isSmall f ≡ true
+unfolding isSmall
+small-same f g t e = rw (same-rotation f g t) e
 
-  -- ---- the growth of motions
-  -- A vector differs from itself by a vector of L.
-  class-self : (f : SpaceMotion) → sameVectorClass c f f ≡ true
-  unfolding sameVectorClass
-  class-self f =
-      T-true (Mem→has sameTriple (equality-equivalence sameTriple triple-decides) (congruent-reflexive (pointsOf c) (points c) (f .translation)))
+-- The test of two translations says whether they differ by a vector of L.
+pub class-test : (c : Centering) (f g : SpaceMotion) → T (sameVectorClass c f g) ↔ Congruent (pointsOf c) (f .translation) (g .translation)
+unfolding sameVectorClass
+class-test c f g = has↔Mem sameTriple triple-decides
 
-  identity-small : isSmall identity ≡ true
-  unfolding isSmall allInside rowInside inside unit one nought
-  identity-small = refl
+pub alike-test : (c : Centering) (f g : SpaceMotion) → T (sameRotation f g) → T (sameVectorClass c f g) ↔ Alike (pointsOf c) f g
+alike-test c f g s = ((λ t. (same-rotation f g s, class-test c f g .0 t)), λ near. class-test c f g .1 (near .1))
 
-  small-same : (f g : SpaceMotion) → T (sameRotation f g) → isSmall g ≡ true → isSmall f ≡ true
-  unfolding isSmall
-  small-same f g t e = rw (same-rotation f g t) e
+-- A motion alike to one that keeps L keeps L.
+pub keeps-alike : (c : Centering) (f g : SpaceMotion) → Alike (pointsOf c) f g → Keeps (pointsOf c) f → Keeps (pointsOf c) g
+keeps-alike c f g near keep = rw (near .0) at keep
 
-  pub identity-operation : operationOf identity ≡ identityOperation
-  unfolding operationOf digitOf digitAbove unit origin one nought residue
-  identity-operation = refl
+-- The operation of a motion is alike to it modulo any lattice.
+pub operation-alike : (c : Centering) (f : SpaceMotion) → Small f → Alike (pointsOf c) f (motionOf (operationOf f))
+unfolding motionOf
+operation-alike c f e = (
+  sym (operation-rotation f e),
+  rw (same-difference (f .translation) (vectorOf (operationOf f .translation)) (f .translation) (f .translation) refl (operation-translation f)) (congruent-reflexive (pointsOf c) (points c) (f .translation)),
+)
+
+-- ---- what grows
+-- Motions, told apart by their rotations and alike where their translations are in one class modulo L.
+abbrev pub motionGrowth : Centering → Growing
+motionGrowth c = record {
+  Element = SpaceMotion;
+  same = sameRotation;
+  alike = sameVectorClass c;
+  fine = isSmall;
+  product = compose;
+  unit = identity;
+  Alike = Alike (pointsOf c);
+  Ok = Keeps (pointsOf c);
+  keyed = motions-keyed (pointsOf c) (points c);
+  ok-alike = keeps-alike c;
+  alike-decided = alike-test c;
+  fine-key = small-same;
+  fine-unit = identity-small;
+}
+
+-- Operations as their forms.
+abbrev pub operationForms : (c : Centering) → Forms (motionGrowth c)
+operationForms c = record {
+  Form = Operation;
+  form = operationOf;
+  meaning = motionOf;
+  sameForm = sameTurn;
+  alikeForm = sameClass c;
+  times = productInside;
+  form-alike = λ f t. operation-alike c f (small-test f .0 t);
+  same-form = λ f g s t. same-image f g (small-test f .0 s) (small-test g .0 t);
+  alike-form = λ f g _ _. class-image c f g;
+  times-form = λ f h t. product-image c f h (small-test f .0 t);
+}
+
+pub identity-operation : (c : Centering) → operationOf identity ≡ identityOperation
+unfolding operationOf digitOf digitAbove unit origin one nought residue
+identity-operation c = refl
 
 -- Steps keep the rotation.
 pub rotation-congruence : (gens : List SpaceMotion) → Congruence sameRotation compose identity gens
 unfolding product
 rotation-congruence gens f g h _ _ _ t = rotation-same (compose f h) (compose g h) (ap (λ A. times A (h .rotation)) (same-rotation f g t))
 
--- The growth of the operations is the list of motions, if its members have their entries in −1..1, seen through digits and modulo 12.
-pub growth-listing : (c : Centering) (gens : List Operation) → growth c gens ≡ Option·map (imageGrowth operationOf) (bind (listing gens) (λ l. cond (all isSmall l) (some (described sameRotation (sameVectorClass c) isSmall compose (motions gens) l)) none))
-unfolding growth listing isSmall
-growth-listing c gens =
-    rw (← (identity-operation c)) (grown-image sameRotation (sameVectorClass c) sameTurn (sameClass c) (smallProduct c) productInside operationOf motionOf Small (operations-image c) 48 identity gens (all-entries unit .0 (identity-small c)))
-    ∙ ap (Option·map (imageGrowth operationOf)) (grown-closure sameRotation (sameVectorClass c) isSmall compose 48 rotation-equivalence (class-self c) identity (motions gens) (identity-small c) (small-same c) (rotation-congruence (motions gens)) (omega arith))
+-- The growth of the operations answers what is answered of the motions.
+pub growth-answers : (c : Centering) (gens : List Operation) → imageVerdict operationOf (verdict (motionGrowth c) 48 (motions gens)) ≡ onGrowth (growth c gens)
+unfolding growth
+growth-answers c gens = rw (← (identity-operation c)) (growth-verdict (motionGrowth c) (operationForms c) 48 (omega arith) gens (rotation-congruence (motions gens)))

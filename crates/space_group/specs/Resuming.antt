@@ -1,22 +1,22 @@
 -- The growth of the list as a loop makes it, step by step: what is left to do at operation i and generator j, and how the slots show what was found.
 use mathlib.Core.Path.{_≡_, refl, sym, _∙_, ap}
-use mathlib.Core.Bool.{Bool, true, cond, _&&_}
-use mathlib.Core.Option.{Option, some, none, bind}
+use mathlib.Core.Bool.{Bool, true, _&&_}
+use mathlib.Core.Option.{Option, some, none}
 use mathlib.Core.List.{List, [], _∷_, _++_, map, map-append}
 use Prim.Native.Nat.{ℕ, zero, suc, _+_, _-_, _≤_, _<_}
-use native.Mathlib.Numerals.{add-one}
 use native.Mathlib.Omega.{arith}
-use lib.Dec.{eqb, ltb}
-use lib.ListN.{length, getD, take, drop, set, replicate, length-append, length-replicate, length-map, List·getD-append}
-use lib.Seq.{drop-cons, drop-length, set-at, take-at, getD-take, length-take-le, append-snoc}
-use borrow.Author.Tests.{lt-ltb, le-ltb}
-use Rattle.laws.specs.Growth.{Growth, place, recurring, lengthened, takenUp, turns, grow, grown}
+use lib.Dec.{eqb}
+use lib.ListN.{length, getD, take, set, replicate, length-append, length-replicate, length-map, List·getD-append}
+use lib.Seq.{set-at, take-at, getD-take, length-take-le, append-snoc}
+use Rattle.laws.specs.Growth.{Growth, place, recurring, lengthened}
+use Rattle.group_growth.specs.Resuming as growing
+use Rattle.group_growth.specs.Resuming.{seed}
 use Rattle.operation.specs.Product.{identityOperation, productOf}
 use Rattle.operation.specs.declared.Operation.{Operation}
 use Rattle.operation.specs.declared.product.Product.the-variants.{Inside, Outside}
 use Rattle.centering.specs.Lattices.{congruentOf}
 use Rattle.centering.specs.declared.Centering.{Centering}
-use Rattle.space_group.specs.Traversal.{turnOf, sameTurn, sameClass, productInside, growth, padded}
+use Rattle.space_group.specs.Traversal.{turnOf, sameTurn, sameClass, insideOf, productInside, growth, padded}
 use Rattle.space_group.specs.Places.{place-key}
 
 -- ---- slots
@@ -38,70 +38,41 @@ padded-length n e l h = simp (length-append, length-replicate) (omega arith)
 -- ---- what is left to do
 module _ (c : Centering) (gens : List Operation) where
   -- From operation i and generator j on.
-  unfoldable pub resume : ℕ → ℕ → Growth Operation → Option (Growth Operation)
-  resume i j s =
-      cond (ltb i (length (s .found)))
-      (bind (turns sameTurn (sameClass c) productInside 48 (getD (s .found) i identityOperation) (drop j gens) s) (grow sameTurn (sameClass c) productInside 48 identityOperation gens (47 - i) (suc i)))
-      (some s)
+  abbrev pub resume : ℕ → ℕ → Growth Operation → Option (Growth Operation)
+  resume = growing.resume sameTurn (sameClass c) productInside 48 identityOperation gens
 
   -- At the start all is left.
-  pub resume-start : growth c gens ≡ resume 0 0 (record { found = identityOperation ∷ []; steps = []; steady = true })
-  unfolding growth grown grow resume
-  resume-start = refl
+  pub resume-start : growth c gens ≡ resume 0 0 (seed identityOperation)
+  unfolding growth
+  resume-start = growing.resume-start sameTurn (sameClass c) productInside 48 identityOperation gens (omega arith)
 
   module _ (s : Growth Operation) (i j : ℕ) where
     -- At the end nothing is.
     pub resume-end : length (s .found) ≤ i → resume i j s ≡ some s
-    unfolding resume
-    resume-end h = rw (le-ltb i (length (s .found)) h)
+    resume-end = growing.resume-end sameTurn (sameClass c) productInside 48 identityOperation gens s i j
 
     module _ (h : i < length (s .found)) where
       -- Behind the last generator comes the next operation.
-      over : length (s .found) ≤ 48 → (m : ℕ) → 47 - i ≡ m → grow sameTurn (sameClass c) productInside 48 identityOperation gens m (suc i) s ≡ resume (i + 1) 0 s
-      unfolding resume grow
-      over few zero e = rw (le-ltb (i + 1) (length (s .found)) (omega arith))
-      over few (suc m) e = let left : 47 - (i + 1) ≡ m = omega arith in rw (left, add-one i)
-
-      behind-last : j ≡ length gens → resume i j s ≡ grow sameTurn (sameClass c) productInside 48 identityOperation gens (47 - i) (suc i) s
-      unfolding resume turns bind
-      behind-last e = rw (e, lt-ltb i (length (s .found)) h, drop-length gens)
-
       pub resume-over : j ≡ length gens → length (s .found) ≤ 48 → resume i j s ≡ resume (i + 1) 0 s
-      resume-over e few = behind-last e ∙ over few (47 - i) refl
+      resume-over = growing.resume-over sameTurn (sameClass c) productInside 48 identityOperation gens s i j h
 
       module _ (k : j < length gens) where
         -- An entry has left −1..1.
         pub resume-outside : productOf (getD (s .found) i identityOperation) (getD gens j identityOperation) ≡ Outside → resume i j s ≡ none
-        unfolding resume turns bind
-        resume-outside e = rw (lt-ltb i (length (s .found)) h, drop-cons gens j identityOperation k, e)
+        resume-outside e = growing.resume-outside sameTurn (sameClass c) productInside 48 identityOperation gens s i j h identityOperation k (ap insideOf e)
 
         module _ (p : Operation) (e : productOf (getD (s .found) i identityOperation) (getD gens j identityOperation) ≡ Inside p) where
-          -- The product is to be taken up.
-          taking : resume i j s ≡ bind (bind (takenUp sameTurn (sameClass c) 48 p s) (turns sameTurn (sameClass c) productInside 48 (getD (s .found) i identityOperation) (drop (j + 1) gens))) (grow sameTurn (sameClass c) productInside 48 identityOperation gens (47 - i) (suc i))
-          unfolding resume turns bind
-          taking = rw (lt-ltb i (length (s .found)) h, drop-cons gens j identityOperation k, e, add-one j)
-
-          -- Its rotation is listed.
+          -- The product's rotation is listed.
           pub resume-again : place sameTurn p (s .found) < length (s .found) → resume i j s ≡ resume i (j + 1) (recurring sameTurn (sameClass c) p s)
-          unfolding resume takenUp bind
-          resume-again in-list = taking ∙ rw (lt-ltb (place sameTurn p (s .found)) (length (s .found)) in-list, lt-ltb i (length (s .found)) h)
+          resume-again = growing.resume-again sameTurn (sameClass c) productInside 48 identityOperation gens s i j h identityOperation k p (ap insideOf e)
 
           -- It is not, and there is no slot for it.
           pub resume-full : length (s .found) ≤ place sameTurn p (s .found) → 48 ≤ length (s .found) → resume i j s ≡ none
-          unfolding takenUp bind
-          resume-full new full = taking ∙ rw (le-ltb (place sameTurn p (s .found)) (length (s .found)) new, le-ltb (length (s .found)) 48 full)
+          resume-full = growing.resume-full sameTurn (sameClass c) productInside 48 identityOperation gens s i j h identityOperation k p (ap insideOf e)
 
           -- It is not, and there is one.
           pub resume-new : length (s .found) ≤ place sameTurn p (s .found) → length (s .found) < 48 → resume i j s ≡ resume i (j + 1) (lengthened sameTurn (sameClass c) p s)
-          unfolding resume takenUp bind
-          resume-new new free =
-              taking ∙
-              rw (
-                le-ltb (place sameTurn p (s .found)) (length (s .found)) new,
-                lt-ltb (length (s .found)) 48 free,
-                List·getD-append (s .found) (p ∷ []) identityOperation i h,
-                lt-ltb i (length (s .found ++ p ∷ [])) (simp length-append (omega arith)),
-              )
+          resume-new = growing.resume-new sameTurn (sameClass c) productInside 48 identityOperation gens s i j h identityOperation k p (ap insideOf e)
 
 -- ---- what the slots show
 -- A growth in slots: how many operations, the operations, their codes, the indices, whether the translations agree, and how many indices.
@@ -190,5 +161,5 @@ module _ (c : Centering) (s : Growth Operation) (count : ℕ) (operations : List
         }
 
 -- Slots at the start.
-pub shows-start : Shows (record { found = identityOperation ∷ []; steps = []; steady = true }) 1 (replicate 48 identityOperation) (replicate 48 (turnOf identityOperation)) (replicate 432 0) true 0
+pub shows-start : Shows (seed identityOperation) 1 (replicate 48 identityOperation) (replicate 48 (turnOf identityOperation)) (replicate 432 0) true 0
 shows-start = record { counted = refl; few = omega arith; listed = refl; coded = refl; noted = refl; numbered = refl; agreeing = refl }

@@ -1,29 +1,31 @@
 -- The answers slot by slot, and how they come from the growth of the list.
 use mathlib.Core.Path.{_≡_, refl, sym, _∙_, ap}
-use mathlib.Core.Bool.{Bool, true, false, cond, false≢true}
-use mathlib.Core.Option.{Option, some, none, bind, Option·map}
+use mathlib.Core.Bool.{true, false, false≢true}
+use mathlib.Core.Option.{Option, some, none}
 use mathlib.Core.List.{List, map}
 use Prim.Native.Nat.{ℕ, _+_, _≤_, _<_}
 use native.Mathlib.Numerals.{add-one}
 use native.Mathlib.Omega.{arith}
-use lib.Dec.{ltb}
+use native.Mathlib.Decide.{decLt}
 use lib.ListN.{length, getD, take, drop, replicate, length-map}
 use lib.Seq.{drop-cons, drop-length, length-take-le, take-all}
 use borrow.Author.Tests.{lt-ltb, le-ltb}
 use Rattle.laws.specs.Motion.{SpaceMotion, compose, identity}
-use Rattle.laws.specs.Closure.{closure-length}
-use Rattle.laws.specs.Lattice.{all}
+use Rattle.laws.specs.Closure.{closure}
 use Rattle.laws.specs.SameMatrix.{sameRotation}
-use Rattle.laws.specs.Growth.{Growth, imageGrowth}
-use Rattle.laws.specs.GrowthClosure.{described, stepsFrom, steadyFrom}
+use Rattle.laws.specs.Growth.{Growth}
+use Rattle.group_growth.specs.Verdicts as verdicts
+use Rattle.group_growth.specs.Verdicts.{Verdict, listed, overgrown, torn, imageVerdict, onGrowth}
+use Rattle.group_growth.specs.Growing.{verdict}
+use Rattle.group_growth.specs.Acceptance.{listed-length}
 use Rattle.operation.specs.Product.{identityOperation, operationOf}
 use Rattle.operation.specs.declared.Operation.{Operation}
 use Rattle.centering.specs.Keeps.{keepsOf}
 use Rattle.centering.specs.declared.Centering.{Centering}
 use Rattle.centering.specs.declared.Centering.the-variants.{P}
-use Rattle.space_group.specs.Generated.{motions, firstOff, listing, isSmall, sameVectorClass, Outcome, group, refused, onList, onListing, outcomeOf}
+use Rattle.space_group.specs.Generated.{motions, firstOff, listing, isSmall, sameVectorClass, Outcome, group, refused, ofVerdict, onList, onListing, outcomeOf}
 use Rattle.space_group.specs.Traversal.{growth, padded, grownOf}
-use Rattle.space_group.specs.OperationGrowth.{growth-listing}
+use Rattle.space_group.specs.OperationGrowth.{motionGrowth, growth-answers}
 use Rattle.space_group.specs.declared.refusal.Refusal.{Refusal}
 use Rattle.space_group.specs.declared.refusal.Refusal.the-variants.{Lattice, Rotations, Translations}
 use Rattle.space_group.specs.declared.Answer.the-variants.{Group, Refused}
@@ -86,27 +88,15 @@ unfolding firstOff
 off-end c gens = rw drop-length
 
 -- ---- from the growth to the outcome
--- What a growth of the list answers.
-abbrev pub onGrowth : Option (Growth Operation) → Outcome
-onGrowth none = refused Rotations
-onGrowth (some s) = cond (s .steady) (group (s .found) (s .steps)) (refused Translations)
+-- What is answered of the motions.
+abbrev pub verdictOf : Centering → List Operation → Verdict SpaceMotion
+verdictOf c gens = verdict (motionGrowth c) 48 (motions gens)
 
--- By its tests.
-by-tests : (l : List SpaceMotion) (a b : Bool) (steps : List ℕ) → cond a (cond b (group (map operationOf l) steps) (refused Translations)) (refused Rotations) ≡ onGrowth (Option·map (imageGrowth operationOf) (cond a (some (record { found = l; steps = steps; steady = b })) none))
-by-tests l true true steps = refl
-by-tests l true false steps = refl
-by-tests l false b steps = refl
-
--- The image of a list's growth answers what the list does.
-listing-growth : (c : Centering) (gens : List Operation) (o : Option (List SpaceMotion)) → onListing c gens o ≡ onGrowth (Option·map (imageGrowth operationOf) (bind o (λ l. cond (all isSmall l) (some (described sameRotation (sameVectorClass c) isSmall compose (motions gens) l)) none)))
-unfolding onList bind
-listing-growth c gens none = refl
-listing-growth c gens (some l) =
-    by-tests l (all isSmall l) (steadyFrom sameRotation (sameVectorClass c) isSmall compose (motions gens) l l) (stepsFrom sameRotation (sameVectorClass c) isSmall compose (motions gens) l l)
-
--- So the growth of the operations answers what the list of motions does.
-pub growth-outcome : (c : Centering) (gens : List Operation) → onListing c gens (listing gens) ≡ onGrowth (growth c gens)
-growth-outcome c gens = listing-growth c gens (listing gens) ∙ ap onGrowth (sym (growth-listing c gens))
+listing-verdict : (c : Centering) (gens : List Operation) (o : Option (List SpaceMotion))
+    → onListing c gens o ≡ ofVerdict (imageVerdict operationOf (verdicts.onListing sameRotation (sameVectorClass c) isSmall compose (motions gens) o))
+unfolding onList
+listing-verdict c gens none = refl
+listing-verdict c gens (some l) = refl
 
 module _ (c : Centering) (gens : List Operation) where
   -- A generator is off.
@@ -114,36 +104,52 @@ module _ (c : Centering) (gens : List Operation) where
   unfolding outcomeOf
   outcome-off h = rw (lt-ltb (firstOff c gens) (length gens) h)
 
-  -- None is.
-  pub outcome-growth : length gens ≤ firstOff c gens → outcomeOf c gens ≡ onGrowth (growth c gens)
-  unfolding outcomeOf
-  outcome-growth h = rw (le-ltb (firstOff c gens) (length gens) h) (growth-outcome c gens)
+  -- None is: it goes by the motions,
+  pub outcome-verdict : length gens ≤ firstOff c gens → outcomeOf c gens ≡ ofVerdict (imageVerdict operationOf (verdictOf c gens))
+  unfolding outcomeOf listing
+  outcome-verdict h = rw (le-ltb (firstOff c gens) (length gens) h) (listing-verdict c gens (closure sameRotation compose identity (motions gens) 48))
 
--- ---- the number of operations
--- A listing has at most 48.
-listing-length : (gens : List Operation) (l : List SpaceMotion) → listing gens ≡ some l → length l ≤ 48
-unfolding listing
-listing-length gens l e = closure-length sameRotation compose identity (motions gens) 48 l e
+  -- and so by the growth of the operations.
+  pub outcome-growth : length gens ≤ firstOff c gens → outcomeOf c gens ≡ ofVerdict (onGrowth (growth c gens))
+  outcome-growth h = outcome-verdict h ∙ ap ofVerdict (growth-answers c gens)
 
--- A list that was answered is that of a listing.
-few-listed : (c : Centering) (gens : List Operation) (o : Option (List SpaceMotion)) → listing gens ≡ o → (operations : List Operation) (steps : List ℕ) → onListing c gens o ≡ group operations steps → length operations ≤ 48
-unfolding onList
-few-listed c gens none e operations steps p = let z : _≡_ {A = ℕ} 0 1 = cc in absurd (omega arith)
-few-listed c gens (some l) e operations steps p = by-cases (all isSmall l) (steadyFrom sameRotation (sameVectorClass c) isSmall compose (motions gens) l l) (stepsFrom sameRotation (sameVectorClass c) isSmall compose (motions gens) l l) p
-  where
-    by-cases : (a b : Bool) (indices : List ℕ) → cond a (cond b (group (map operationOf l) indices) (refused Translations)) (refused Rotations) ≡ group operations steps → length operations ≤ 48
-    by-cases true true indices q = let z : map operationOf l ≡ operations = cc in rw (← z, length-map l operationOf) (listing-length gens l e)
-    by-cases true false indices q = let z : _≡_ {A = ℕ} 0 1 = cc in absurd (omega arith)
-    by-cases false b indices q = let z : _≡_ {A = ℕ} 0 1 = cc in absurd (omega arith)
+-- ---- what an outcome was made of
+-- A group is a list of motions,
+pub group-listed : (v : Verdict SpaceMotion) (operations : List Operation) (steps : List ℕ) → ofVerdict (imageVerdict operationOf v) ≡ group operations steps
+    → (l : List SpaceMotion) × (v ≡ listed l steps) × (operations ≡ map operationOf l)
+group-listed (listed l others) operations steps e =
+    let p : map operationOf l ≡ operations = cc in
+    let q : others ≡ steps = cc in
+    (l, ap (listed l) q, sym p)
+group-listed overgrown operations steps e = let z : _≡_ {A = ℕ} 0 1 = cc in absurd (omega arith)
+group-listed torn operations steps e = let z : _≡_ {A = ℕ} 0 1 = cc in absurd (omega arith)
+
+-- 13 is one refusal,
+pub rotations-overgrown : (v : Verdict SpaceMotion) → ofVerdict (imageVerdict operationOf v) ≡ refused Rotations → v ≡ overgrown
+rotations-overgrown (listed l steps) e = let z : _≡_ {A = ℕ} 0 1 = cc in absurd (omega arith)
+rotations-overgrown overgrown e = refl
+rotations-overgrown torn e = let z : _≡_ {A = ℕ} 0 1 = cc in absurd (omega arith)
+
+-- 14 is the other,
+pub translations-torn : (v : Verdict SpaceMotion) → ofVerdict (imageVerdict operationOf v) ≡ refused Translations → v ≡ torn
+translations-torn (listed l steps) e = let z : _≡_ {A = ℕ} 0 1 = cc in absurd (omega arith)
+translations-torn overgrown e = let z : _≡_ {A = ℕ} 0 1 = cc in absurd (omega arith)
+translations-torn torn e = refl
+
+-- and 12 is neither.
+pub never-lattice : (v : Verdict SpaceMotion) (i : ℕ) → ¬ (ofVerdict (imageVerdict operationOf v) ≡ refused (Lattice i))
+never-lattice (listed l steps) i e = let z : _≡_ {A = ℕ} 0 1 = cc in omega arith
+never-lattice overgrown i e = let z : _≡_ {A = ℕ} 0 1 = cc in omega arith
+never-lattice torn i e = let z : _≡_ {A = ℕ} 0 1 = cc in omega arith
 
 -- There are never more than 48.
 pub outcome-few : (c : Centering) (gens operations : List Operation) (steps : List ℕ) → outcomeOf c gens ≡ group operations steps → length operations ≤ 48
-unfolding outcomeOf
-outcome-few c gens operations steps p = by-off (ltb (firstOff c gens) (length gens)) p
-  where
-    by-off : (b : Bool) → cond b (refused (Lattice (firstOff c gens))) (onListing c gens (listing gens)) ≡ group operations steps → length operations ≤ 48
-    by-off true q = let z : _≡_ {A = ℕ} 0 1 = cc in absurd (omega arith)
-    by-off false q = few-listed c gens (listing gens) refl operations steps q
+outcome-few c gens operations steps p = elim (decLt (firstOff c gens) (length gens)) [
+  | yes h ↦ let both = sym (outcome-off c gens h) ∙ p in let z : _≡_ {A = ℕ} 0 1 = cc in absurd (omega arith)
+  | no h ↦
+      let (l, q, e) = group-listed (verdictOf c gens) operations steps (sym (outcome-verdict c gens (omega arith)) ∙ p) in
+      omega (arith, ap length e, length-map l operationOf, listed-length (motionGrowth c) (motions gens) 48 l steps q)
+]
 
 -- ---- from the slots to the growth
 -- The list did not end,
@@ -164,7 +170,7 @@ module _ (c : Centering) (n : ℕ) (gens : List Operation) (long : length gens �
 
   module _ (none-off : n ≤ off) (g : Grown) (grown : g ≡ grownOf (growth c gens)) where
     -- No generator is.
-    answered : outcomeOf c gens ≡ onGrowth (growth c gens)
+    answered : outcomeOf c gens ≡ ofVerdict (onGrowth (growth c gens))
     answered = outcome-growth c gens (omega arith)
 
     -- The list does not end.

@@ -1,49 +1,31 @@
 -- The list of an accepted symbol, member by member: it starts with the identity, holds each generated rotation once and nothing else, each with a
 -- translation below 12 that is reached and is right modulo L; products and inverses stay in it modulo L.
 use mathlib.Core.Path.{_≡_, refl, sym, _∙_, ap, subst}
-use mathlib.Core.List.{List, [], _∷_, map, List·Memᴰ as Mem, List·Memᴰ·head as here, List·Memᴰ·tail as there, Memᴰ·map as mem-map, Memᴰ·of-map as mem-of-map}
+use mathlib.Core.List.{List, _∷_, map, List·Memᴰ as Mem, Memᴰ·map as mem-map, Memᴰ·of-map as mem-of-map}
 use Prim.Native.Nat.{ℕ, _≤_}
 use native.Mathlib.Omega.{arith}
-use lib.Dec.{T}
 use lib.ListN.{length, length-map}
-use Rattle.laws.specs.Matrix.{Matrix, times, unit, times-unit}
-use Rattle.laws.specs.Motion.{SpaceMotion, compose, identity, compose-assoc, identity-compose}
+use Rattle.laws.specs.Matrix.{Matrix}
+use Rattle.laws.specs.Motion.{SpaceMotion, compose, identity}
 use Rattle.laws.specs.Residue.{Reduced, reduced, reduced-lt}
-use Rattle.laws.specs.Distinct.{has, Distinct, nil, cons, has-member, Injective, injection-onto}
-use Rattle.laws.specs.Closure.{start, closure-length, ListsReached, reached-product, reached-ok}
-use Rattle.laws.specs.Keyed.{steady-each-key, steady-unit-key}
-use Rattle.laws.specs.Lattice.{Congruent, congruent-reflexive, congruent-transitive}
-use Rattle.laws.specs.SameMatrix.{sameRotation, same-rotation, rotation-same, rotation-equivalence}
-use Rattle.laws.specs.MotionsModulo.{Alike, Keeps, motions-monoid, motions-keyed, alike-identity, compose-rotation}
+use Rattle.laws.specs.Distinct.{Distinct}
+use Rattle.laws.specs.Closure.{ListsReached}
+use Rattle.laws.specs.Lattice.{Congruent, congruent-transitive}
+use Rattle.laws.specs.SameMatrix.{sameRotation, same-rotation, rotation-same}
+use Rattle.laws.specs.MotionsModulo.{Alike, Keeps}
+use Rattle.group_growth.specs.Growing.{OkGenerators}
+use Rattle.group_growth.specs.Acceptance.{Whole}
+use Rattle.group_growth.specs.Members as growing
 use Rattle.operation.specs.Meaning.{matrixOf, vectorOf, motionOf}
 use Rattle.operation.specs.Product.{identityOperation, operationOf}
 use Rattle.operation.specs.declared.Operation.{Operation}
 use Rattle.centering.specs.Letters.{pointsOf}
 use Rattle.centering.specs.Lattices.{points, tripleOf}
 use Rattle.centering.specs.declared.Centering.{Centering}
-use Rattle.space_group.specs.Generated.{motions, Generated, GeneratedRotation, listing}
+use Rattle.space_group.specs.Generated.{motions, Generated, GeneratedRotation}
 use Rattle.space_group.specs.Traversal.{sameTurn}
-use Rattle.space_group.specs.OperationGrowth.{Small, operation-rotation, operation-translation, same-difference, same-image, identity-operation}
-use Rattle.space_group_theorems.specs.Acceptance.{Accepted, lists, motions-keep}
-
--- The operation of a motion is alike to it modulo any lattice.
-pub operation-alike : (c : Centering) (f : SpaceMotion) → Small f → Alike (pointsOf c) f (motionOf (operationOf f))
-unfolding motionOf
-operation-alike c f e = (
-  sym (operation-rotation f e),
-  rw (same-difference (f .translation) (vectorOf (operationOf f .translation)) (f .translation) (f .translation) refl (operation-translation f)) (congruent-reflexive (pointsOf c) (points c) (f .translation)),
-)
-
--- Lists of motions and of their operations have the same rotations.
-has-image : (f : SpaceMotion) (l : List SpaceMotion) → Small f → ((g : SpaceMotion) → Mem g l → Small g) → has sameTurn (operationOf f) (map operationOf l) ≡ has sameRotation f l
-unfolding has
-has-image f [] e h = refl
-has-image f (g ∷ l) e h = rw (← (same-image f g e (h g (here refl))), has-image f l e (λ k m. h k (there m)))
-
-distinct-image : {l : List SpaceMotion} → Distinct sameRotation l → ((g : SpaceMotion) → Mem g l → Small g) → Distinct sameTurn (map operationOf l)
-distinct-image nil h = nil
-distinct-image (cons {x = f} {l} new d) h =
-    cons (λ (t : T (has sameTurn (operationOf f) (map operationOf l))). new (rw (has-image f l (h f (here refl)) (λ g m. h g (there m))) at t)) (distinct-image d (λ g m. h g (there m)))
+use Rattle.space_group.specs.OperationGrowth.{Small, operation-rotation, operation-alike, keeps-alike, motionGrowth, operationForms, identity-operation}
+use Rattle.space_group_theorems.specs.Acceptance.{Accepted, accepted-whole, lists, motions-keep}
 
 module _ (c : Centering) (gens operations : List Operation) (steps : List ℕ) (A : Accepted c gens operations steps) where
   -- The motions that the operations are made of.
@@ -57,21 +39,31 @@ module _ (c : Centering) (gens operations : List Operation) (steps : List ℕ) (
   pub member-small : (f : SpaceMotion) → Generated gens f → Small f
   member-small f r = A .small (f .rotation) (f, r, refl)
 
+  -- The operations are theirs.
+  pub member-listed : (o : Operation) → Mem o operations → Mem o (map operationOf list)
+  member-listed o m = rw (A .operations-are) at m
+
+  pub listed-member : (o : Operation) → Mem o (map operationOf list) → Mem o operations
+  listed-member o m = rw (A .operations-are) m
+
   -- A member comes from a generated motion.
   pub member-motion : (o : Operation) → Mem o operations → (f : SpaceMotion) × Mem f list × (operationOf f ≡ o)
-  member-motion o m = mem-of-map operationOf list (rw (A .operations-are) at m)
+  member-motion o m = mem-of-map operationOf list (member-listed o m)
 
   -- A motion of the list gives a member.
   pub motion-member : (f : SpaceMotion) → Mem f list → Mem (operationOf f) operations
-  motion-member f m = rw (A .operations-are) (mem-map operationOf m)
+  motion-member f m = listed-member (operationOf f) (mem-map operationOf m)
+
+  -- Their growth.
+  kept : OkGenerators (motionGrowth c) (motions gens)
+  kept = motions-keep c gens (A .keep)
+
+  whole : Whole (motionGrowth c) (motions gens) 48 list steps
+  whole = accepted-whole c gens operations steps A
 
   -- Two generated motions with one rotation have translations in one class.
   pub one-class : (f g : SpaceMotion) → Generated gens f → Generated gens g → f .rotation ≡ g .rotation → Alike (pointsOf c) f g
-  one-class f g r t p =
-      let M = motions-keyed (pointsOf c) (points c) in
-      let keep = motions-keep c gens list (A .listed) (A .keep) in
-      let steady = steady-unit-key sameRotation (Alike (pointsOf c)) (Keeps (pointsOf c)) compose identity M (motions gens) keep reached .1 (λ h s q. let u = same-rotation h identity q in alike-identity (pointsOf c) (points c) h .1 (u, A .one h s u)) in
-      steady-each-key sameRotation (Alike (pointsOf c)) (Keeps (pointsOf c)) compose identity M (motions gens) keep reached .0 steady f g r t (rotation-same f g p)
+  one-class f g r t p = growing.one-class (motionGrowth c) (motions gens) kept 48 list steps whole f g r t (rotation-same f g p)
 
   -- ---- the list
   -- It starts with the identity.
@@ -83,13 +75,12 @@ module _ (c : Centering) (gens operations : List Operation) (steps : List ℕ) (
 
   -- It holds at most 48.
   pub at-most-48 : length operations ≤ 48
-  unfolding listing
-  at-most-48 = omega (arith, ap length (A .operations-are), length-map list operationOf, closure-length sameRotation compose identity (motions gens) 48 list (A .listed))
+  at-most-48 = omega (arith, ap length (A .operations-are), length-map list operationOf, growing.at-most (motionGrowth c) (motions gens) kept 48 list steps whole)
 
   -- Every generated rotation is there,
   pub rotation-there : (R : Matrix) → GeneratedRotation gens R → (o : Operation) × Mem o operations × (matrixOf (o .rotation) ≡ R)
   rotation-there R (f, r, p) =
-      let (g, m, s) = has-member sameRotation f list (reached .complete f r) in
+      let (g, m, s) = growing.key-there (motionGrowth c) (motions gens) kept 48 list steps whole f r in
       (operationOf g, motion-member g m, operation-rotation g (member-small g (reached .sound g m)) ∙ sym (same-rotation f g s) ∙ p)
 
   -- nothing else is,
@@ -100,7 +91,7 @@ module _ (c : Centering) (gens operations : List Operation) (steps : List ℕ) (
 
   -- and none twice.
   pub rotations-once : Distinct sameTurn operations
-  rotations-once = rw (A .operations-are) (distinct-image (reached .distinct) (λ f m. member-small f (reached .sound f m)))
+  rotations-once = rw (A .operations-are) (growing.forms-once (motionGrowth c) (motions gens) kept 48 list steps whole (operationForms c))
 
   -- ---- the translations
   -- Each is below 12.
@@ -131,90 +122,29 @@ module _ (c : Centering) (gens operations : List Operation) (steps : List ℕ) (
   -- A motion that is alike to a generated one is alike to a member.
   pub near-member : (f g : SpaceMotion) → Alike (pointsOf c) f g → Generated gens g → (o : Operation) × Mem o operations × Alike (pointsOf c) f (motionOf o)
   near-member f g near r =
-      let (h, m, s) = has-member sameRotation g list (reached .complete g r) in
-      let t = reached .sound h m in
-      let M = motions-keyed (pointsOf c) (points c) in
-      (operationOf h, motion-member h m, M .alike-transitive f g (motionOf (operationOf h)) near (M .alike-transitive g h (motionOf (operationOf h)) (one-class g h r t (same-rotation g h s)) (operation-alike c h (member-small h t))))
+      let (o, m, close) = growing.near-member (motionGrowth c) (motions gens) kept 48 list steps whole (operationForms c) f g near r in
+      (o, listed-member o m, close)
 
   -- A member is alike to a generated motion.
   pub member-near : (o : Operation) → Mem o operations → (f : SpaceMotion) × Generated gens f × Alike (pointsOf c) f (motionOf o)
-  member-near o m =
-      let (f, k, p) = member-motion o m in
-      let r = reached .sound f k in
-      (f, r, subst (λ o. Alike (pointsOf c) f (motionOf o)) p (operation-alike c f (member-small f r)))
+  member-near o m = growing.member-near (motionGrowth c) (motions gens) kept 48 list steps whole (operationForms c) o (member-listed o m)
 
   -- Generated motions keep L.
   pub generated-keeps : (f : SpaceMotion) → Generated gens f → Keeps (pointsOf c) f
-  generated-keeps f r = reached-ok (Keeps (pointsOf c)) compose identity (motions-monoid (pointsOf c) (points c)) (motions gens) (motions-keep c gens list (A .listed) (A .keep)) r
-
-  -- Products of generated motions are generated.
-  pub generated-product : (f g : SpaceMotion) → Generated gens f → Generated gens g → Generated gens (compose f g)
-  generated-product f g r t = reached-product (Keeps (pointsOf c)) compose identity (motions-monoid (pointsOf c) (points c)) (motions gens) (motions-keep c gens list (A .listed) (A .keep)) r t
-
-  -- Products of alike motions, where the left ones keep L.
-  pub alike-product : (f g h k : SpaceMotion) → Keeps (pointsOf c) f → Keeps (pointsOf c) g → Keeps (pointsOf c) h → Keeps (pointsOf c) k → Alike (pointsOf c) f h → Alike (pointsOf c) g k → Alike (pointsOf c) (compose f g) (compose h k)
-  alike-product f g h k keep-f keep-g keep-h keep-k p q =
-      let M = motions-keyed (pointsOf c) (points c) in
-      M .alike-transitive (compose f g) (compose f k) (compose h k) (M .alike-left f g k keep-f keep-g keep-k q) (M .alike-right f h k keep-f keep-h keep-k p)
+  generated-keeps = growing.generated-ok (motionGrowth c) (motions gens) kept
 
   -- A motion alike to one that keeps L keeps L.
   pub alike-keeps : (f g : SpaceMotion) → Alike (pointsOf c) f g → Keeps (pointsOf c) f → Keeps (pointsOf c) g
-  alike-keeps f g near keep = rw (near .0) at keep
+  alike-keeps = keeps-alike c
 
   -- Any product of two members is, modulo L, a member.
   pub product-member : (o p : Operation) → Mem o operations → Mem p operations → (q : Operation) × Mem q operations × Alike (pointsOf c) (compose (motionOf o) (motionOf p)) (motionOf q)
   product-member o p m k =
-      let M = motions-keyed (pointsOf c) (points c) in
-      let (f, r, near) = member-near o m in
-      let (g, t, close) = member-near p k in
-      let keep-f = generated-keeps f r in
-      let keep-g = generated-keeps g t in
-      let same = alike-product f g (motionOf o) (motionOf p) keep-f keep-g (alike-keeps f (motionOf o) near keep-f) (alike-keeps g (motionOf p) close keep-g) near close in
-      near-member (compose (motionOf o) (motionOf p)) (compose f g) (M .alike-symmetric (compose f g) (compose (motionOf o) (motionOf p)) same) (generated-product f g r t)
-
-  -- Each rotation of the list has a listed inverse: multiplication from the right takes the finitely many rotations to one another.
-  rotation-inverse : (g : SpaceMotion) → Generated gens g → (f : SpaceMotion) × Generated gens f × (compose f g .rotation ≡ unit)
-  rotation-inverse g r =
-      let (h, m, s) = has-member sameRotation identity (map (λ f. compose f g) list) onto in
-      let (f, k, p) = mem-of-map (λ f. compose f g) list m in
-      (f, reached .sound f k, ap (λ h. h .rotation) p ∙ sym (same-rotation identity h s))
-    where
-      injective : Injective sameRotation (λ f. compose f g) list
-      injective f h m k s = motions-keyed (pointsOf c) (points c) .key-cancel f h g (generated-keeps f (reached .sound f m)) (generated-keeps h (reached .sound h k)) (generated-keeps g r) s
-
-      into : (f : SpaceMotion) → Mem f list → T (has sameRotation (compose f g) list)
-      into f m = reached .complete (compose f g) (generated-product f g (reached .sound f m) r)
-
-      onto : T (has sameRotation identity (map (λ f. compose f g) list))
-      onto = injection-onto sameRotation rotation-equivalence (λ f. compose f g) list injective (reached .distinct) into identity (reached .complete identity start)
-
-  -- A left inverse of a rotation is a right inverse.
-  other-side : (g f : SpaceMotion) → Generated gens g → Generated gens f → compose f g .rotation ≡ unit → compose g f .rotation ≡ unit
-  other-side g f r t p =
-      let around = ap (λ h. h .rotation) (compose-assoc g f g) ∙ compose-rotation g (compose f g) ∙ ap (times (g .rotation)) p ∙ times-unit (g .rotation) ∙ sym (ap (λ h. h .rotation) (identity-compose g)) in
-      same-rotation (compose g f) identity
-      (motions-keyed (pointsOf c) (points c) .key-cancel (compose g f) identity g (generated-keeps (compose g f) (generated-product g f r t)) (generated-keeps identity start) (generated-keeps g r) (rotation-same (compose (compose g f) g) (compose identity g) around))
-
-  -- A generated motion has a generated left inverse, modulo L.
-  motion-inverse : (g : SpaceMotion) → Generated gens g → (f : SpaceMotion) × Generated gens f × Alike (pointsOf c) (compose f g) identity
-  motion-inverse g r =
-      let (f, t, p) = rotation-inverse g r in
-      (f, t, one-class (compose f g) identity (generated-product f g t r) start p)
+      let (q, n, close) = growing.product-member (motionGrowth c) (motions gens) kept 48 list steps whole (operationForms c) o p (member-listed o m) (member-listed p k) in
+      (q, listed-member q n, close)
 
   -- Each member has an inverse in the list, modulo L, on either side.
   pub inverse-member : (o : Operation) → Mem o operations → (p : Operation) × Mem p operations × Alike (pointsOf c) (compose (motionOf p) (motionOf o)) identity × Alike (pointsOf c) (compose (motionOf o) (motionOf p)) identity
   inverse-member o m =
-      let M = motions-keyed (pointsOf c) (points c) in
-      let (g, r, close) = member-near o m in
-      let (f, t, left) = motion-inverse g r in
-      let right : Alike (pointsOf c) (compose g f) identity = one-class (compose g f) identity (generated-product g f r t) start (other-side g f r t (left .0)) in
-      let (p, k, near) = near-member f f (M .alike-reflexive f) t in
-      let keep-f = generated-keeps f t in
-      let keep-g = generated-keeps g r in
-      let keep-o = alike-keeps g (motionOf o) close keep-g in
-      let keep-p = alike-keeps f (motionOf p) near keep-f in (
-        p,
-        k,
-        M .alike-transitive (compose (motionOf p) (motionOf o)) (compose f g) identity (M .alike-symmetric (compose f g) (compose (motionOf p) (motionOf o)) (alike-product f g (motionOf p) (motionOf o) keep-f keep-g keep-p keep-o near close)) left,
-        M .alike-transitive (compose (motionOf o) (motionOf p)) (compose g f) identity (M .alike-symmetric (compose g f) (compose (motionOf o) (motionOf p)) (alike-product g f (motionOf o) (motionOf p) keep-g keep-f keep-o keep-p close near)) right,
-      )
+      let (p, k, left, right) = growing.inverse-member (motionGrowth c) (motions gens) kept 48 list steps whole (operationForms c) o (member-listed o m) in
+      (p, listed-member p k, left, right)

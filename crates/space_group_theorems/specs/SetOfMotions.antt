@@ -1,21 +1,22 @@
 -- The set of motions of an accepted symbol, all finite products of generators and translations by L, is the listed operations with L added.
-use mathlib.Core.Path.{_≡_, sym, _∙_, ap, subst}
+use mathlib.Core.Path.{_≡_, refl, sym, _∙_, ap, subst}
 use mathlib.Core.Logic.{_↔_}
 use mathlib.Core.List.{List, List·Memᴰ as Mem}
 use Prim.Native.Nat.{ℕ}
 use Rattle.laws.specs.Matrix.{Vector, times, act, unit, plus, opposite, times-unit, plus-assoc, plus-comm, plus-opposite, plus-origin}
 use Rattle.laws.specs.Motion.{SpaceMotion, product, compose, identity}
-use Rattle.laws.specs.Closure.{start, step}
 use Rattle.laws.specs.Lattice.{InLattice}
-use Rattle.laws.specs.MotionsModulo.{Alike, Keeps, motions-keyed}
+use Rattle.laws.specs.MotionsModulo.{Alike, Keeps}
+use Rattle.group_growth.specs.WholeSet as growing
+use Rattle.group_growth.specs.WholeSet.{Freedom}
 use Rattle.operation.specs.Meaning.{motionOf}
 use Rattle.operation.specs.declared.Operation.{Operation}
 use Rattle.centering.specs.Letters.{pointsOf}
-use Rattle.centering.specs.Lattices.{points}
 use Rattle.centering.specs.declared.Centering.{Centering}
-use Rattle.space_group.specs.Generated.{motions, Generated}
-use Rattle.space_group_theorems.specs.Acceptance.{Accepted, motions-keep}
-use Rattle.space_group_theorems.specs.Members.{member-near, near-member, generated-keeps}
+use Rattle.space_group.specs.Generated.{motions}
+use Rattle.space_group.specs.OperationGrowth.{motionGrowth, operationForms}
+use Rattle.space_group_theorems.specs.Acceptance.{Accepted, accepted-whole, motions-keep}
+use Rattle.space_group_theorems.specs.Members.{listed-member, member-listed}
 
 -- The translation by a vector.
 abbrev pub translationBy : Vector → SpaceMotion
@@ -26,11 +27,6 @@ pub data InSet (c : Centering) (gens : List Operation) : SpaceMotion → Type 0 
   origin : InSet c gens identity
   by-generator : {f g : SpaceMotion} → InSet c gens f → Mem g (motions gens) → InSet c gens (compose f g)
   by-lattice : {f : SpaceMotion} (v : Vector) → InSet c gens f → InLattice (pointsOf c) v → InSet c gens (compose f (translationBy v))
-
--- What is generated is in the set.
-pub generated-in : (c : Centering) (gens : List Operation) {f : SpaceMotion} → Generated gens f → InSet c gens f
-generated-in c gens start = origin
-generated-in c gens (step r m) = by-generator (generated-in c gens r) m
 
 -- A sum less one of its summands.
 sum-less : (v w : Vector) → plus (plus v w) (opposite w) ≡ v
@@ -48,37 +44,43 @@ translated f g v p e =
     let moved : plus (act (g .rotation) v) (g .translation) ≡ f .translation = ap (λ w. plus w (g .translation)) e ∙ less-sum (f .translation) (g .translation) in
     λ i. record { rotation = turn i; translation = moved i }
 
-module _ (c : Centering) (gens operations : List Operation) (steps : List ℕ) (A : Accepted c gens operations steps) where
+-- ---- what is free
+-- A translation by a vector of L.
+abbrev LatticeTranslation : Centering → SpaceMotion → Type 0
+LatticeTranslation c t = (v : Vector) × InLattice (pointsOf c) v × (t ≡ translationBy v)
+
+module _ (c : Centering) where
   -- A translation by a vector of L changes a motion that keeps L only modulo L.
   translated-alike : (f : SpaceMotion) (v : Vector) → Keeps (pointsOf c) f → InLattice (pointsOf c) v → Alike (pointsOf c) (compose f (translationBy v)) f
   unfolding product
   translated-alike f v keep m = (times-unit (f .rotation), rw (sum-less (act (f .rotation) v) (f .translation)) (keep .0 v m))
 
-  -- A motion of the set is alike to a generated one.
-  set-near : {f : SpaceMotion} → InSet c gens f → (g : SpaceMotion) × Generated gens g × Alike (pointsOf c) f g
-  set-near origin = (identity, start, motions-keyed (pointsOf c) (points c) .alike-reflexive identity)
-  set-near (by-generator {f} {g = h} s m) =
-      let (g, r, near) = set-near s in
-      let keep-g = generated-keeps c gens operations steps A g r in
-      let keep-f : Keeps (pointsOf c) f = rw (near .0) keep-g in
-      (compose g h, step r m, motions-keyed (pointsOf c) (points c) .alike-right f g h keep-f keep-g (motions-keep c gens (A .list) (A .listed) (A .keep) h m) near)
-  set-near (by-lattice {f} v s m) =
-      let (g, r, near) = set-near s in
-      let keep-f : Keeps (pointsOf c) f = rw (near .0) (generated-keeps c gens operations steps A g r) in
-      (g, r, motions-keyed (pointsOf c) (points c) .alike-transitive (compose f (translationBy v)) f g (translated-alike f v keep-f m) near)
+  -- A motion alike to one that keeps L is that one times a translation by a vector of L.
+  translations-free : Freedom (motionGrowth c) (LatticeTranslation c)
+  translations-free = record {
+    free-alike = λ f t keep (v, m, e). rw e (translated-alike f v keep m);
+    alike-free = λ f g keep (p, class).
+        let (v, m, e) = keep .1 (plus (f .translation) (opposite (g .translation))) class in
+        (translationBy v, (v, m, refl), translated f g v p e);
+  }
 
-  -- A motion alike to a generated one is that one times a translation by a vector of L.
-  near-set : (f g : SpaceMotion) → Generated gens g → Alike (pointsOf c) f g → InSet c gens f
-  near-set f g r (p, class) =
-      let (v, m, e) = generated-keeps c gens operations steps A g r .1 (plus (f .translation) (opposite (g .translation))) class in
-      subst (InSet c gens) (translated f g v p e) (by-lattice v (generated-in c gens r) m)
+  module _ (gens : List Operation) where
+    -- The set is that of the generators and what is free.
+    in-growing : {f : SpaceMotion} → InSet c gens f → growing.InSet (motionGrowth c) (LatticeTranslation c) (motions gens) f
+    in-growing origin = growing.origin
+    in-growing (by-generator s m) = growing.by-generator (in-growing s) m
+    in-growing (by-lattice v s m) = growing.by-free (in-growing s) (v, m, refl)
 
+    growing-in : {f : SpaceMotion} → growing.InSet (motionGrowth c) (LatticeTranslation c) (motions gens) f → InSet c gens f
+    growing-in growing.origin = origin
+    growing-in (growing.by-generator s m) = by-generator (growing-in s) m
+    growing-in (growing.by-free {x} s (v, m, e)) = subst (λ t. InSet c gens (compose x t)) (sym e) (by-lattice v (growing-in s) m)
+
+module _ (c : Centering) (gens operations : List Operation) (steps : List ℕ) (A : Accepted c gens operations steps) where
   -- The set of motions is the listed operations with L added.
   pub set-exactly : (f : SpaceMotion) → InSet c gens f ↔ ((o : Operation) × Mem o operations × Alike (pointsOf c) f (motionOf o))
-  set-exactly f = (
-    (λ s. let (g, r, near) = set-near s in near-member c gens operations steps A f g near r),
-    λ (o, m, near).
-        let (g, r, close) = member-near c gens operations steps A o m in
-        let M = motions-keyed (pointsOf c) (points c) in
-        near-set f g r (M .alike-transitive f (motionOf o) g near (M .alike-symmetric g (motionOf o) close)),
-  )
+  set-exactly f =
+      let exactly = growing.set-exactly (motionGrowth c) (LatticeTranslation c) (motions gens) (translations-free c) (motions-keep c gens (A .keep)) 48 (A .list) steps (accepted-whole c gens operations steps A) (operationForms c) f in (
+        (λ s. let (o, m, near) = exactly .0 (in-growing c gens s) in (o, listed-member c gens operations steps A o m, near)),
+        λ (o, m, near). growing-in c gens (exactly .1 (o, member-listed c gens operations steps A o m, near)),
+      )

@@ -1,5 +1,5 @@
 -- The steps of an accepted symbol: with n generators, index i·n + j holds the index of the member that is, modulo L, member i times generator j.
-use mathlib.Core.Path.{_≡_, refl, sym, _∙_, ap, subst}
+use mathlib.Core.Path.{_≡_, sym, _∙_, ap, subst}
 use mathlib.Core.List.{List, [], _∷_, map, List·Memᴰ as Mem}
 use Prim.Native.Nat.{ℕ, zero, suc, _+_, _*_, _<_}
 use native.Mathlib.Omega.{arith}
@@ -12,6 +12,7 @@ use Rattle.laws.specs.SameMatrix.{sameRotation, same-rotation}
 use Rattle.laws.specs.MotionsModulo.{Alike, motions-keyed}
 use Rattle.laws.specs.Growth.{place}
 use Rattle.laws.specs.GrowthClosure.{place-lt, place-same, stepsFrom}
+use Rattle.group_growth.specs.Lists.{member-at, image-at}
 use Rattle.operation.specs.Meaning.{motionOf}
 use Rattle.operation.specs.Product.{identityOperation, operationOf}
 use Rattle.operation.specs.declared.Operation.{Operation}
@@ -19,14 +20,9 @@ use Rattle.centering.specs.Letters.{pointsOf}
 use Rattle.centering.specs.Lattices.{points}
 use Rattle.centering.specs.declared.Centering.{Centering}
 use Rattle.space_group.specs.Generated.{motions, Generated, isSmall, sameVectorClass}
-use Rattle.space_group_theorems.specs.Acceptance.{Accepted, lists, member-at, motions-keep}
-use Rattle.space_group_theorems.specs.Members.{one-class, member-small, operation-alike, generated-keeps, alike-keeps}
-
--- What stands in the image of a list.
-image-at : {A B : Type 0} (f : A → B) (l : List A) (i : ℕ) (d : A) (e : B) → i < length l → getD (map f l) i e ≡ f (getD l i d)
-image-at f [] i d e h = absurd (omega arith)
-image-at f (x ∷ l) zero d e h = refl
-image-at f (x ∷ l) (suc i) d e h = image-at f l i d e (omega arith)
+use Rattle.space_group.specs.OperationGrowth.{operation-alike}
+use Rattle.space_group_theorems.specs.Acceptance.{Accepted, lists, motions-keep}
+use Rattle.space_group_theorems.specs.Members.{one-class, member-small, generated-keeps, alike-keeps}
 
 module _ (c : Centering) (gens : List SpaceMotion) (l : List SpaceMotion) where
   -- The indices of the products of some motions with the generators.
@@ -126,7 +122,7 @@ module _ (c : Centering) (gens operations : List Operation) (steps : List ℕ) (
         let M = motions-keyed (pointsOf c) (points c) in
         let near = member-alike i (omega (arith, same-length)) in
         let keep = generated-keeps c gens operations steps A left left-generated in
-        let keep-right = motions-keep c gens (A .list) (A .listed) (A .keep) right right-member in
+        let keep-right = motions-keep c gens (A .keep) right right-member in
         M .alike-right left (motionOf (getD operations i identityOperation)) right keep (alike-keeps c gens operations steps A left (motionOf (getD operations i identityOperation)) near keep) keep-right near
 
     -- Member i times generator j is, modulo L, the member whose index is noted.
