@@ -295,12 +295,6 @@ module _ {A : Type 0} (Ok : A → Type 0) (_·_ : A → A → A) (unit : A) wher
     reached-ok start = M .ok-unit
     reached-ok (step {x} {g} r m) = M .ok-product x g (reached-ok r) (ok-gens g m)
 
-    -- a generator is reached
-    pub reached-generator : {g : A} → Mem g gens → Reached _·_ unit gens g
-    reached-generator {g} m =
-        let one-step : Reached _·_ unit gens (unit · g) = step start m in
-        rw (M .left-unit g (ok-gens g m)) at one-step
-
     -- the product of two reached elements is reached
     pub reached-product : {x y : A} → Reached _·_ unit gens x → Reached _·_ unit gens y → Reached _·_ unit gens (x · y)
     reached-product {x} r start = rw (M .right-unit x (reached-ok r)) r

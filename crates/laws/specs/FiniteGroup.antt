@@ -43,10 +43,6 @@ module _ {A : Type 0} (same : A → A → Bool) (_·_ : A → A → A) (unit : A
     pub inverse-unique : (x y z : A) → Mem x elements → Mem y elements → Mem z elements → y · x ≡ unit → z · x ≡ unit → y ≡ z
     inverse-unique x y z m k h p q = cancel-right x y z m k h (p ∙ sym q)
 
-    -- a left inverse is a right inverse
-    pub inverse-commutes : (x y : A) → Mem x elements → Mem y elements → y · x ≡ unit → x · y ≡ unit
-    inverse-commutes x y m k p = let (z, n, zx, xz) = G .inverse x m in rw (inverse-unique x y z m k n p zx) xz
-
     -- only the unit leaves a right factor as it is
     pub unit-unique : (x y : A) → Mem x elements → Mem y elements → x · y ≡ y → x ≡ unit
     unit-unique x y m k p = cancel-right y x unit k m (G .holds-unit) (p ∙ sym (G .left-unit y k))
@@ -164,7 +160,3 @@ module _ {A : Type 0} (same : A → A → Bool) (D : DecidesEquality same) (_·_
   -- a nonempty set that products stay in is a subgroup
   pub closed-subgroup : (x : A) → Mem x elements → Inside x → Subgroup _·_ unit elements Inside
   closed-subgroup x m i = record { unit-inside = closed-unit x m i; product-inside = closed; inverse-inside = closed-inverse }
-
-  -- so is a set that holds the unit and that products stay in
-  pub closed-with-unit : Inside unit → Subgroup _·_ unit elements Inside
-  closed-with-unit i = closed-subgroup unit (G .holds-unit) i

@@ -4,12 +4,12 @@
 use mathlib.Core.Path.{_≡_, refl, _∙_, ap, ap₂}
 use mathlib.Core.Logic.{_↔_}
 use mathlib.Core.Bool.{Bool, true, false}
-use mathlib.Core.Option.{some, Option·map}
+use mathlib.Core.Option.{Option·map}
 use mathlib.Core.List.{List, [], _∷_, _++_, map, map-append, List·Memᴰ as Mem, List·Memᴰ·head as here, Memᴰ·of-map as mem-of-map}
 use Prim.Native.Nat.{ℕ, zero, suc}
 use lib.Dec.{T}
 use Rattle.laws.specs.Distinct.{has, Equivalence, has-member, distinct-equal, Injective, injection-onto}
-use Rattle.laws.specs.Closure.{Reached, start, step, fresh, run, closure, Congruence, ListsReached, closure-lists, Monoid, reached-ok, reached-product}
+use Rattle.laws.specs.Closure.{Reached, start, step, fresh, run, closure, Congruence, ListsReached, Monoid, reached-ok, reached-product}
 
 -- ---- the keys of the closure are the closure of the keys
 
@@ -189,8 +189,3 @@ module _ {A : Type 0} (same : A → A → Bool) (_≈_ : A → A → Type 0) (Ok
       -- every step comes back to the list exactly if every reached element with the key of the unit is alike to the unit
       pub steady-unit-key : Steady _≈_ _·_ gens l ↔ ((x : A) → Reached _·_ unit gens x → T (same x unit) → x ≈ unit)
       steady-unit-key = ((λ steady x r s. steady→one steady x unit r start s), λ one. one→steady (unit→each one))
-
-    -- the same of a closure that ends within its limit
-    pub closure-steady : (n : ℕ) (l : List A) → closure same _·_ unit gens n ≡ some l
-        → Steady _≈_ _·_ gens l ↔ ((x : A) → Reached _·_ unit gens x → T (same x unit) → x ≈ unit)
-    closure-steady n l p = steady-unit-key (closure-lists same _·_ unit gens (M .key-equivalence) key-congruence n l p)

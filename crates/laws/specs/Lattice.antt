@@ -355,9 +355,6 @@ all-filled (suc n) test [] h = tt
 all-filled (suc n) test (p ∷ l) h = both (test p) _ (and-left (test p) _ h) (all-filled n test l (and-right (test p) _ h))
 
 module _ (l : List Triple) (L : Points l) where
-  pub all-filled-same : (n : ℕ) (test : Triple → Bool) → all test (filled n l) ≡ all test l
-  all-filled-same n test = same-test _ _ (all-filled n test l) (λ h. filled-all n test l (all-member test h (L .holds-zero)) h)
-
   pub has-filled-same : (n : ℕ) (t : Triple) → has sameTriple t (filled n l) ≡ has sameTriple t l
   has-filled-same n t =
       same-test _ _

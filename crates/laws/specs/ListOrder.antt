@@ -291,10 +291,6 @@ smaller-holds-lowest n s t h k e d = elim (ℕ-discrete s t) [
   ]
 ]
 
--- for sets with equally many members, to hold the lowest difference is to have the lexicographically smaller ascending list
-pub lowest-lexicographic : (n s t : ℕ) → s < 2 ^ n → t < 2 ^ n → ones s ≡ ones t → HoldsLowest s t ↔ Lexᴰ _<_ (members n s) (members n t)
-lowest-lexicographic n s t h k e = (holds-lowest-smaller n s t h k e, smaller-holds-lowest n s t h k e)
-
 -- the Rust's comparison of two subgroups, which are sorted vectors there: the longer one first, then the lexicographically smaller one
 abbrev pub LongerOrSmaller : List ℕ → List ℕ → Type 0
 LongerOrSmaller l m = (length m < length l) ⊎ ((length l ≡ length m) × Lexᴰ _<_ l m)

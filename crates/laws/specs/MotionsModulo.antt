@@ -19,11 +19,6 @@ pub compose-rotation : (f g : SpaceMotion) → compose f g .rotation ≡ times (
 unfolding product
 compose-rotation f g = refl
 
--- the translation of a product
-pub compose-translation : (f g : SpaceMotion) → compose f g .translation ≡ plus (act (f .rotation) (g .translation)) (f .translation)
-unfolding product
-compose-translation f g = refl
-
 -- ---- determinants
 
 -- the determinant of the unit

@@ -5,7 +5,7 @@ use native.Mathlib.Omega.{arith}
 use native.Mathlib.Nat.{div-add-mod', mul-comm}
 use lib.IntN.{ℤ, pos, negsuc, negℤ, sucℤ, predℤ, _+ℤ_, _*ℤ_, +ℤ-idl, sucℤ-+ℤ, predℤ-+ℤ, zero-*ℤ, sucℤ-*ℤ, predℤ-*ℤ}
 use Rattle.laws.specs.Integer.{integer-induction}
-use Rattle.laws.specs.Matrix.{Matrix, Vector, act, plus, opposite, times, unit, act-times, act-unit, act-plus}
+use Rattle.laws.specs.Matrix.{Matrix, Vector, act, plus, opposite, times, unit, act-times, act-unit}
 
 -- The one number below 12 that differs from a by a multiple of 12.
 unfoldable pub residue : ℤ → ℕ
@@ -159,28 +159,8 @@ pub turned-unit : (t : Triple) → Reduced t → turned unit t ≡ t
 unfolding turned
 turned-unit t h = ap reduced (act-unit (lifted t)) ∙ reduced-lifted t h
 
-lifted-sum : (s t : Triple) → reduced (lifted (s ⊕ t)) ≡ reduced (plus (lifted s) (lifted t))
-unfolding _⊕_ plus residue
-lifted-sum s t = triple≡ (omega arith) (omega arith) (omega arith)
-
-pub turned-sum : (R : Matrix) (s t : Triple) → turned R (s ⊕ t) ≡ turned R s ⊕ turned R t
-unfolding turned
-turned-sum R s t =
-    act-residues R _ _ (lifted-sum s t) ∙ ap reduced (act-plus R (lifted s) (lifted t)) ∙ reduced-plus (act R (lifted s)) (act R (lifted t))
-
 -- ---- triples as a group under ⊕
-pub ⊕-assoc : (r s t : Triple) → r ⊕ s ⊕ t ≡ r ⊕ (s ⊕ t)
-unfolding _⊕_
-⊕-assoc r s t = triple≡ (omega arith) (omega arith) (omega arith)
-
-pub ⊕-comm : (s t : Triple) → s ⊕ t ≡ t ⊕ s
-unfolding _⊕_
-⊕-comm s t = triple≡ (omega arith) (omega arith) (omega arith)
 
 pub ⊕-reduced : (s t : Triple) → Reduced (s ⊕ t)
 unfolding _⊕_
 ⊕-reduced s t = omega arith
-
-pub ⊕-minus : (s t : Triple) → Reduced s → s ⊕ t ⊕ minus t ≡ s
-unfolding _⊕_ minus
-⊕-minus s t h = triple≡ (omega arith) (omega arith) (omega arith)

@@ -13,7 +13,7 @@ use borrow.Author.Tests.{eq-eqb, ne-eqb, eqb-true}
 use lib.Dec.{eqb, lit<, eqb·zero-suc, eqb·suc-zero, eqb·suc-suc}
 use lib.Arith.{lt-one}
 use lib.Pow.{pow-pos, pow-lt, pow-mono}
-use lib.Bits.{bitAnd, bitOr, bitXor, and-shr, or-shr, xor-shr, and-mod, or-mod, xor-mod, or-lt, and-le-r, or-disjoint, or-shifted-r, and-mask}
+use lib.Bits.{bitAnd, bitOr, bitXor, and-shr, or-shr, xor-shr, and-mod, or-mod, xor-mod, or-lt, and-le-r, or-disjoint, or-shifted-r}
 use lib.Count.{ones, onesIn, ones-step, trailingZeros, under}
 use lib.ListN.{length, getD, length-append}
 use lib.Seq.{getD-append-seam}
@@ -253,13 +253,6 @@ no-common s i e = no-members _ apart
 pub or-new : (s i : ℕ) → member s i ≡ false → bitOr s (2 ^ i) ≡ s + 2 ^ i
 or-new s i e = or-disjoint s (2 ^ i) (no-common s i e)
 
--- the bitwise or with an old member changes nothing
-pub or-old : (s i : ℕ) → member s i ≡ true → bitOr s (2 ^ i) ≡ s
-or-old s i e = same-sets _ s (λ j. with-member s i j ∙ elim (ℕ-discrete i j) [
-  | yes q ↦ rw (← q, e)
-  | no q ↦ rw (ne-eqb i j q) (or-false (member s j))
-])
-
 -- the sum with 2 ^ i adds a new member i
 pub member-add : (s i j : ℕ) → member s i ≡ false → member (s + 2 ^ i) j ≡ (member s j || eqb i j)
 member-add s i j e = ap (λ (k : ℕ). member k j) (sym (or-new s i e)) ∙ with-member s i j
@@ -269,22 +262,6 @@ pub add-below : (n s i : ℕ) → i < n → s < 2 ^ n → member s i ≡ false �
 add-below n s i h k e = rw (← or-new s i e) (or-lt n s (2 ^ i) k (pow-lt h))
 
 -- ---- the tests of one digit that code makes
-
--- digit i, shifted to the end and cut off, says whether i is a member
-pub member-shifted : (s i : ℕ) → eqb (bitAnd (s / 2 ^ i) 1) 1 ≡ member s i
-unfolding member
-member-shifted s i = ap (λ (k : ℕ). eqb k 1) (and-mask (s / 2 ^ i) 1)
-
--- with the other digits cut off, nothing is left when i is no member
-pub member-masked : (s i : ℕ) → eqb (bitAnd s (2 ^ i)) 0 ≡ not (member s i)
-member-masked s i = either (member s i) refl
-  where
-    common : member s i ≡ true → member (bitAnd s (2 ^ i)) i ≡ true
-    common e = member-and s (2 ^ i) i ∙ rw (e, member-singleton i i) (eq-eqb i i refl)
-
-    either : (b : Bool) → member s i ≡ b → eqb (bitAnd s (2 ^ i)) 0 ≡ not b
-    either true e = ne-eqb _ 0 (λ none. true≢false (sym (common e) ∙ ap (λ (k : ℕ). member k i) none ∙ member-empty i))
-    either false e = eq-eqb _ 0 (no-common s i e)
 
 -- ---- subsets
 

@@ -10,9 +10,9 @@ use native.Mathlib.Omega.{arith}
 use native.Mathlib.Decide.{decLt}
 use lib.Dec.{T}
 use lib.ListN.{length, getElem?}
-use Rattle.laws.specs.Distinct.{has, Distinct, nil, cons, Equivalence, has-member}
+use Rattle.laws.specs.Distinct.{has, Equivalence, has-member}
 use Rattle.laws.specs.Closure.{Reached, start, step}
-use Rattle.laws.specs.Sorted.{StrictOrder, Sorted, sorted-nil, sorted-cons, unique}
+use Rattle.laws.specs.Sorted.{StrictOrder, Sorted, unique}
 use Rattle.laws.specs.OrderedClosure.{AtMost}
 
 -- ---- words and their order
@@ -80,18 +80,6 @@ shortlex-strict = record { irreflexive = irreflexive; transitive = transitive }
     transitive w v u (inl h) (inr (q, e)) = inl (omega arith)
     transitive w v u (inr (p, d)) (inl k) = inl (omega arith)
     transitive w v u (inr (p, d)) (inr (q, e)) = inr (p ∙ q, difference-transitive d e)
-
--- of two different words one comes before the other
-pub shortlex-total : (w v : Word) → w ≢ v → Shortlex w v ⊎ Shortlex v w
-shortlex-total w v h = elim (decLt (length w) (length v)) [
-  | yes shorter ↦ inl (inl shorter)
-  | no not-shorter ↦ elim (decLt (length v) (length w)) [
-    | yes longer ↦ inr (inl longer)
-    | no not-longer ↦
-        let p : length w ≡ length v = omega arith in
-        elim (difference-total w v p h) [ inl d ↦ inl (inr (p, d)) | inr d ↦ inr (inr (sym p, d)) ]
-  ]
-]
 
 -- two words that are each at most the other are equal
 shortlex-antisymmetric : (w v : Word) → AtMost Shortlex w v → AtMost Shortlex v w → w ≡ v
@@ -200,14 +188,3 @@ module _ {A G : Type 0} (same : A → A → Bool) (_·_ : A → G → A) (unit :
     -- only one list is in this order
     pub shortlex-list-unique : {l m : List A} → ShortlexList l → ShortlexList m → l ≡ m
     shortlex-list-unique L M = unique Earlier earlier-strict (L .ascending) (M .ascending) (shortlex-inside L M) (shortlex-inside M L)
-
-    -- it holds of each class one element
-    pub shortlex-list-distinct : {l : List A} → ShortlexList l → Distinct same l
-    shortlex-list-distinct L = apart (L .ascending)
-      where
-        clash : {x y : A} → T (same x y) → Earlier x y → ⊥
-        clash h (w, v, leastX, leastY, k) = shortlex-strict .irreflexive v (rw (least-word-unique h leastX leastY) at k)
-
-        apart : {l : List A} → Sorted Earlier l → Distinct same l
-        apart sorted-nil = nil
-        apart (sorted-cons {x} {l} first s) = cons (λ t. let (y, m, h) = has-member same x l t in clash h (first y m)) (apart s)
