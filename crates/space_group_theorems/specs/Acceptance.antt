@@ -152,11 +152,11 @@ module _ (gens : List Operation) where
   pub rotations-generated : (m : List SpaceMotion) → ((f : SpaceMotion) → Mem f m → Generated gens f) → (R : Matrix) → Mem R (map (λ f. f .rotation) m) → GeneratedRotation gens R
   rotations-generated m each R k = let (f, h, p) = mem-of-map (λ f. f .rotation) m k in (f, each f h, p)
 
-module _ (gens : List Operation) (l : List SpaceMotion) (e : listing gens ≡ some l) where
-  -- What the list is.
-  pub lists : ListsReached sameRotation compose identity (motions gens) l
-  unfolding listing
-  lists = closure-lists sameRotation compose identity (motions gens) rotation-equivalence (rotation-congruence (motions gens)) 48 l e
+  module _ (l : List SpaceMotion) (e : listing gens ≡ some l) where
+    -- What the list is.
+    pub lists : ListsReached sameRotation compose identity (motions gens) l
+    unfolding listing
+    lists = closure-lists sameRotation compose identity (motions gens) rotation-equivalence (rotation-congruence (motions gens)) 48 l e
 
 -- ---- what is generated, in the words of growth up to a limit
 module _ (c : Centering) (gens : List Operation) where
