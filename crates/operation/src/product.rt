@@ -3,6 +3,7 @@
 ghost use mathlib.Core.Path.{_≡_};
 ghost use Prim.Native.Nat.{_*_, _≤_};
 ghost use Rattle.operation.specs.Lanes.{lanesOf, rowsTimes, raisedColumn, foursOf};
+ghost use Rattle.operation.specs.Twelves.{reducedOf, belowOf, twelvesOf};
 ghost use Rattle.operation.specs.Product.{identityOperation, columnTimes, movedOf, rotatedOf, productOf};
 use super::Operation;
 use super::Rotation;
@@ -106,6 +107,47 @@ fn column_times(r: Rotation, a: u8, b: u8, c: u8) -> Column
     )
 }
 
+// Each lane's remainder by 512.
+fn below(n: u64) -> u64
+    ensures { λ r. ⌜ r ≡ belowOf n ⌝ }
+{
+    n % 512 + n / SECOND % 512 * SECOND + n / THIRD % 512 * THIRD
+}
+
+// How often 12 fits into each lane, where none holds 512 or more.
+fn twelves(n: u64) -> u64
+    requires { ⌜ n ≤ 2247402838819327 ⌝ }
+    ensures { λ r. ⌜ r ≡ twelvesOf n ⌝ }
+{
+    let fits = n * 171 / 2048;
+    fits % 64 + fits / SECOND % 64 * SECOND + fits / THIRD % 64 * THIRD
+}
+
+fn remainders(sum: u64) -> Translation
+    ensures { λ v. ⌜ v ≡ reducedOf sum ⌝ }
+{
+    Translation {
+        x: (sum % SECOND % 12) as u8,
+        y: (sum / SECOND % SECOND % 12) as u8,
+        z: (sum / THIRD % 12) as u8,
+    }
+}
+
+// Each lane modulo 12. Digits and twelfths give less than 512, and then 12 is taken off each lane as often as it fits, all at once.
+fn reduced(sum: u64) -> Translation
+    ensures { λ v. ⌜ v ≡ reducedOf sum ⌝ }
+{
+    if below(sum) != sum {
+        return remainders(sum);
+    }
+    let left = sum - twelves(sum) * 12;
+    Translation {
+        x: (left % 256) as u8,
+        y: (left / SECOND % 256) as u8,
+        z: (left / THIRD % 256) as u8,
+    }
+}
+
 // Ru + t modulo 12. An entry is a − 1, so modulo 12 it is a + 11.
 fn moved(r: Rotation, u: Translation, t: Translation) -> Translation
     ensures { λ v. ⌜ v ≡ movedOf r u t ⌝ }
@@ -113,11 +155,7 @@ fn moved(r: Rotation, u: Translation, t: Translation) -> Translation
     let sum = rows_times(r, u.x, u.y, u.z)
         + lanes(t.x, t.y, t.z)
         + (wide(u.x) + wide(u.y) + wide(u.z)) * (11 * EACH);
-    Translation {
-        x: (sum % SECOND % 12) as u8,
-        y: (sum / SECOND % SECOND % 12) as u8,
-        z: (sum / THIRD % 12) as u8,
-    }
+    reduced(sum)
 }
 
 // Rt modulo 12.
