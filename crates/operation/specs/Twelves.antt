@@ -1,5 +1,5 @@
--- Three coordinates in lanes modulo 12: where none holds 512 or more, 12 is taken off each as often as it fits, and how often that is one product finds
--- for all three.
+-- Three coordinates in lanes modulo 12 without a remainder: 1020, which is 85 times 12, is taken off as often as 1024 fits, and then 12 as often as it fits. How
+-- often that is, one division by a power of 2 finds for all three lanes.
 use mathlib.Core.Path.{_≡_, refl, sym, _∙_, ap, subst}
 use mathlib.Core.Bool.{true}
 use Prim.Native.Nat.{ℕ, _+_, _*_, _-_, _/_, _%_, _<_, _≤_}
@@ -7,7 +7,7 @@ use native.Mathlib.Omega.{arith}
 use borrow.Author.Tests.{eqb-true}
 use lib.Dec.{eqb}
 use Rattle.operation.specs.Below.{allBelow, below}
-use Rattle.operation.specs.Lanes.{lanesOf, lanes-times, first-byte, second-byte, third-byte}
+use Rattle.operation.specs.Lanes.{lanesOf, lanes-times, first-lane, second-lane, third-lane, first-byte, second-byte, third-byte}
 use Rattle.operation.specs.declared.Translation.{Translation}
 
 -- Each lane's remainder by 12.
@@ -19,101 +19,148 @@ reducedOf n =
       z = n / 4398046511104 % 12;
     }
 
--- Each lane's remainder by 512.
-unfoldable pub belowOf : ℕ → ℕ
-belowOf n = n % 512 + n / 2097152 % 512 * 2097152 + n / 4398046511104 % 512 * 4398046511104
-
--- How often 12 fits into each lane, if none holds 512 or more: 171 / 2048 is a little more than 1 / 12.
-unfoldable pub twelvesOf : ℕ → ℕ
-twelvesOf n =
-    let q = n * 171 / 2048 in
-    q % 64 + q / 2097152 % 64 * 2097152 + q / 4398046511104 % 64 * 4398046511104
+-- Each lane's lowest byte.
+unfoldable pub bytesOf : ℕ → ℕ
+bytesOf n = n % 256 + n / 2097152 % 256 * 2097152 + n / 4398046511104 % 256 * 4398046511104
 
 -- ---- one lane
-fits-test : allBelow 512 (λ n. eqb (n * 171 / 2048 * 12 + n % 12) n) ≡ true
+fits-test : allBelow 2040 (λ n. eqb (n * 683 / 8192 * 12 + n % 12) n) ≡ true
 unfolding allBelow
 fits-test = refl
 
--- Below 512, 12 taken off so often leaves the remainder.
-pub twelves-off : (n : ℕ) → n < 512 → n * 171 / 2048 * 12 + n % 12 ≡ n
-twelves-off n h = eqb-true _ _ (below 512 (λ n. eqb (n * 171 / 2048 * 12 + n % 12) n) fits-test n h)
+-- 683 / 8192 is a little more than 1 / 12: below 2040, 12 taken off so often leaves the remainder.
+twelves-off : (n : ℕ) → n < 2040 → n * 683 / 8192 * 12 + n % 12 ≡ n
+twelves-off n h = eqb-true _ _ (below 2040 (λ n. eqb (n * 683 / 8192 * 12 + n % 12) n) fits-test n h)
+
+-- What is left where 1020 is taken off as often as 1024 fits.
+abbrev small : ℕ → ℕ
+small n = n - n / 1024 * 1020
+
+small-below : (n : ℕ) → n < 261120 → small n < 2040
+small-below n h = omega arith
+
+small-remainder : (n : ℕ) → small n % 12 ≡ n % 12
+small-remainder n = omega arith
 
 -- ---- three lanes
--- Any number is its three lanes.
 three-lanes : (n : ℕ) → lanesOf (n % 2097152) (n / 2097152 % 2097152) (n / 4398046511104) ≡ n
 three-lanes n = omega arith
 
--- Numbers that lose nothing by a remainder of each lane.
-lanes-kept : (x y z : ℕ) → lanesOf (x % 512) (y % 512) (z % 512) ≡ lanesOf x y z → (x < 512) × (y < 512) × (z < 512)
-lanes-kept x y z e = (omega arith, omega arith, omega arith)
+lowest : (q m : ℕ) → q < 256 → (q + m * 256) % 256 ≡ q
+lowest q m h = omega arith
 
-below-lanes : (n : ℕ) → belowOf n ≡ lanesOf (n % 2097152 % 512) (n / 2097152 % 2097152 % 512) (n / 4398046511104 % 512)
-unfolding belowOf
-below-lanes n =
-    let first : n % 2097152 % 512 ≡ n % 512 = omega arith in
-    let second : n / 2097152 % 2097152 % 512 ≡ n / 2097152 % 512 = omega arith in
-    rw (first, second) refl
-
--- A number that loses nothing holds less than 512 in each lane.
-pub lanes-below : (n : ℕ) → belowOf n ≡ n → (n % 2097152 < 512) × (n / 2097152 % 2097152 < 512) × (n / 4398046511104 < 512)
-lanes-below n e = lanes-kept _ _ _ (sym (below-lanes n) ∙ e ∙ sym (three-lanes n))
-
--- Lanes that are divided by 2048 at once, and what each then holds below 64.
-module _ (x y z : ℕ) (hx : x < 131072) (hy : y < 131072) (hz : z < 131072) where
-  divided : lanesOf x y z / 2048 ≡ x / 2048 + y * 1024 + z * 2147483648
+module _ (x y z : ℕ) (hx : x < 261120) (hy : y < 261120) (hz : z < 261120) where
+  divided : lanesOf x y z / 1024 ≡ x / 1024 + (y * 8 + z * 16777216) * 256
   divided = omega arith
 
-  first-divided : lanesOf x y z / 2048 % 64 ≡ x / 2048
-  first-divided = rw divided (omega arith)
+  divided-second : lanesOf x y z / 1024 / 2097152 ≡ y / 1024 + z * 8 * 256
+  divided-second = rw divided (omega arith)
 
-  second-divided : lanesOf x y z / 2048 / 2097152 % 64 ≡ y / 2048
-  second-divided = rw divided (omega arith)
+  divided-third : lanesOf x y z / 1024 / 4398046511104 ≡ z / 1024 + 0 * 256
+  divided-third = rw divided (omega arith)
 
-  third-divided : lanesOf x y z / 2048 / 4398046511104 % 64 ≡ z / 2048
-  third-divided = rw divided (omega arith)
+  thousands : bytesOf (lanesOf x y z / 1024) ≡ lanesOf (x / 1024) (y / 1024) (z / 1024)
+  unfolding bytesOf
+  thousands =
+      let first = ap (λ n. n % 256) divided ∙ lowest (x / 1024) (y * 8 + z * 16777216) (omega arith) in
+      let second = ap (λ n. n % 256) divided-second ∙ lowest (y / 1024) (z * 8) (omega arith) in
+      let third = ap (λ n. n % 256) divided-third ∙ lowest (z / 1024) 0 (omega arith) in
+      rw (first, second, third) refl
 
-module _ (x y z : ℕ) (hx : x < 512) (hy : y < 512) (hz : z < 512) where
-  twelves-lanes : twelvesOf (lanesOf x y z) ≡ lanesOf (x * 171 / 2048) (y * 171 / 2048) (z * 171 / 2048)
-  unfolding twelvesOf
-  twelves-lanes =
-      let times : lanesOf x y z * 171 ≡ lanesOf (x * 171) (y * 171) (z * 171) = lanes-times x y z 171 in
-      let sx : x * 171 < 131072 = omega arith in
-      let sy : y * 171 < 131072 = omega arith in
-      let sz : z * 171 < 131072 = omega arith in
-      rw times (rw (first-divided _ _ _ sx sy sz, second-divided _ _ _ sx sy sz, third-divided _ _ _ sx sy sz) refl)
+  lanes-small : bytesOf (lanesOf x y z / 1024) * 1020 + lanesOf (small x) (small y) (small z) ≡ lanesOf x y z
+  lanes-small = rw thousands (omega arith)
 
-  -- What is left are the three remainders.
-  pub lanes-reduced : twelvesOf (lanesOf x y z) * 12 + lanesOf (x % 12) (y % 12) (z % 12) ≡ lanesOf x y z
-  lanes-reduced = omega (arith, twelves-lanes, twelves-off x hx, twelves-off y hy, twelves-off z hz)
+module _ (x y z : ℕ) (hx : x < 2097152) (hy : y < 2097152) (hz : z < 2097152) where
+  divided-more : lanesOf x y z / 8192 ≡ x / 8192 + (y + z * 2097152) * 256
+  divided-more = omega arith
 
--- ---- a number that loses nothing
-module _ (n : ℕ) (kept : belowOf n ≡ n) where
-  number-reduced : twelvesOf n * 12 + lanesOf (n % 2097152 % 12) (n / 2097152 % 2097152 % 12) (n / 4398046511104 % 12) ≡ n
-  number-reduced =
-      let (hx, hy, hz) = lanes-below n kept in
-      subst (λ m. twelvesOf m * 12 + lanesOf (n % 2097152 % 12) (n / 2097152 % 2097152 % 12) (n / 4398046511104 % 12) ≡ m) (three-lanes n)
+  divided-more-second : lanesOf x y z / 8192 / 2097152 ≡ y / 8192 + z * 256
+  divided-more-second = rw divided-more (omega arith)
+
+  divided-more-third : lanesOf x y z / 8192 / 4398046511104 ≡ z / 8192 + 0 * 256
+  divided-more-third = rw divided-more (omega arith)
+
+  quotients : bytesOf (lanesOf x y z / 8192) ≡ lanesOf (x / 8192) (y / 8192) (z / 8192)
+  unfolding bytesOf
+  quotients =
+      let first = ap (λ n. n % 256) divided-more ∙ lowest (x / 8192) (y + z * 2097152) (omega arith) in
+      let second = ap (λ n. n % 256) divided-more-second ∙ lowest (y / 8192) z (omega arith) in
+      let third = ap (λ n. n % 256) divided-more-third ∙ lowest (z / 8192) 0 (omega arith) in
+      rw (first, second, third) refl
+
+module _ (x y z : ℕ) (hx : x < 2040) (hy : y < 2040) (hz : z < 2040) where
+  twelves : bytesOf (lanesOf x y z * 683 / 8192) ≡ lanesOf (x * 683 / 8192) (y * 683 / 8192) (z * 683 / 8192)
+  twelves = ap (λ n. bytesOf (n / 8192)) (lanes-times x y z 683) ∙ quotients _ _ _ (omega arith) (omega arith) (omega arith)
+
+  lanes-reduced : bytesOf (lanesOf x y z * 683 / 8192) * 12 + lanesOf (x % 12) (y % 12) (z % 12) ≡ lanesOf x y z
+  lanes-reduced = omega (arith, twelves, twelves-off x hx, twelves-off y hy, twelves-off z hz)
+
+-- ---- a number of three small lanes
+-- Small enough for the first step: what a product of bytes sums up to is.
+abbrev pub SmallLanes : ℕ → Type 0
+SmallLanes n = (n % 2097152 < 261120) × (n / 2097152 % 2097152 < 261120) × (n / 4398046511104 < 261120)
+
+pub lanes-small-lanes : (n x y z : ℕ) → n ≡ lanesOf x y z → x < 261120 → y < 261120 → z < 261120 → SmallLanes n
+lanes-small-lanes n x y z e hx hy hz =
+    let first = ap (λ m. m % 2097152) e ∙ first-lane x y z (omega arith) (omega arith) in
+    let second = ap (λ m. m / 2097152 % 2097152) e ∙ second-lane x y z (omega arith) (omega arith) in
+    let third = ap (λ m. m / 4398046511104) e ∙ third-lane x y z (omega arith) (omega arith) in
+    (rw first hx, rw second hy, rw third hz)
+
+module _ (n : ℕ) (lanes : SmallLanes n) where
+  x : ℕ
+  x = n % 2097152
+
+  y : ℕ
+  y = n / 2097152 % 2097152
+
+  z : ℕ
+  z = n / 4398046511104
+
+  -- The first step takes off no more than there is.
+  first-step : bytesOf (n / 1024) * 1020 + lanesOf (small x) (small y) (small z) ≡ n
+  unfolding x y z
+  first-step =
+      let (hx, hy, hz) = lanes in
+      subst (λ m. bytesOf (m / 1024) * 1020 + lanesOf (small (n % 2097152)) (small (n / 2097152 % 2097152)) (small (n / 4398046511104)) ≡ m) (three-lanes n)
+      (lanes-small _ _ _ hx hy hz)
+
+  pub first-covers : bytesOf (n / 1024) * 1020 ≤ n
+  first-covers = omega (arith, first-step)
+
+  abbrev rest : ℕ
+  rest = n - bytesOf (n / 1024) * 1020
+
+  rest-lanes : rest ≡ lanesOf (small x) (small y) (small z)
+  rest-lanes = omega (arith, first-step)
+
+  small-lanes : (small x < 2040) × (small y < 2040) × (small z < 2040)
+  unfolding x y z
+  small-lanes = let (hx, hy, hz) = lanes in (small-below _ hx, small-below _ hy, small-below _ hz)
+
+  pub rest-small : rest ≤ 8972019160844280
+  rest-small = let (hx, hy, hz) = small-lanes in omega (arith, rest-lanes)
+
+  second-step : bytesOf (rest * 683 / 8192) * 12 + lanesOf (small x % 12) (small y % 12) (small z % 12) ≡ rest
+  second-step =
+      let (hx, hy, hz) = small-lanes in
+      subst (λ m. bytesOf (m * 683 / 8192) * 12 + lanesOf (small x % 12) (small y % 12) (small z % 12) ≡ m) (sym rest-lanes)
       (lanes-reduced _ _ _ hx hy hz)
 
-  pub number-small : n ≤ 2247402838819327
-  number-small = let (hx, hy, hz) = lanes-below n kept in omega (arith, three-lanes n)
+  pub second-covers : bytesOf (rest * 683 / 8192) * 12 ≤ rest
+  second-covers = omega (arith, second-step)
 
-  -- What is taken off is not too much, and the bytes of what is left are the remainders.
-  pub number-covers : twelvesOf n * 12 ≤ n
-  number-covers = omega (arith, number-reduced)
+  abbrev left : ℕ
+  left = rest - bytesOf (rest * 683 / 8192) * 12
 
-  number-left : n - twelvesOf n * 12 ≡ lanesOf (n % 2097152 % 12) (n / 2097152 % 2097152 % 12) (n / 4398046511104 % 12)
-  number-left = omega (arith, number-reduced)
+  left-lanes : left ≡ lanesOf (x % 12) (y % 12) (z % 12)
+  left-lanes = omega (arith, second-step, small-remainder x, small-remainder y, small-remainder z)
 
-  pub number-off : record { x = (n - twelvesOf n * 12) % 256; y = (n - twelvesOf n * 12) / 2097152 % 256; z = (n - twelvesOf n * 12) / 4398046511104 % 256 } ≡ reducedOf n
-  unfolding reducedOf
-  number-off =
-      let x = n % 2097152 % 12 in
-      let y = n / 2097152 % 2097152 % 12 in
-      let z = n / 4398046511104 % 12 in
-      let hx : x < 12 = omega arith in
-      let hy : y < 12 = omega arith in
-      let hz : z < 12 = omega arith in
-      let px : (n - twelvesOf n * 12) % 256 ≡ x = ap (λ m. m % 256) number-left ∙ first-byte x y z (omega arith) (omega arith) ∙ omega arith in
-      let py : (n - twelvesOf n * 12) / 2097152 % 256 ≡ y = ap (λ m. m / 2097152 % 256) number-left ∙ second-byte x y z (omega arith) (omega arith) ∙ omega arith in
-      let pz : (n - twelvesOf n * 12) / 4398046511104 % 256 ≡ z = ap (λ m. m / 4398046511104 % 256) number-left ∙ third-byte x y z (omega arith) (omega arith) ∙ omega arith in
+  -- The bytes of what is left are the remainders.
+  pub steps-reduce : record { x = left % 256; y = left / 2097152 % 256; z = left / 4398046511104 % 256 } ≡ reducedOf n
+  unfolding reducedOf x y z
+  steps-reduce =
+      let px : left % 256 ≡ x % 12 = ap (λ m. m % 256) left-lanes ∙ first-byte (x % 12) (y % 12) (z % 12) (omega arith) (omega arith) ∙ omega arith in
+      let py : left / 2097152 % 256 ≡ y % 12 = ap (λ m. m / 2097152 % 256) left-lanes ∙ second-byte (x % 12) (y % 12) (z % 12) (omega arith) (omega arith) ∙ omega arith in
+      let pz : left / 4398046511104 % 256 ≡ z % 12 = ap (λ m. m / 4398046511104 % 256) left-lanes ∙ third-byte (x % 12) (y % 12) (z % 12) (omega arith) (omega arith) ∙ omega arith in
       λ i. record { x = px i; y = py i; z = pz i }

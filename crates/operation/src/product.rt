@@ -3,7 +3,7 @@
 ghost use mathlib.Core.Path.{_≡_};
 ghost use Prim.Native.Nat.{_*_, _≤_};
 ghost use Rattle.operation.specs.Lanes.{lanesOf, rowsTimes, raisedColumn, foursOf};
-ghost use Rattle.operation.specs.Twelves.{reducedOf, belowOf, twelvesOf};
+ghost use Rattle.operation.specs.Twelves.{bytesOf, reducedOf, SmallLanes};
 ghost use Rattle.operation.specs.Product.{identityOperation, columnTimes, movedOf, rotatedOf, productOf};
 use super::Operation;
 use super::Rotation;
@@ -107,40 +107,21 @@ fn column_times(r: Rotation, a: u8, b: u8, c: u8) -> Column
     )
 }
 
-// Each lane's remainder by 512.
-fn below(n: u64) -> u64
-    ensures { λ r. ⌜ r ≡ belowOf n ⌝ }
+// Each lane's lowest byte.
+fn bytes(n: u64) -> u64
+    ensures { λ r. ⌜ (r ≡ bytesOf n) × (r ≤ 1121502395105535) ⌝ }
 {
-    n % 512 + n / SECOND % 512 * SECOND + n / THIRD % 512 * THIRD
+    n % 256 + n / SECOND % 256 * SECOND + n / THIRD % 256 * THIRD
 }
 
-// How often 12 fits into each lane, where none holds 512 or more.
-fn twelves(n: u64) -> u64
-    requires { ⌜ n ≤ 2247402838819327 ⌝ }
-    ensures { λ r. ⌜ r ≡ twelvesOf n ⌝ }
-{
-    let fits = n * 171 / 2048;
-    fits % 64 + fits / SECOND % 64 * SECOND + fits / THIRD % 64 * THIRD
-}
-
-fn remainders(sum: u64) -> Translation
-    ensures { λ v. ⌜ v ≡ reducedOf sum ⌝ }
-{
-    Translation {
-        x: (sum % SECOND % 12) as u8,
-        y: (sum / SECOND % SECOND % 12) as u8,
-        z: (sum / THIRD % 12) as u8,
-    }
-}
-
-// Each lane modulo 12. Digits and twelfths give less than 512, and then 12 is taken off each lane as often as it fits, all at once.
+// Each lane modulo 12, and no remainder taken: 1020, which is 85 times 12, goes off as often as 1024 fits, and then 12 as often as it fits, which below 2040 is
+// 683 / 8192 of what is there. Each step is one for the three lanes.
 fn reduced(sum: u64) -> Translation
+    requires { ⌜ SmallLanes sum ⌝ }
     ensures { λ v. ⌜ v ≡ reducedOf sum ⌝ }
 {
-    if below(sum) != sum {
-        return remainders(sum);
-    }
-    let left = sum - twelves(sum) * 12;
+    let rest = sum - bytes(sum / 1024) * 1020;
+    let left = rest - bytes(rest * 683 / 8192) * 12;
     Translation {
         x: (left % 256) as u8,
         y: (left / SECOND % 256) as u8,

@@ -1,64 +1,68 @@
--- Where the number loses nothing by the test, what is taken off each lane leaves its remainder.
-use mathlib.Core.Path.{sym, _∙_, ap}
+-- The two steps, of which the laws of the lanes say what they leave.
+use mathlib.Core.Path.{_∙_, ap, ap₂}
 use Prim.Native.Nat.{ℕ, _*_, _-_, _/_, _%_}
 use native.Mathlib.Omega.{arith}
-use Rattle.operation.specs.Twelves.{number-small, number-covers, number-off}
+use Rattle.operation.specs.Twelves.{bytesOf, first-covers, rest-small, second-covers, steps-reduce}
 use borrow.Author.Needs.{needs}
 use Rattle.operation.proofs.product.reduced.Statement.{statement}
 use Rattle.operation.proofs.product.reduced.Tie as tie
 use Rattle.operation.proofs.product.reduced.Reads as reads
 use Rattle.operation.proofs.product.reduced.Lts as lts
-use Rattle.operation.proofs.product.below.Reads as below-reads
-use Rattle.operation.proofs.product.remainders.Reads as remainders-reads
-use Rattle.operation.proofs.product.twelves.Reads as twelves-reads
+use Rattle.operation.proofs.product.bytes.Reads as bytes-reads
 
-below-requires : tie.Need-below-requires
-below-requires c κs = search needs
+bytes-requires : tie.Need-bytes-requires
+bytes-requires c κs = search needs
 
-remainders-requires : tie.Need-remainders-requires
-remainders-requires c κs = search needs
+mul-rest : tie.Need-mul-rest
+mul-rest c = search needs
 
-returns : tie.Need-returns
-returns c = search needs
+sub-rest : tie.Need-sub-rest
+sub-rest c = omega (arith, c .bytes .ensures .0, first-covers _ (c .before .pre))
 
-twelves-requires : tie.Need-twelves-requires
-twelves-requires c κs = number-small _ (sym (c .before .below .ensures) ∙ c .if1 .left)
+mul-bytes : tie.Need-mul-bytes
+mul-bytes c =
+    record { fits = omega (arith, c .bytes .ensures .0, rest-small _ (c .before .pre)) }
+
+bytes-requires-2 : tie.Need-bytes-requires-2
+bytes-requires-2 c κs = search needs
 
 mul-left : tie.Need-mul-left
-mul-left c =
-    let kept = sym (c .before .before .below .ensures) ∙ c .before .if1 .left in
-    record { fits = omega (arith, c .twelves .ensures, number-small _ kept, number-covers _ kept) }
+mul-left c = search needs
 
 sub-left : tie.Need-sub-left
 sub-left c =
-    let kept = sym (c .before .before .below .ensures) ∙ c .before .if1 .left in
-    omega (arith, c .twelves .ensures, number-covers _ kept)
-
-cast-t6 : tie.Need-cast-t6
-cast-t6 c = search needs
+    let second = c .bytes2 .ensures .0 ∙ ap (λ (n : ℕ). bytesOf ((c .before .before .args .sum - n * 1020) * 683 / 8192)) (c .before .bytes .ensures .0) in
+    omega (arith, second, c .before .bytes .ensures .0, second-covers _ (c .before .before .pre))
 
 cast-t8 : tie.Need-cast-t8
 cast-t8 c = search needs
 
+cast-t9 : tie.Need-cast-t9
+cast-t9 c = search needs
+
 cast-t11 : tie.Need-cast-t11
 cast-t11 c = search needs
 
-returns-2 : tie.Need-returns-2
-returns-2 c =
-    let kept = sym (c .before .before .below .ensures) ∙ c .before .if1 .left in
-    ap (λ (q : ℕ). record { x = (c .before .before .before .args .sum - q * 12) % 256; y = (c .before .before .before .args .sum - q * 12) / 2097152 % 256; z = (c .before .before .before .args .sum - q * 12) / 4398046511104 % 256 }) (c .twelves .ensures) ∙ number-off _ kept
+returns : tie.Need-returns
+returns c =
+    let sum = c .before .before .args .sum in
+    let left : ℕ → ℕ → ℕ = λ p q. sum - p * 1020 - q * 12 in
+    let second = c .bytes2 .ensures .0 ∙ ap (λ (n : ℕ). bytesOf ((sum - n * 1020) * 683 / 8192)) (c .before .bytes .ensures .0) in
+    ap₂ (λ (p q : ℕ). record { x = left p q % 256; y = left p q / 2097152 % 256; z = left p q / 4398046511104 % 256 }) (c .before .bytes .ensures .0) second ∙
+    steps-reduce _ (c .before .before .pre)
 
 pub reduced-spec : {M : Type 1} → statement M
 reduced-spec =
     tie.close
     (tie.spec
-    below-requires
-    remainders-requires
-    returns
-    twelves-requires
+    bytes-requires
+    mul-rest
+    sub-rest
+    mul-bytes
+    bytes-requires-2
     mul-left
     sub-left
-    cast-t6
     cast-t8
+    cast-t9
     cast-t11
-    returns-2)
+    returns)
