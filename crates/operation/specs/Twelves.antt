@@ -108,13 +108,14 @@ lanes-small-lanes n x y z e hx hy hz =
     (rw first hx, rw second hy, rw third hz)
 
 module _ (n : ℕ) (lanes : SmallLanes n) where
-  x : ℕ
+  -- The three lanes, kept shut so that arithmetic takes each for one number.
+  unfoldable x : ℕ
   x = n % 2097152
 
-  y : ℕ
+  unfoldable y : ℕ
   y = n / 2097152 % 2097152
 
-  z : ℕ
+  unfoldable z : ℕ
   z = n / 4398046511104
 
   -- The first step takes off no more than there is.
