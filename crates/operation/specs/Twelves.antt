@@ -92,7 +92,7 @@ module _ (x y z : ℕ) (hx : x < 2040) (hy : y < 2040) (hz : z < 2040) where
   twelves : bytesOf (lanesOf x y z * 683 / 8192) ≡ lanesOf (x * 683 / 8192) (y * 683 / 8192) (z * 683 / 8192)
   twelves = ap (λ n. bytesOf (n / 8192)) (lanes-times x y z 683) ∙ quotients _ _ _ (omega arith) (omega arith) (omega arith)
 
-  lanes-reduced : bytesOf (lanesOf x y z * 683 / 8192) * 12 + lanesOf (x % 12) (y % 12) (z % 12) ≡ lanesOf x y z
+  pub lanes-reduced : bytesOf (lanesOf x y z * 683 / 8192) * 12 + lanesOf (x % 12) (y % 12) (z % 12) ≡ lanesOf x y z
   lanes-reduced = omega (arith, twelves, twelves-off x hx, twelves-off y hy, twelves-off z hz)
 
 -- ---- a number of three small lanes
