@@ -1,0 +1,89 @@
+#!/usr/bin/env python3
+"""Holds the port's product of operations, whatever their bytes, to integers.
+
+    python3 tests/compare_products.py PORT [--all] [--emulator COMMAND]
+
+PORT is the program made from tests/products.c. A digit d is the entry d - 1, whatever d is; a product is (RS, Ru + t modulo 12), or none where an entry of RS
+is outside -1..1. Without --all 20,000 products are made, with it a million. Prints how many were inside, and 'N passed, M failed'.
+"""
+
+import argparse
+import itertools
+import random
+import subprocess
+import sys
+
+GATE, ALL = 20000, 1000000
+BATCH = 100000
+ZERO = [1] * 9
+
+
+def product(f, g):
+    """The product of two operations of twelve bytes, as integers have it, or None."""
+    r = [digit - 1 for digit in f[:9]]
+    s = [digit - 1 for digit in g[:9]]
+    u, t = g[9:], f[9:]
+    entries = [r[i] * s[j] + r[i + 1] * s[j + 3] + r[i + 2] * s[j + 6] for i in (0, 3, 6) for j in (0, 1, 2)]
+    if not all(-1 <= entry <= 1 for entry in entries):
+        return None
+    moved = [(r[i] * u[0] + r[i + 1] * u[1] + r[i + 2] * u[2] + t[k]) % 12 for k, i in enumerate((0, 3, 6))]
+    return bytes([entry + 1 for entry in entries] + moved)
+
+
+def some(chance, count, bound):
+    return [chance.randrange(bound) for _ in range(count)]
+
+
+def turn(chance):
+    """A rotation of a cube, as digits: its product with another is inside."""
+    digits = list(ZERO)
+    for row, column in enumerate(chance.sample(range(3), 3)):
+        digits[3 * row + column] = chance.choice((0, 2))
+    return digits
+
+
+def pairs(chance):
+    """Kinds of pairs in turn. A right factor without a rotation keeps the product inside, so that the left one may have any bytes."""
+    while True:
+        yield some(chance, 24, 256)
+        yield some(chance, 12, 256) + ZERO + some(chance, 3, 256)
+        yield some(chance, 9, 3) + some(chance, 3, 12) + some(chance, 9, 3) + some(chance, 3, 12)
+        yield turn(chance) + some(chance, 3, 12) + turn(chance) + some(chance, 3, 12)
+        yield turn(chance) + some(chance, 3, 256) + turn(chance) + some(chance, 3, 256)
+        # sums on both sides of 512
+        yield some(chance, 9, 16) + some(chance, 3, 256) + ZERO + some(chance, 3, 14)
+
+
+def answers(command, batch):
+    said = subprocess.run(command, input=b"".join(map(bytes, batch)), stdout=subprocess.PIPE, check=True).stdout
+    assert len(said) == 13 * len(batch)
+    for place in range(0, len(said), 13):
+        yield said[place + 1:place + 13] if said[place] else None
+
+
+def main():
+    parser = argparse.ArgumentParser()
+    parser.add_argument("port")
+    parser.add_argument("--all", action="store_true")
+    parser.add_argument("--emulator", default="")
+    given = parser.parse_args()
+    command = given.emulator.split() + [given.port]
+    passed = failed = inside = 0
+    made = itertools.islice(pairs(random.Random(12)), ALL if given.all else GATE)
+    while batch := list(itertools.islice(made, BATCH)):
+        for pair, said in zip(batch, answers(command, batch)):
+            right = product(pair[:12], pair[12:])
+            inside += right is not None
+            if said == right:
+                passed += 1
+            else:
+                failed += 1
+                if failed < 10:
+                    print("%s: %s, and integers say %s" % (bytes(pair).hex(), said and said.hex(), right and right.hex()))
+    print("%d inside" % inside)
+    print("%d passed, %d failed" % (passed, failed))
+    return failed != 0
+
+
+if __name__ == "__main__":
+    sys.exit(main())
