@@ -5,8 +5,8 @@
 
 The Rust has no H, so these stand in for it. Asked about: every sign of the lattice, every one and two N tokens over the twenty matrices and both
 signs, and random symbols. A symbol that the rules accept must give the model's set of motions, which the gate holds the port to, in both
-programs. Of the symbols that they refuse with 12 to 14 every SAMPLE-th must give cctbx an error, or a lattice of translations other than the three points
-of H; cctbx takes long over what is no group, so the others are not asked. Both programs write the marks ^ and = as ' and ", and cctbx a screw's digit
+programs. A symbol that they refuse with 12 to 14 must give cctbx an error, or a lattice of translations other than the three points of H; of random
+symbols that is not asked, since cctbx takes minutes over some that are no group. Both programs write the marks ^ and = as ' and ", and cctbx a screw's digit
 before the axis. They take a mark or a fold without an axis otherwise than the rules, so every token here names its axis, as 2x or 2^z. Prints how many
 symbols were accepted, refused and not asked, then 'N passed, M failed'.
 """
@@ -25,7 +25,6 @@ sys.path.insert(0, os.path.join(os.path.dirname(os.path.abspath(__file__)), ".."
 import model
 
 RANDOM_SEED = 7
-SAMPLE = 20
 POINTS = {(0, 0, 0), (8, 4, 0), (4, 8, 0)}
 TURNS = ["1"] + [fold + mark + axis for fold, mark, axis in model.MATRICES if fold != "1"]
 TOKENS = [sign + turn for turn in TURNS for sign in ("", "-")]
@@ -99,8 +98,9 @@ def agrees(text, ask_refused):
 
 def main(arguments):
     tally, passed, failed = {}, 0, 0
-    for place, text in enumerate(list(regular_symbols()) + list(random_symbols(int(arguments[0]) if arguments else 2000))):
-        refusal, right = agrees(text, place % SAMPLE == 0)
+    regular = [(text, True) for text in regular_symbols()]
+    for text, ask_refused in regular + [(text, False) for text in random_symbols(int(arguments[0]) if arguments else 2000)]:
+        refusal, right = agrees(text, ask_refused)
         tally[refusal] = tally.get(refusal, 0) + 1
         passed += right is True
         if right is False:
