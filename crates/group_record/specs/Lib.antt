@@ -11,6 +11,8 @@ pub mod ListedForm
 pub mod OneRecord
 pub mod GroupLaws
 pub mod ReadingTests
+pub mod Converse
+pub mod Criterion
 pub mod Acceptance
 pub mod RoundTrips
 pub mod AcceptedSymbols
