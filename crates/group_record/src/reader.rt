@@ -1,28 +1,26 @@
 // Reading a record: the rules of refusals 30 to 35, in order, tried on the bytes as they stand.
 ghost use mathlib.Core.Path.{_≡_};
+ghost use mathlib.Core.Bool.{true};
+ghost use mathlib.Core.List.{map};
 ghost use Prim.Native.Nat.{_+_, _*_, _≤_, _<_};
 ghost use lib.ListN.{length};
-ghost use Rattle.laws.specs.Distinct.{has};
 ghost use Rattle.laws.specs.Lattice.{all, sameTriple};
 ghost use Rattle.laws.specs.Sorted.{ascending};
 ghost use Rattle.centering.specs.Lattices.{tripleOf};
-ghost use Rattle.group_record.specs.Reading.{operationOfItem, isItem, itemBefore, areItems, alikeItems, productListed, memberAllowed, isAllowed, fromEnd, lengthFits, readCounted, readOf};
-ghost use Rattle.group_record.specs.Record.{itemOf};
+ghost use Rattle.group_record.specs.Reading.{slots, operationOfItem, isItem, itemBefore, areItems, isAllowed, fromEnd, lengthFits, readCounted, readOf};
 ghost use Rattle.group_record.specs.Search.{itemsOf, itemAt};
 ghost use Rattle.group_record.specs.Found.{nothingFound, laidOut, Stands};
 use super::Reading;
 use super::RecordGroup;
 use super::Refusal;
+use super::allowed::is_allowed;
 use centering::Centering;
 use centering::Letter;
 use operation::Operation;
 use operation::Translation;
 use operation::code::Decoded;
-use operation::code::rotation_code;
 use operation::code::rotation_of_code;
-use operation::product::Product;
 use operation::product::identity;
-use operation::product::mul;
 
 // What is found at a buffer's end: the answer, and of a record that is accepted the letter, the count and the place of its first item.
 struct Found {
@@ -92,7 +90,7 @@ fn find_counted(bytes: &[u8], c: Centering) -> Found
     if !are_items(&bytes[start..], c, n) {
         return nothing(Refusal::WrongItem);
     }
-    if !is_allowed(&bytes[start..], c, n) {
+    if !items_allowed(&bytes[start..], c, n) {
         return nothing(Refusal::NotAllowed);
     }
     Found {
@@ -222,89 +220,18 @@ fn codes_ascend(bytes: &[u8], n: usize) -> bool
     true
 }
 
-// The identity is listed, and every member is as `member_allowed` says.
-fn is_allowed(bytes: &[u8], c: Centering, n: usize) -> bool
-    requires { ⌜ (n ≤ 48) × (5 * n ≤ length (now bytes)) ⌝ }
+// The test of 35 is made on the operations.
+fn items_allowed(bytes: &[u8], c: Centering, n: usize) -> bool
+    requires { ⌜ (1 ≤ n) × (n ≤ 48) × (5 * n ≤ length (now bytes)) × (areItems c (itemsOf n (now bytes)) ≡ true) ⌝ }
     ensures { λ r. ⌜ r ≡ isAllowed c (itemsOf n (now (bytes .entry))) ⌝ }
 {
-    if !is_listed(bytes, c, n, identity()) {
-        return false;
-    }
-    members_allowed(bytes, c, n)
+    is_allowed(c, operations_of(bytes, n), n)
 }
 
-fn members_allowed(bytes: &[u8], c: Centering, n: usize) -> bool
+// The operations of the first n items in 48 slots; the rest is the identity.
+fn operations_of(bytes: &[u8], n: usize) -> [Operation; 48]
     requires { ⌜ (n ≤ 48) × (5 * n ≤ length (now bytes)) ⌝ }
-    ensures { λ r. ⌜ r ≡ all (memberAllowed c (itemsOf n (now (bytes .entry)))) (itemsOf n (now (bytes .entry))) ⌝ }
-{
-    let mut i = 0usize;
-    while i < n {
-        if !member_allowed(bytes, c, n, i) {
-            return false;
-        }
-        i += 1;
-    }
-    true
-}
-
-// The rotation maps the lattice onto itself, and each product with this left factor is listed.
-fn member_allowed(bytes: &[u8], c: Centering, n: usize, i: usize) -> bool
-    requires { ⌜ (n ≤ 48) × (5 * n ≤ length (now bytes)) × (i < n) ⌝ }
-    ensures { λ r. ⌜ r ≡ memberAllowed c (itemsOf n (now (bytes .entry))) (itemAt (now (bytes .entry)) i) ⌝ }
-{
-    let f = operation_at(bytes, i);
-    if !c.keeps(f.rotation) {
-        return false;
-    }
-    let mut j = 0usize;
-    while j < n {
-        if !product_listed(bytes, c, n, mul(f, operation_at(bytes, j))) {
-            return false;
-        }
-        j += 1;
-    }
-    true
-}
-
-fn product_listed(bytes: &[u8], c: Centering, n: usize, product: Product) -> bool
-    requires { ⌜ (n ≤ 48) × (5 * n ≤ length (now bytes)) ⌝ }
-    ensures { λ r. ⌜ r ≡ productListed c (itemsOf n (now (bytes .entry))) product ⌝ }
-{
-    match product {
-        Product::Inside(h) => is_listed(bytes, c, n, h),
-        Product::Outside => false,
-    }
-}
-
-// An operation with this rotation is listed, and its translation differs by a vector of the lattice.
-fn is_listed(bytes: &[u8], c: Centering, n: usize, f: Operation) -> bool
-    requires { ⌜ (n ≤ 48) × (5 * n ≤ length (now bytes)) ⌝ }
-    ensures { λ r. ⌜ r ≡ has (alikeItems c) (itemOf f) (itemsOf n (now (bytes .entry))) ⌝ }
-{
-    let code = rotation_code(f.rotation);
-    let mut i = 0usize;
-    while i < n {
-        if alike(bytes, c, i, code, f.translation) {
-            return true;
-        }
-        i += 1;
-    }
-    false
-}
-
-fn alike(bytes: &[u8], c: Centering, i: usize, code: u32, t: Translation) -> bool
-    requires { ⌜ 5 * i + 5 ≤ length (now bytes) ⌝ }
-    ensures { λ r. ⌜ r ≡ alikeItems c (record { code = code; translation = t }) (itemAt (now (bytes .entry)) i) ⌝ }
-{
-    if code != item_code(bytes, i) {
-        return false;
-    }
-    c.congruent(t, item_translation(bytes, i))
-}
-
-fn laid_out(bytes: &[u8], answer: Reading, c: Centering, n: usize) -> RecordGroup
-    requires { ⌜ (n ≤ 48) × (5 * n ≤ length (now bytes)) ⌝ }
-    ensures { λ r. ⌜ r ≡ laidOut answer c n (now (bytes .entry)) ⌝ }
+    ensures { λ r. ⌜ r ≡ slots (map operationOfItem (itemsOf n (now (bytes .entry)))) ⌝ }
 {
     let mut operations = [identity(); 48];
     let mut i = 0usize;
@@ -312,6 +239,14 @@ fn laid_out(bytes: &[u8], answer: Reading, c: Centering, n: usize) -> RecordGrou
         operations[i] = operation_at(bytes, i);
         i += 1;
     }
+    operations
+}
+
+fn laid_out(bytes: &[u8], answer: Reading, c: Centering, n: usize) -> RecordGroup
+    requires { ⌜ (n ≤ 48) × (5 * n ≤ length (now bytes)) ⌝ }
+    ensures { λ r. ⌜ r ≡ laidOut answer c n (now (bytes .entry)) ⌝ }
+{
+    let operations = operations_of(bytes, n);
     RecordGroup {
         answer,
         centering: c,

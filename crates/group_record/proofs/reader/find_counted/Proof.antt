@@ -15,7 +15,7 @@ use Rattle.group_record.proofs.reader.find_counted.Reads as reads
 use Rattle.group_record.proofs.reader.find_counted.Lts as lts
 use Rattle.group_record.proofs.reader.are_items.Reads as are-items-reads
 use Rattle.group_record.proofs.reader.from_end.Reads as from-end-reads
-use Rattle.group_record.proofs.reader.is_allowed.Reads as is-allowed-reads
+use Rattle.group_record.proofs.reader.items_allowed.Reads as items-allowed-reads
 use Rattle.group_record.proofs.reader.length_fits.Reads as length-fits-reads
 use Rattle.group_record.proofs.reader.nothing.Reads as nothing-reads
 
@@ -90,20 +90,22 @@ returns-2 c =
     (counted-fits (a .c) (a .bytes .now) _ _ _ (c .before .before .before .before .before .before .before .before .from-end .ensures) (c .before .before .before .before .before .before .before .from-end2 .ensures) (c .before .before .before .before .before .before .from-end3 .ensures) (sym (c .before .before .before .before .before .length-fits .ensures) ∙ not-false (c .before .before .before .before .before .length-fits .result) (c .before .before .before .before .if1 .left))
     ∙ items-wrong (a .c) n _ _ (tail-part (a .bytes .now) (length (a .bytes .now) - (5 * n + 5))) (sym (c .before .before .are-items .ensures) ∙ not-true (c .before .before .are-items .result) (c .before .if2 .taken)))
 
-sub-is-allowed : tie.Need-sub-is-allowed
-sub-is-allowed c = search needs
+sub-items-allowed : tie.Need-sub-items-allowed
+sub-items-allowed c = search needs
 
-part-is-allowed-start : tie.Need-part-is-allowed-start
-part-is-allowed-start c = search needs
+part-items-allowed-start : tie.Need-part-items-allowed-start
+part-items-allowed-start c = search needs
 
-part-is-allowed-end : tie.Need-part-is-allowed-end
-part-is-allowed-end c = search needs
+part-items-allowed-end : tie.Need-part-items-allowed-end
+part-items-allowed-end c = search needs
 
-is-allowed-requires : tie.Need-is-allowed-requires
-is-allowed-requires c κs =
+items-allowed-requires : tie.Need-items-allowed-requires
+items-allowed-requires c κs =
     let a = c .before .before .before .before .before .before .before .before .before .before .args in
     let fits = length-test _ _ _ .0 (sym (c .before .before .before .before .before .length-fits .ensures) ∙ not-false (c .before .before .before .before .before .length-fits .result) (c .before .before .before .before .if1 .left)) in
-    (fits .1, rw (tail-part (a .bytes .now) (length (a .bytes .now) - (5 * c .before .before .before .before .before .before .before .before .from-end .result + 5)), length-drop) (omega (arith, fits)))
+    let n = c .before .before .before .before .before .before .before .before .from-end .result in
+    let items = sym (c .before .before .are-items .ensures) ∙ not-false (c .before .before .are-items .result) (c .before .if2 .left) in
+    (fits .0, fits .1, rw (tail-part (a .bytes .now) (length (a .bytes .now) - (5 * n + 5)), length-drop) (omega (arith, fits)), items)
 
 nothing-requires-3 : tie.Need-nothing-requires-3
 nothing-requires-3 c κs = search needs
@@ -114,7 +116,7 @@ returns-3 c =
     let n = c .before .before .before .before .before .before .before .before .before .before .before .from-end .result in
     nothing-found (c .nothing3 .ensures)
     (counted-fits (a .c) (a .bytes .now) _ _ _ (c .before .before .before .before .before .before .before .before .before .before .before .from-end .ensures) (c .before .before .before .before .before .before .before .before .before .before .from-end2 .ensures) (c .before .before .before .before .before .before .before .before .before .from-end3 .ensures) (sym (c .before .before .before .before .before .before .before .before .length-fits .ensures) ∙ not-false (c .before .before .before .before .before .before .before .before .length-fits .result) (c .before .before .before .before .before .before .before .if1 .left))
-    ∙ items-barred (a .c) n _ _ (tail-part (a .bytes .now) (length (a .bytes .now) - (5 * n + 5))) (sym (c .before .before .before .before .before .are-items .ensures) ∙ not-false (c .before .before .before .before .before .are-items .result) (c .before .before .before .before .if2 .left)) (sym (c .before .before .is-allowed .ensures) ∙ not-true (c .before .before .is-allowed .result) (c .before .if3 .taken)))
+    ∙ items-barred (a .c) n _ _ (tail-part (a .bytes .now) (length (a .bytes .now) - (5 * n + 5))) (sym (c .before .before .before .before .before .are-items .ensures) ∙ not-false (c .before .before .before .before .before .are-items .result) (c .before .before .before .before .if2 .left)) (sym (c .before .before .items-allowed .ensures) ∙ not-true (c .before .before .items-allowed .result) (c .before .if3 .taken)))
 
 returns-4 : tie.Need-returns-4
 returns-4 c =
@@ -124,7 +126,7 @@ returns-4 c =
     let bounds = length-test _ _ _ .0 fits in
     stands-as (record-stands (a .bytes .now) (a .c) n (length (a .bytes .now) - (5 * n + 5)) (bounds .1) (omega (arith, bounds)))
     (counted-fits (a .c) (a .bytes .now) _ _ _ (c .before .before .before .before .before .before .before .before .before .before .from-end .ensures) (c .before .before .before .before .before .before .before .before .before .from-end2 .ensures) (c .before .before .before .before .before .before .before .before .from-end3 .ensures) fits
-    ∙ items-right (a .c) n _ _ (tail-part (a .bytes .now) (length (a .bytes .now) - (5 * n + 5))) (sym (c .before .before .before .before .are-items .ensures) ∙ not-false (c .before .before .before .before .are-items .result) (c .before .before .before .if2 .left)) (sym (c .before .is-allowed .ensures) ∙ not-false (c .before .is-allowed .result) (c .if3 .left)))
+    ∙ items-right (a .c) n _ _ (tail-part (a .bytes .now) (length (a .bytes .now) - (5 * n + 5))) (sym (c .before .before .before .before .are-items .ensures) ∙ not-false (c .before .before .before .before .are-items .result) (c .before .before .before .if2 .left)) (sym (c .before .items-allowed .ensures) ∙ not-false (c .before .items-allowed .result) (c .if3 .left)))
 
 pub find-counted-spec : {M : Type 1} → statement M
 find-counted-spec =
@@ -150,10 +152,10 @@ find-counted-spec =
     are-items-requires
     nothing-requires-2
     returns-2
-    sub-is-allowed
-    part-is-allowed-start
-    part-is-allowed-end
-    is-allowed-requires
+    sub-items-allowed
+    part-items-allowed-start
+    part-items-allowed-end
+    items-allowed-requires
     nothing-requires-3
     returns-3
     returns-4)
