@@ -210,10 +210,6 @@ item-bytes-again (p ∷ q ∷ r ∷ s ∷ t ∷ b) g h =
     let low : (p * 256 + q) % 256 ≡ q = omega arith in
     ap₂ (λ (a e : ℕ). a ∷ e ∷ r ∷ s ∷ t ∷ []) high low
 
--- What is left of bytes is bytes.
-bytes-on : (b : List ℕ) → Bytes b → Bytes (drop itemWidth b)
-bytes-on b g i = rw (getD-drop itemWidth b i 0) (g (itemWidth + i))
-
 -- Five bytes are the five at their places.
 five-of : (b : List ℕ) → length b ≡ 5 → b ≡ lastFive (getD b 0 0) (getD b 1 0) (getD b 2 0) (getD b 3 0) (getD b 4 0)
 five-of [] h = absurd (omega arith)
@@ -247,7 +243,7 @@ module _ (front : List ℕ) (c : Centering) (n high low : ℕ) (bytes : Bytes (f
   -- The first part of the record is the items' bytes,
   first-part : bytesOf itemBytes itemsThere ≡ take (itemWidth * n) (drop start buffer)
   first-part =
-      written-read itemWidth itemBytes item-wide itemIn Bytes bytes-on n (drop start buffer) bytes-from item-bytes-again (rw (length-drop start buffer) (omega (arith, counted)))
+      written-read itemWidth itemBytes item-wide itemIn (λ i. Unit {0}) (λ b g h f. item-bytes-again b g h) n (drop start buffer) bytes-from (rw (length-drop start buffer) (omega (arith, counted))) (λ i m. tt)
 
   -- the last part the last five bytes of the buffer,
   last-part : drop (itemWidth * n) (drop start buffer) ≡ lastFive (byteOf c) editionNumber n high low

@@ -1,9 +1,13 @@
 -- The group record of 01: its bytes, how they are read, and what group they stand for.
 -- The definitions: what a record is, how it is read, which groups it may hold.
 pub mod Items
+pub mod Tests
+pub mod Editions
+pub mod Rules
 pub mod Record
 pub mod Reading
 pub mod Groups
+pub mod Places
 pub mod Copying
 pub mod SymbolRecords
 -- Their laws.
@@ -11,6 +15,7 @@ pub mod ListedForm
 pub mod OneRecord
 pub mod GroupLaws
 pub mod ReadingTests
+pub mod Outcomes
 pub mod Acceptance
 pub mod RoundTrips
 pub mod AcceptedSymbols

@@ -26,7 +26,7 @@ use Rattle.group_record.specs.Items.{itemsIn, bytesOf, bytes-length, rea
 use Rattle.group_record.specs.Record.{Item, item≡, itemOf, itemWidth, editionNumber, itemBytes, totalLength, trailer, written, listedForm, recordOf}
 use Rattle.group_record.specs.Reading.{itemIn, operationOfItem}
 use Rattle.group_record.specs.Groups.{Alike, InSet, Listing}
-use Rattle.group_record.specs.ListedForm.{operation≡, told-by-rotation, alike-reflexive, alike-smallest, matrix-injective, form-member, member-form, CodeBefore, codeKey, listed-form, form-set}
+use Rattle.group_record.specs.ListedForm.{operation≡, told-by-rotation, alike-reflexive, alike-smallest, matrix-injective, form-member, member-form, form-length, CodeBefore, codeKey, listed-form, form-set}
 
 -- ---- the bytes of an operation
 abbrev pub operationBytes : Operation → List ℕ
@@ -67,6 +67,11 @@ operation-again f more e = ap operationOfItem (item-again (itemOf f) more) ∙ o
 pub written-length : (c : Centering) (l : List Operation) → length (written c l) ≡ totalLength itemWidth (length l)
 unfolding written trailer
 written-length c l = rw (length-append, bytes-length itemWidth operationBytes operation-wide l) refl
+
+-- So a record's length goes by the number of operations.
+pub record-length : (c : Centering) (l : List Operation) → length (recordOf c l) ≡ totalLength itemWidth (length l)
+unfolding recordOf
+record-length c l = written-length c (listedForm c l) ∙ ap (totalLength itemWidth) (form-length c l)
 
 -- The operations are read back from their bytes,
 pub written-operations : (c : Centering) (l : List Operation) → ((f : Operation) → Mem f l → Entries (matrixOf (f .rotation))) → itemsIn itemWidth operationIn (length l) (written c l) ≡ l

@@ -29,28 +29,13 @@ use Rattle.centering.specs.Lattices.{points, tripleOf, translationOf, smallestO
 use Rattle.centering.specs.LatticeLaws.{holds, Smallest, smallest-is, smallest-same, congruent-lattice}
 use Rattle.centering.specs.Keeps.{keepsOf, keeps-lattice}
 use Rattle.centering.specs.declared.Centering.{Centering}
+pub use Rattle.group_record.specs.Tests.{both-true, all-true, has-true}
 use Rattle.group_record.specs.Record.{Item, item≡, itemOf}
 use Rattle.group_record.specs.Reading.{operationOfItem, isItem, itemBefore, areItems, alikeItems, productListed, pairListed, keepsItem, memberAllowed, isAllowed}
 use Rattle.group_record.specs.Groups.{Alike, Allowed, Form}
 use Rattle.group_record.specs.ListedForm.{operation≡, code-matrix, matrix-injective, CodeBefore, form-listing}
 use Rattle.group_record.specs.OneRecord.{operation-of-item}
 use Rattle.group_record.specs.GroupLaws.{identity-listed}
-
--- ---- tests
-pub both-true : (a b : Bool) → (a && b ≡ true) ↔ ((a ≡ true) × (b ≡ true))
-both-true true b = ((λ e. (refl, e)), λ (p, q). q)
-both-true false b = ((λ e. absurd (true≢false (sym e))), λ (p, q). absurd (true≢false (sym p)))
-
-pub all-true : {A : Type 0} (test : A → Bool) (l : List A) → (all test l ≡ true) ↔ ((a : A) → Mem a l → test a ≡ true)
-all-true test l = ((λ e a m. holds .0 (all-member test (holds .1 e) m)), λ h. holds .0 (member-all test l (λ a m. holds .1 (h a m))))
-
-pub has-true : {A : Type 0} (same : A → A → Bool) (x : A) (l : List A) → (has same x l ≡ true) ↔ ((y : A) × Mem y l × (same x y ≡ true))
-unfolding has
-has-true {A} same x l = ((λ e. let (y, m, t) = has-member same x l (holds .1 e) in (y, m, holds .0 t)), λ (y, m, e). holds .0 (found l m (holds .1 e)))
-  where
-    found : (l : List A) {y : A} → Mem y l → T (same x y) → T (has same x l)
-    found (z ∷ l) (here e) t = or-left (same x z) _ (rw e at t)
-    found (z ∷ l) (there m) t = or-right (same x z) _ (found l m t)
 
 -- ---- items
 -- What 34 asks of items: codes at most 19682 that ascend, and smallest triples, below 12.

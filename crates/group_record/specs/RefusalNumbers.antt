@@ -23,7 +23,8 @@ use Rattle.group_record.specs.Items.{bytesOf}
 use Rattle.group_record.specs.Record.{Item, itemBytes, trailer, written}
 use Rattle.group_record.specs.Reading.{refusalNumber, groupAnswer, orderBy, recordOrder, acceptedGroup, refusedGroup, readOf}
 use Rattle.group_record.specs.Groups.{Allowed, Form}
-use Rattle.group_record.specs.Copying.{roomFor, copyAnswer, copiedBy, copiedOf, start-beyond, too-near-end, room-there}
+use Rattle.group_record.specs.Places.{start-beyond, too-near-end, room-there}
+use Rattle.group_record.specs.Copying.{roomFor, copyAnswer, copiedBy, copiedOf}
 use Rattle.group_record.specs.SymbolRecords.{writtenBy, symbolRecordOf, symbolRecordAnswer}
 use Rattle.group_record.specs.ReadingTests.{GoodItems}
 use Rattle.group_record.specs.Acceptance.{Bytes, lastFive, Outcome, too-short, wrong-edition, wrong-letter, wrong-length, wrong-item, not-allowed, accepted, read-outcome, outcome-read}
@@ -130,12 +131,12 @@ no-room-exactly a start size number place = (forth a, back a)
 room-as : (start n size : ℕ) → roomFor start n size ≡ not (ltb size (start + (5 * n + 5)))
 room-as start n size = elim (decLt size (start + (5 * n + 5))) [
   | yes h ↦ rw (lt-ltb size (start + (5 * n + 5)) h) (short (decLt size start) h)
-  | no h ↦ rw (le-ltb size (start + (5 * n + 5)) (omega arith)) (room-there start n size (omega arith) (omega arith))
+  | no h ↦ rw (le-ltb size (start + (5 * n + 5)) (omega arith)) (room-there start (5 * n + 5) size (omega arith) (omega arith))
 ]
   where
     short : Dec (size < start) → size < start + (5 * n + 5) → roomFor start n size ≡ false
-    short (yes b) h = start-beyond start n size b
-    short (no b) h = too-near-end start n size (omega arith) (omega arith)
+    short (yes b) h = start-beyond start (5 * n + 5) size b
+    short (no b) h = too-near-end start (5 * n + 5) size (omega arith) (omega arith)
 
 -- What a copy answers: 30 to 35 as the reading does, then 20, else the count.
 pub copy-told : (bytes out : List ℕ) (start : ℕ) → copyAnswer (copiedOf bytes out start) ≡ orNoRoom (recordOrder (readOf bytes)) start (length out)

@@ -6,7 +6,7 @@ use Prim.Native.Nat.{ℕ, _-_, _≤_}
 use native.Mathlib.Omega.{arith}
 use lib.ListN.{length, take, length-map, length-append, replicate, drop}
 use lib.Seq.{take-at, drop-at, length-take-le}
-use Rattle.group_record.specs.OneRecord.{written-length}
+use Rattle.group_record.specs.OneRecord.{record-length}
 use Rattle.laws.specs.Motion.{SpaceMotion, compose}
 use Rattle.operation.specs.Answer.{given}
 use Rattle.operation.specs.Composed.{identity-motion}
@@ -72,11 +72,6 @@ module _ (c : Centering) {l : List Operation} (L : Listing l) (A : Allowed c (ma
   pub reads-back : (front : List ℕ) → readOf (front ++ recordOf c l) ≡ acceptedGroup c (listedForm c l)
   unfolding recordOf
   reads-back front = outcome-read (front ++ written c (listedForm c l)) _ (accepted front c (listedForm c l) refl (listed-form c L) form-allowed)
-
--- A record's length.
-pub record-length : (c : Centering) (l : List Operation) → length (recordOf c l) ≡ totalLength itemWidth (length l)
-unfolding recordOf
-record-length c l = written-length c (listedForm c l) ∙ ap (totalLength itemWidth) (form-length c l)
 
 -- ---- what was read
 -- What is read is the record of a group, and is written as the bytes it was read from.
