@@ -10,7 +10,7 @@ use Rattle.operation.specs.declared.Operation.{Operation}
 use Rattle.centering.specs.Lattices.{smallestOf}
 use Rattle.centering.specs.declared.Centering.the-variants.{P}
 use Rattle.group_record.specs.Items.{bytesOf}
-use Rattle.group_record.specs.Record.{itemBytes, trailer, written, smallestOperation, listedForm, recordOf}
+use Rattle.group_record.specs.Record.{itemBytes, writtenIn, smallestOperation, listedForm, recordIn, recordOf}
 
 abbrev pub inversion : Operation
 inversion =
@@ -21,5 +21,5 @@ inversion =
 
 -- 0C 7E 00 00 00 40 64 00 00 00 50 01 02 00 0F
 pub example : recordOf P (identityOperation ∷ inversion ∷ []) ≡ 12 ∷ 126 ∷ 0 ∷ 0 ∷ 0 ∷ 64 ∷ 100 ∷ 0 ∷ 0 ∷ 0 ∷ 80 ∷ 1 ∷ 2 ∷ 0 ∷ 15 ∷ []
-unfolding recordOf written listedForm smallestOperation smallestOf smallest leastRank rank unrank _⊕_ sort insert codeOf bytesOf itemBytes trailer
+unfolding recordOf recordIn writtenIn listedForm smallestOperation smallestOf smallest leastRank rank unrank _⊕_ sort insert codeOf bytesOf itemBytes
 example = refl

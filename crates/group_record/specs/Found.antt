@@ -8,8 +8,9 @@ use lib.ListN.{length, drop, length-map}
 use Rattle.centering.specs.declared.Centering.{Centering}
 use Rattle.centering.specs.declared.Centering.the-variants.{P}
 use Rattle.group_record.specs.Items.{itemsIn}
-use Rattle.group_record.specs.Reading.{operationOfItem, slots, acceptedGroup, refusedGroup, areItems, isAllowed, readItems}
-use Rattle.group_record.specs.Search.{itemsOf, items-count}
+use Rattle.group_record.specs.Reading.{operationOfItem, slots, acceptedGroup, refusedGroup, areItems, isAllowed}
+use Rattle.group_record.specs.Rules.{areGood, itemsTold}
+use Rattle.group_record.specs.Search.{itemsOf, items-count, readItems}
 use Rattle.group_record.specs.declared.Refusal.{Refusal}
 use Rattle.group_record.specs.declared.Refusal.the-variants.{WrongItem, NotAllowed}
 use Rattle.group_record.specs.declared.Reading.{Reading}
@@ -55,18 +56,18 @@ nothing-found {bytes} {f} {h} {why} e r = rw e (stands-as (nothing-stands bytes 
 -- ---- 34 and 35, tried on the part of the buffer that holds the items
 module _ (c : Centering) (n : ℕ) (part rest : List ℕ) (lent : part ≡ rest) where
   pub items-wrong : areItems c (itemsOf n part) ≡ false → readItems c (itemsOf n rest) ≡ refusedGroup WrongItem
-  unfolding readItems
+  unfolding itemsTold areGood areItems
   items-wrong h = let e = ap (λ (b : List ℕ). areItems c (itemsOf n b)) (sym lent) ∙ h in rw e
 
   pub items-barred : areItems c (itemsOf n part) ≡ true → isAllowed c (itemsOf n part) ≡ false → readItems c (itemsOf n rest) ≡ refusedGroup NotAllowed
-  unfolding readItems
+  unfolding itemsTold areGood areItems
   items-barred h k =
       let e = ap (λ (b : List ℕ). areItems c (itemsOf n b)) (sym lent) ∙ h in
       let f = ap (λ (b : List ℕ). isAllowed c (itemsOf n b)) (sym lent) ∙ k in
       rw (e, f)
 
   pub items-right : areItems c (itemsOf n part) ≡ true → isAllowed c (itemsOf n part) ≡ true → readItems c (itemsOf n rest) ≡ acceptedGroup c (map operationOfItem (itemsOf n rest))
-  unfolding readItems
+  unfolding itemsTold areGood areItems
   items-right h k =
       let e = ap (λ (b : List ℕ). areItems c (itemsOf n b)) (sym lent) ∙ h in
       let f = ap (λ (b : List ℕ). isAllowed c (itemsOf n b)) (sym lent) ∙ k in

@@ -4,6 +4,8 @@ pub mod Items
 pub mod Tests
 pub mod Editions
 pub mod Rules
+pub mod OperationItems
+pub mod FirstEdition
 pub mod Record
 pub mod Reading
 pub mod Groups

@@ -378,3 +378,28 @@ module _ {Item Letter Kind : Type 0} (R : Rules Item Letter Kind) (W : Meaning R
   -- The reading is the rules: each refusal is given, and each record read, exactly when they say so.
   pub told-exactly : (bytes : List ℕ) → Bytes bytes → (t : Told Item Letter Kind) → (toldBy R bytes ≡ t) ↔ Outcome bytes t
   told-exactly bytes g t = ((λ e. subst (Outcome bytes) e (told-outcome bytes g)), outcome-told bytes t)
+
+  -- ---- what is held
+  -- The buffer ends with the record of these items, which are good and allowed.
+  pub record Held (bytes : List ℕ) (k : Kind) (c : Letter) (items : List Item) : Type 0 where
+    pub front : List ℕ
+    pub one : 1 ≤ length items
+    pub few : length items ≤ R .limit
+    pub same-bytes : bytes ≡ front ++ record-bytes k c items
+    pub good : GoodBy k c items
+    pub allowed : W .IsAllowed c items
+
+  -- What is held is told.
+  pub held-told : (bytes : List ℕ) (k : Kind) (c : Letter) (items : List Item) → Held bytes k c items → toldBy R bytes ≡ holds k c items
+  held-told bytes k c items h = outcome-told bytes (holds k c items) (accepted k c (h .front) items (h .one) (h .few) (h .same-bytes) (h .good) (h .allowed))
+
+  -- A buffer is read as items exactly if it holds them.
+  pub held-exactly : (bytes : List ℕ) → Bytes bytes → (k : Kind) (c : Letter) (items : List Item) → (toldBy R bytes ≡ holds k c items) ↔ Held bytes k c items
+  held-exactly bytes g k c items = (
+    (λ e. held k c items (told-exactly bytes g (holds k c items) .0 e)),
+    held-told bytes k c items,
+  )
+    where
+      held : (k : Kind) (c : Letter) (items : List Item) → Outcome bytes (holds k c items) → Held bytes k c items
+      held k c items (accepted _ _ front _ one few e good a) =
+          record { front = front; one = one; few = few; same-bytes = e; good = good; allowed = a }

@@ -34,7 +34,7 @@ use Rattle.group_record.specs.Record.{Item, item≡, itemOf}
 use Rattle.group_record.specs.Reading.{operationOfItem, isItem, itemBefore, areItems, alikeItems, productListed, pairListed, keepsItem, memberAllowed, isAllowed}
 use Rattle.group_record.specs.Groups.{Alike, Allowed, Form}
 use Rattle.group_record.specs.ListedForm.{operation≡, code-matrix, matrix-injective, CodeBefore, form-listing}
-use Rattle.group_record.specs.OneRecord.{operation-of-item}
+use Rattle.group_record.specs.OneRecord.{operation-of-item, operations-of-items}
 use Rattle.group_record.specs.GroupLaws.{identity-listed}
 
 -- ---- items
@@ -44,7 +44,7 @@ pub record GoodItems (c : Centering) (items : List Item) : Type 0 where
   pub smallest : (i : Item) → Mem i items → Smallest c (i .translation) (i .translation)
   pub ascend : Sorted (λ i j. i .code < j .code) items
 
-item-test : (c : Centering) (i : Item) → (isItem c i ≡ true) ↔ ((i .code < 19683) × Smallest c (i .translation) (i .translation))
+pub item-test : (c : Centering) (i : Item) → (isItem c i ≡ true) ↔ ((i .code < 19683) × Smallest c (i .translation) (i .translation))
 unfolding isItem belowTwelve
 item-test c i = (forth, back)
   where
@@ -110,11 +110,6 @@ pub items-of-operations : (items : List Item) → ((i : Item) → Mem i items �
 items-of-operations [] h = refl
 items-of-operations (i ∷ items) h =
     ap₂ (λ (j : Item) (r : List Item). j ∷ r) (item-of-operation i (h i (here refl))) (items-of-operations items (λ j m. h j (there m)))
-
-pub operations-of-items : (l : List Operation) → ((f : Operation) → Mem f l → Entries (matrixOf (f .rotation))) → map operationOfItem (map itemOf l) ≡ l
-operations-of-items [] h = refl
-operations-of-items (f ∷ l) h =
-    ap₂ (λ (g : Operation) (r : List Operation). g ∷ r) (operation-of-item f (h f (here refl))) (operations-of-items l (λ g m. h g (there m)))
 
 -- Good items are those of operations in the listed form.
 codes-ascend : (l : List Operation) → Sorted (λ i j. i .code < j .code) (map itemOf l) → Sorted CodeBefore l

@@ -19,8 +19,11 @@ use Rattle.centering.specs.Letters.{letterOf}
 use Rattle.centering.specs.declared.Centering.{Centering}
 use Rattle.centering.specs.declared.Letter.{Letter}
 use Rattle.group_record.specs.Items.{itemsIn, items-length, item-at}
-use Rattle.group_record.specs.Record.{Item, itemWidth, totalLength}
-use Rattle.group_record.specs.Reading.{itemIn, operationOfItem, itemBefore, slots, keepsItem, productListed, pairListed, memberAllowed, readItems, readCounted, fromEnd, lengthFits, readLettered, readOf, refusedGroup}
+use Rattle.group_record.specs.Editions.{totalLength, fromEnd}
+use Rattle.group_record.specs.Record.{Item, itemWidth}
+use Rattle.group_record.specs.Rules.{lengthFits, itemsTold, countedTold, letteredTold, editionTold, toldBy}
+use Rattle.group_record.specs.Reading.{itemIn, operationOfItem, itemBefore, slots, keepsItem, productListed, pairListed, memberAllowed, letterIn, firstRules, groupOf, readOf, refusedGroup}
+use Rattle.group_record.specs.declared.RecordGroup.{RecordGroup}
 use Rattle.group_record.specs.declared.Refusal.the-variants.{Short, WrongEdition, WrongLength}
 
 -- The items of n operations, and the item at a place.
@@ -159,25 +162,38 @@ module _ (c : Centering) (items : List Item) (i : Item) where
   member-lost e = rw e
 
 -- ---- the trailer
+-- What the items tell,
+abbrev pub readItems : Centering → List Item → RecordGroup
+readItems c items = groupOf (itemsTold firstRules tt c items)
+
+-- what count and length tell,
+abbrev pub readCounted : Centering → ℕ → List ℕ → RecordGroup
+readCounted c n bytes = groupOf (countedTold firstRules tt c n bytes)
+
+-- and what the letter tells.
+abbrev pub readLettered : Letter → List ℕ → RecordGroup
+readLettered a bytes = groupOf (letteredTold firstRules tt (letterIn a) bytes)
+
 -- What the bytes before the end decide, by the code's names for them.
 module _ (c : Centering) (bytes : List ℕ) (n high low : ℕ) (p : n ≡ fromEnd bytes 3) (q : high ≡ fromEnd bytes 2) (r : low ≡ fromEnd bytes 1) where
-  pub counted-fits : lengthFits n (high * 256 + low) (length bytes) ≡ true → readCounted c (fromEnd bytes 3) bytes ≡ readItems c (itemsOf n (drop (length bytes - totalLength itemWidth n) bytes))
-  unfolding readCounted
+  pub counted-fits : lengthFits itemWidth 48 n (high * 256 + low) (length bytes) ≡ true
+      → readCounted c (fromEnd bytes 3) bytes ≡ readItems c (itemsOf n (drop (length bytes - totalLength itemWidth n) bytes))
+  unfolding countedTold
   counted-fits e = rw (← p, ← q, ← r, e)
 
-  pub counted-fails : lengthFits n (high * 256 + low) (length bytes) ≡ false → readCounted c (fromEnd bytes 3) bytes ≡ refusedGroup WrongLength
-  unfolding readCounted
+  pub counted-fails : lengthFits itemWidth 48 n (high * 256 + low) (length bytes) ≡ false → readCounted c (fromEnd bytes 3) bytes ≡ refusedGroup WrongLength
+  unfolding countedTold
   counted-fails e = rw (← p, ← q, ← r, e)
 
 pub read-short : (bytes : List ℕ) → length bytes < 10 → readOf bytes ≡ refusedGroup Short
-unfolding readOf
+unfolding readOf toldBy
 read-short bytes h = rw (lt-ltb (length bytes) 10 h)
 
 module _ (bytes : List ℕ) (edition : ℕ) (long : 10 ≤ length bytes) (p : edition ≡ fromEnd bytes 4) where
   pub read-other-edition : ¬ (edition ≡ 1) → readOf bytes ≡ refusedGroup WrongEdition
-  unfolding readOf
+  unfolding readOf toldBy editionTold
   read-other-edition other = rw (le-ltb (length bytes) 10 long, ← p, ne-eqb edition 1 other)
 
   pub read-by-letter : (letter : ℕ) (a : Letter) → edition ≡ 1 → letter ≡ fromEnd bytes 5 → letterOf letter ≡ a → readOf bytes ≡ readLettered a bytes
-  unfolding readOf
+  unfolding readOf toldBy editionTold
   read-by-letter letter a e q l = rw (le-ltb (length bytes) 10 long, ← p, eq-eqb edition 1 e, ← q, l)

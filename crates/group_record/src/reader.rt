@@ -6,9 +6,11 @@ ghost use Rattle.laws.specs.Distinct.{has};
 ghost use Rattle.laws.specs.Lattice.{all, sameTriple};
 ghost use Rattle.laws.specs.Sorted.{ascending};
 ghost use Rattle.centering.specs.Lattices.{tripleOf};
-ghost use Rattle.group_record.specs.Reading.{operationOfItem, isItem, itemBefore, areItems, alikeItems, productListed, memberAllowed, isAllowed, fromEnd, lengthFits, readCounted, readOf};
+ghost use Rattle.group_record.specs.Reading.{operationOfItem, isItem, itemBefore, areItems, alikeItems, productListed, memberAllowed, isAllowed, readOf};
+ghost use Rattle.group_record.specs.Editions.{fromEnd};
+ghost use Rattle.group_record.specs.Rules.{lengthFits};
 ghost use Rattle.group_record.specs.Record.{itemOf};
-ghost use Rattle.group_record.specs.Search.{itemsOf, itemAt};
+ghost use Rattle.group_record.specs.Search.{itemsOf, itemAt, readCounted};
 ghost use Rattle.group_record.specs.Found.{nothingFound, laidOut, Stands};
 use super::Reading;
 use super::RecordGroup;
@@ -105,7 +107,7 @@ fn find_counted(bytes: &[u8], c: Centering) -> Found
 
 // 1 to 48 operations, and the stated length right and within the buffer.
 fn length_fits(n: usize, stated: usize, size: usize) -> bool
-    ensures { λ r. ⌜ r ≡ lengthFits n stated size ⌝ }
+    ensures { λ r. ⌜ r ≡ lengthFits 5 48 n stated size ⌝ }
 {
     if n < 1 {
         return false;

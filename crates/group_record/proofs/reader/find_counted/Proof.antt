@@ -4,7 +4,7 @@ use Prim.Native.Nat.{_+_, _*_, _-_}
 use native.Mathlib.Omega.{arith}
 use borrow.Author.Tests.{not-true, not-false}
 use lib.ListN.{length, length-drop}
-use Rattle.group_record.specs.Acceptance.{length-test}
+use Rattle.group_record.specs.Outcomes.{length-test}
 use Rattle.group_record.specs.Found.{nothing-found, stands-as, record-stands, items-wrong, items-barred, items-right}
 use Rattle.group_record.specs.Parts.{tail-part}
 use Rattle.group_record.specs.Search.{counted-fits, counted-fails}
@@ -62,7 +62,7 @@ add-start : tie.Need-add-start
 add-start c = search needs
 
 sub-start : tie.Need-sub-start
-sub-start c = let fits = length-test _ _ _ .0 (sym (c .before .length-fits .ensures) ∙ not-false (c .before .length-fits .result) (c .if1 .left)) in omega (arith, fits)
+sub-start c = let fits = length-test _ _ _ _ _ .0 (sym (c .before .length-fits .ensures) ∙ not-false (c .before .length-fits .result) (c .if1 .left)) in omega (arith, fits)
 
 sub-are-items : tie.Need-sub-are-items
 sub-are-items c = search needs
@@ -76,7 +76,7 @@ part-are-items-end c = search needs
 are-items-requires : tie.Need-are-items-requires
 are-items-requires c κs =
     let a = c .before .before .before .before .before .before .before .args in
-    let fits = length-test _ _ _ .0 (sym (c .before .before .length-fits .ensures) ∙ not-false (c .before .before .length-fits .result) (c .before .if1 .left)) in
+    let fits = length-test _ _ _ _ _ .0 (sym (c .before .before .length-fits .ensures) ∙ not-false (c .before .before .length-fits .result) (c .before .if1 .left)) in
     (fits .0, fits .1, rw (tail-part (a .bytes .now) (length (a .bytes .now) - (5 * c .before .before .before .before .before .from-end .result + 5)), length-drop) (omega (arith, fits)))
 
 nothing-requires-2 : tie.Need-nothing-requires-2
@@ -102,7 +102,7 @@ part-is-allowed-end c = search needs
 is-allowed-requires : tie.Need-is-allowed-requires
 is-allowed-requires c κs =
     let a = c .before .before .before .before .before .before .before .before .before .before .args in
-    let fits = length-test _ _ _ .0 (sym (c .before .before .before .before .before .length-fits .ensures) ∙ not-false (c .before .before .before .before .before .length-fits .result) (c .before .before .before .before .if1 .left)) in
+    let fits = length-test _ _ _ _ _ .0 (sym (c .before .before .before .before .before .length-fits .ensures) ∙ not-false (c .before .before .before .before .before .length-fits .result) (c .before .before .before .before .if1 .left)) in
     (fits .1, rw (tail-part (a .bytes .now) (length (a .bytes .now) - (5 * c .before .before .before .before .before .before .before .before .from-end .result + 5)), length-drop) (omega (arith, fits)))
 
 nothing-requires-3 : tie.Need-nothing-requires-3
@@ -121,7 +121,7 @@ returns-4 c =
     let a = c .before .before .before .before .before .before .before .before .before .before .before .before .args in
     let n = c .before .before .before .before .before .before .before .before .before .before .from-end .result in
     let fits = sym (c .before .before .before .before .before .before .before .length-fits .ensures) ∙ not-false (c .before .before .before .before .before .before .before .length-fits .result) (c .before .before .before .before .before .before .if1 .left) in
-    let bounds = length-test _ _ _ .0 fits in
+    let bounds = length-test _ _ _ _ _ .0 fits in
     stands-as (record-stands (a .bytes .now) (a .c) n (length (a .bytes .now) - (5 * n + 5)) (bounds .1) (omega (arith, bounds)))
     (counted-fits (a .c) (a .bytes .now) _ _ _ (c .before .before .before .before .before .before .before .before .before .before .from-end .ensures) (c .before .before .before .before .before .before .before .before .before .from-end2 .ensures) (c .before .before .before .before .before .before .before .before .from-end3 .ensures) fits
     ∙ items-right (a .c) n _ _ (tail-part (a .bytes .now) (length (a .bytes .now) - (5 * n + 5))) (sym (c .before .before .before .before .are-items .ensures) ∙ not-false (c .before .before .before .before .are-items .result) (c .before .before .before .if2 .left)) (sym (c .before .is-allowed .ensures) ∙ not-false (c .before .is-allowed .result) (c .if3 .left)))
