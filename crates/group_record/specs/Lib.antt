@@ -18,6 +18,8 @@ pub mod OneRecord
 pub mod GroupLaws
 pub mod ReadingTests
 pub mod Outcomes
+pub mod Converse
+pub mod Criterion
 pub mod Acceptance
 pub mod RoundTrips
 pub mod AcceptedSymbols

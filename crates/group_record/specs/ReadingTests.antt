@@ -192,7 +192,7 @@ product-test c l entries f g = (λ e. forth (productOf f g) refl e, back)
         is-inside inside = product-within f g inside
 
 -- The identity with (0,0,0): no other triple is the smallest of the class of (0,0,0).
-identity-entries : Entries (matrixOf (identityOperation .rotation))
+pub identity-entries : Entries (matrixOf (identityOperation .rotation))
 identity-entries = digits-entries (identityOperation .rotation) .0 digits
   where
     digits : Digits (identityOperation .rotation)
