@@ -28,6 +28,8 @@ pub mod SymbolReading
 pub mod RefusalNumbers
 pub mod Example
 -- What the code does with items.
+pub mod Codes
+pub mod Closing
 pub mod Search
 pub mod Found
 pub mod Parts

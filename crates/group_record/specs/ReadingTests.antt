@@ -136,7 +136,7 @@ form-good c l F =
 
 -- ---- the group
 -- A vector's class modulo L goes by its residues.
-congruent-residues : (c : Centering) (u v w : Vector) → reduced u ≡ reduced v → Congruent (pointsOf c) v w → Congruent (pointsOf c) u w
+pub congruent-residues : (c : Centering) (u v w : Vector) → reduced u ≡ reduced v → Congruent (pointsOf c) v w → Congruent (pointsOf c) u w
 congruent-residues c u v w e m =
     mem-cast (reduced-plus u (opposite w) ∙ ap (λ t. t ⊕ reduced (opposite w)) e ∙ sym (reduced-plus v (opposite w))) m
 
