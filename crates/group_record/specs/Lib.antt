@@ -31,6 +31,8 @@ pub mod Example
 pub mod Codes
 pub mod Closing
 pub mod Search
+pub mod Walks
+pub mod Listed
 pub mod Found
 pub mod Parts
 pub mod Selection

@@ -102,7 +102,7 @@ pub item-of-operation : (i : Item) → i .code < 19683 → itemOf (operationOfIt
 unfolding operationOfItem
 item-of-operation i h = item≡ (rw (lt-ltb (i .code) 19683 h) (code-rotation (i .code) h)) refl
 
-item-entries : (i : Item) → i .code < 19683 → Entries (matrixOf (operationOfItem i .rotation))
+pub item-entries : (i : Item) → i .code < 19683 → Entries (matrixOf (operationOfItem i .rotation))
 unfolding operationOfItem
 item-entries i h = rw (lt-ltb (i .code) 19683 h) (digits-entries (rotationOf (i .code)) .0 (rotation-digits (i .code)))
 
