@@ -1,9 +1,15 @@
 -- The group record of 01: its bytes, how they are read, and what group they stand for.
 -- The definitions: what a record is, how it is read, which groups it may hold.
 pub mod Items
+pub mod Tests
+pub mod Editions
+pub mod Rules
+pub mod OperationItems
+pub mod FirstEdition
 pub mod Record
 pub mod Reading
 pub mod Groups
+pub mod Places
 pub mod Copying
 pub mod SymbolRecords
 -- Their laws.
@@ -11,6 +17,7 @@ pub mod ListedForm
 pub mod OneRecord
 pub mod GroupLaws
 pub mod ReadingTests
+pub mod Outcomes
 pub mod Converse
 pub mod Criterion
 pub mod Acceptance
@@ -24,6 +31,8 @@ pub mod Example
 pub mod Codes
 pub mod Closing
 pub mod Search
+pub mod Walks
+pub mod Listed
 pub mod Found
 pub mod Parts
 pub mod Selection

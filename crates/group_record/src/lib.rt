@@ -2,6 +2,7 @@
 mod allowed;
 pub mod codes;
 pub mod copier;
+mod items;
 pub mod reader;
 pub mod symbol;
 mod writer;

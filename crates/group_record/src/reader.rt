@@ -1,28 +1,23 @@
-// Reading a record: the rules of refusals 30 to 35, in order, tried on the bytes as they stand.
+// Reading a record: the rules of refusals 30 to 35, in order. 30 to 33 are tried on the bytes, 34 and 35 on the operations of the items.
 ghost use mathlib.Core.Path.{_≡_};
-ghost use mathlib.Core.Bool.{true};
-ghost use mathlib.Core.List.{map};
-ghost use Prim.Native.Nat.{_+_, _*_, _≤_, _<_};
+ghost use Prim.Native.Nat.{_*_, _≤_};
 ghost use lib.ListN.{length};
-ghost use Rattle.laws.specs.Lattice.{all, sameTriple};
-ghost use Rattle.laws.specs.Sorted.{ascending};
-ghost use Rattle.centering.specs.Lattices.{tripleOf};
-ghost use Rattle.group_record.specs.Reading.{slots, operationOfItem, isItem, itemBefore, areItems, isAllowed, fromEnd, lengthFits, readCounted, readOf};
-ghost use Rattle.group_record.specs.Search.{itemsOf, itemAt};
-ghost use Rattle.group_record.specs.Found.{nothingFound, laidOut, Stands};
+ghost use Rattle.group_record.specs.Editions.{fromEnd};
+ghost use Rattle.group_record.specs.Rules.{lengthFits};
+ghost use Rattle.group_record.specs.Reading.{refusedGroup, readOf};
+ghost use Rattle.group_record.specs.Search.{itemsOf, readItems, readCounted};
+ghost use Rattle.group_record.specs.Found.{nothingFound, Stands};
 use super::Reading;
 use super::RecordGroup;
 use super::Refusal;
 use super::allowed::is_allowed;
+use super::items::are_listed;
+use super::items::laid_out;
 use centering::Centering;
 use centering::Letter;
-use operation::Operation;
-use operation::Translation;
-use operation::code::Decoded;
-use operation::code::rotation_of_code;
 use operation::product::identity;
 
-// What is found at a buffer's end: the answer, and of a record that is accepted the letter, the count and the place of its first item.
+// What is found at a buffer's end: a refusal, or the letter, the count and the place of the first item.
 struct Found {
     answer: Reading,
     centering: Centering,
@@ -30,17 +25,58 @@ struct Found {
     start: usize,
 }
 
-// The record that ends where the bytes end. Its operations are laid out in one place for every answer, so that the code for 48 slots stands once.
+// The record that ends where the bytes end.
 pub fn read_record(bytes: &[u8]) -> RecordGroup
     ensures { λ r. ⌜ r ≡ readOf (now (bytes .entry)) ⌝ }
 {
     let found = find(bytes);
-    let start = found.start;
     let answer = found.answer;
-    let c = found.centering;
-    laid_out(&bytes[start..], answer, c, found.count)
+    match answer {
+        Reading::Accepted => {
+            let start = found.start;
+            let c = found.centering;
+            read_items(&bytes[start..], c, found.count)
+        }
+        Reading::Refused(why) => refused(why),
+    }
 }
 
+fn refused(why: Refusal) -> RecordGroup
+    ensures { λ r. ⌜ r ≡ refusedGroup why ⌝ }
+{
+    RecordGroup {
+        answer: Reading::Refused(why),
+        centering: Centering::P,
+        count: 0,
+        operations: [identity(); 48],
+    }
+}
+
+// 34, then 35, tried on the operations of the items.
+fn read_items(bytes: &[u8], c: Centering, n: usize) -> RecordGroup
+    requires { ⌜ (1 ≤ n) × (n ≤ 48) × (5 * n ≤ length (now bytes)) ⌝ }
+    ensures { λ r. ⌜ r ≡ readItems c (itemsOf n (now (bytes .entry))) ⌝ }
+{
+    let laid = laid_out(bytes, n);
+    if !laid.right {
+        return refused(Refusal::WrongItem);
+    }
+    let operations = laid.operations;
+    if !are_listed(c, operations, n) {
+        return refused(Refusal::WrongItem);
+    }
+    if !is_allowed(c, operations, n) {
+        return refused(Refusal::NotAllowed);
+    }
+    RecordGroup {
+        answer: Reading::Accepted,
+        centering: c,
+        count: n,
+        operations,
+    }
+}
+
+// 30 to 33.
 fn find(bytes: &[u8]) -> Found
     ensures { λ r. ⌜ Stands (now (bytes .entry)) r (readOf (now (bytes .entry))) ⌝ }
 {
@@ -87,12 +123,6 @@ fn find_counted(bytes: &[u8], c: Centering) -> Found
         return nothing(Refusal::WrongLength);
     }
     let start = size - (5 * n + 5);
-    if !are_items(&bytes[start..], c, n) {
-        return nothing(Refusal::WrongItem);
-    }
-    if !items_allowed(&bytes[start..], c, n) {
-        return nothing(Refusal::NotAllowed);
-    }
     Found {
         answer: Reading::Accepted,
         centering: c,
@@ -103,7 +133,7 @@ fn find_counted(bytes: &[u8], c: Centering) -> Found
 
 // 1 to 48 operations, and the stated length right and within the buffer.
 fn length_fits(n: usize, stated: usize, size: usize) -> bool
-    ensures { λ r. ⌜ r ≡ lengthFits n stated size ⌝ }
+    ensures { λ r. ⌜ r ≡ lengthFits 5 48 n stated size ⌝ }
 {
     if n < 1 {
         return false;
@@ -116,141 +146,4 @@ fn length_fits(n: usize, stated: usize, size: usize) -> bool
         return false;
     }
     total <= size
-}
-
-fn item_code(bytes: &[u8], i: usize) -> u32
-    requires { ⌜ 5 * i + 5 ≤ length (now bytes) ⌝ }
-    ensures { λ r. ⌜ r ≡ itemAt (now (bytes .entry)) i .code ⌝ }
-{
-    let at = 5 * i;
-    bytes[at] as u32 * 256 + bytes[at + 1] as u32
-}
-
-fn item_translation(bytes: &[u8], i: usize) -> Translation
-    requires { ⌜ 5 * i + 5 ≤ length (now bytes) ⌝ }
-    ensures { λ r. ⌜ r ≡ itemAt (now (bytes .entry)) i .translation ⌝ }
-{
-    let at = 5 * i;
-    Translation {
-        x: bytes[at + 2],
-        y: bytes[at + 3],
-        z: bytes[at + 4],
-    }
-}
-
-// A code over 19682 gives the identity; no record that is accepted has one.
-fn operation_at(bytes: &[u8], i: usize) -> Operation
-    requires { ⌜ 5 * i + 5 ≤ length (now bytes) ⌝ }
-    ensures { λ r. ⌜ r ≡ operationOfItem (itemAt (now (bytes .entry)) i) ⌝ }
-{
-    let translation = item_translation(bytes, i);
-    let Decoded::Inside(rotation) = rotation_of_code(item_code(bytes, i)) else {
-        let unit = identity();
-        let rotation = unit.rotation;
-        return Operation {
-            rotation,
-            translation,
-        };
-    };
-    Operation {
-        rotation,
-        translation,
-    }
-}
-
-fn are_items(bytes: &[u8], c: Centering, n: usize) -> bool
-    requires { ⌜ (1 ≤ n) × (n ≤ 48) × (5 * n ≤ length (now bytes)) ⌝ }
-    ensures { λ r. ⌜ r ≡ areItems c (itemsOf n (now (bytes .entry))) ⌝ }
-{
-    if !items_fit(bytes, c, n) {
-        return false;
-    }
-    codes_ascend(bytes, n)
-}
-
-fn items_fit(bytes: &[u8], c: Centering, n: usize) -> bool
-    requires { ⌜ (n ≤ 48) × (5 * n ≤ length (now bytes)) ⌝ }
-    ensures { λ r. ⌜ r ≡ all (isItem c) (itemsOf n (now (bytes .entry))) ⌝ }
-{
-    let mut i = 0usize;
-    while i < n {
-        if !is_item(bytes, c, i) {
-            return false;
-        }
-        i += 1;
-    }
-    true
-}
-
-// The smallest triple of a class is below 12, so a triple that is the smallest is.
-fn is_item(bytes: &[u8], c: Centering, i: usize) -> bool
-    requires { ⌜ 5 * i + 5 ≤ length (now bytes) ⌝ }
-    ensures { λ r. ⌜ r ≡ isItem c (itemAt (now (bytes .entry)) i) ⌝ }
-{
-    if 19683 <= item_code(bytes, i) {
-        return false;
-    }
-    let t = item_translation(bytes, i);
-    same(c.smallest(t), t)
-}
-
-fn same(s: Translation, t: Translation) -> bool
-    ensures { λ r. ⌜ r ≡ sameTriple (tripleOf s) (tripleOf t) ⌝ }
-{
-    if s.x != t.x {
-        return false;
-    }
-    if s.y != t.y {
-        return false;
-    }
-    s.z == t.z
-}
-
-fn codes_ascend(bytes: &[u8], n: usize) -> bool
-    requires { ⌜ (1 ≤ n) × (n ≤ 48) × (5 * n ≤ length (now bytes)) ⌝ }
-    ensures { λ r. ⌜ r ≡ ascending itemBefore (itemsOf n (now (bytes .entry))) ⌝ }
-{
-    let mut i = 0usize;
-    while i + 1 < n {
-        if item_code(bytes, i + 1) <= item_code(bytes, i) {
-            return false;
-        }
-        i += 1;
-    }
-    true
-}
-
-// The test of 35 is made on the operations.
-fn items_allowed(bytes: &[u8], c: Centering, n: usize) -> bool
-    requires { ⌜ (1 ≤ n) × (n ≤ 48) × (5 * n ≤ length (now bytes)) × (areItems c (itemsOf n (now bytes)) ≡ true) ⌝ }
-    ensures { λ r. ⌜ r ≡ isAllowed c (itemsOf n (now (bytes .entry))) ⌝ }
-{
-    is_allowed(c, operations_of(bytes, n), n)
-}
-
-// The operations of the first n items in 48 slots; the rest is the identity.
-fn operations_of(bytes: &[u8], n: usize) -> [Operation; 48]
-    requires { ⌜ (n ≤ 48) × (5 * n ≤ length (now bytes)) ⌝ }
-    ensures { λ r. ⌜ r ≡ slots (map operationOfItem (itemsOf n (now (bytes .entry)))) ⌝ }
-{
-    let mut operations = [identity(); 48];
-    let mut i = 0usize;
-    while i < n {
-        operations[i] = operation_at(bytes, i);
-        i += 1;
-    }
-    operations
-}
-
-fn laid_out(bytes: &[u8], answer: Reading, c: Centering, n: usize) -> RecordGroup
-    requires { ⌜ (n ≤ 48) × (5 * n ≤ length (now bytes)) ⌝ }
-    ensures { λ r. ⌜ r ≡ laidOut answer c n (now (bytes .entry)) ⌝ }
-{
-    let operations = operations_of(bytes, n);
-    RecordGroup {
-        answer,
-        centering: c,
-        count: n,
-        operations,
-    }
 }

@@ -3,10 +3,10 @@ use Prim.Native.Nat.{_+_, _*_}
 use native.Mathlib.Omega.{arith}
 use Rattle.group_record.specs.Search.{item-code-bytes}
 use borrow.Author.Needs.{needs}
-use Rattle.group_record.proofs.reader.item_code.Statement.{statement}
-use Rattle.group_record.proofs.reader.item_code.Tie as tie
-use Rattle.group_record.proofs.reader.item_code.Reads as reads
-use Rattle.group_record.proofs.reader.item_code.Lts as lts
+use Rattle.group_record.proofs.items.item_code.Statement.{statement}
+use Rattle.group_record.proofs.items.item_code.Tie as tie
+use Rattle.group_record.proofs.items.item_code.Reads as reads
+use Rattle.group_record.proofs.items.item_code.Lts as lts
 
 mul-at : tie.Need-mul-at
 mul-at c = search needs

@@ -2,10 +2,10 @@
 use borrow.Author.Tests.{eq-eqb, ne-eqb}
 use Rattle.laws.specs.Lattice.{sameTriple}
 use Rattle.centering.specs.PointSearch.{same-by-last}
-use Rattle.group_record.proofs.reader.same.Statement.{statement}
-use Rattle.group_record.proofs.reader.same.Tie as tie
-use Rattle.group_record.proofs.reader.same.Reads as reads
-use Rattle.group_record.proofs.reader.same.Lts as lts
+use Rattle.group_record.proofs.items.same.Statement.{statement}
+use Rattle.group_record.proofs.items.same.Tie as tie
+use Rattle.group_record.proofs.items.same.Reads as reads
+use Rattle.group_record.proofs.items.same.Lts as lts
 
 returns : tie.Need-returns
 unfolding sameTriple

@@ -1,10 +1,10 @@
 -- Three bytes of the item, by their places.
 use Rattle.group_record.specs.Search.{item-translation-bytes}
 use borrow.Author.Needs.{needs}
-use Rattle.group_record.proofs.reader.item_translation.Statement.{statement}
-use Rattle.group_record.proofs.reader.item_translation.Tie as tie
-use Rattle.group_record.proofs.reader.item_translation.Reads as reads
-use Rattle.group_record.proofs.reader.item_translation.Lts as lts
+use Rattle.group_record.proofs.items.item_translation.Statement.{statement}
+use Rattle.group_record.proofs.items.item_translation.Tie as tie
+use Rattle.group_record.proofs.items.item_translation.Reads as reads
+use Rattle.group_record.proofs.items.item_translation.Lts as lts
 
 mul-at : tie.Need-mul-at
 mul-at c = search needs
