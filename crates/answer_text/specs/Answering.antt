@@ -21,8 +21,9 @@ use Rattle.group_record.specs.Items.{bytesOf, bytes-length, read-written, item-
 use Rattle.group_record.specs.Record.{itemWidth, editionNumber, totalLength, trailer, listedForm, written, recordOf}
 use Rattle.group_record.specs.Groups.{Form, Listing}
 use Rattle.group_record.specs.ListedForm.{form-length, listed-form}
-use Rattle.group_record.specs.OneRecord.{operationBytes, operationIn, operation-wide, operation-again}
-use Rattle.group_record.specs.Copying.{roomFor, room-there, all-placed}
+use Rattle.group_record.specs.OneRecord.{operationBytes, operationIn, operation-wide, operation-again, record-length}
+use Rattle.group_record.specs.Places.{room-there, all-placed}
+use Rattle.group_record.specs.Copying.{roomFor}
 use Rattle.group_record.specs.AcceptedSymbols.{symbol-writable}
 use Rattle.group_record.specs.SymbolRecords.{textRecord, symbolRecordOf, symbolBufferOf}
 use Rattle.group_record.specs.declared.SymbolRecord.{SymbolRecord}
@@ -83,7 +84,7 @@ module _ (line : List ℕ) where
   enough-room : symbolAnswer line .answer ≡ Group → roomFor 0 (symbolAnswer line .count) 245 ≡ true
   enough-room a =
       let (few, there, listing) = symbol-writable line (symbolAnswer line) refl a in
-      room-there 0 (symbolAnswer line .count) 245 (omega arith) (omega arith)
+      room-there 0 (totalLength itemWidth (symbolAnswer line .count)) 245 (omega arith) (omega arith)
 
   -- What is answered, by the symbol's answer.
   told-by : (a : Answer) → symbolAnswer line .answer ≡ a → symbolRecordOf line zeros 0 ≡ toldBy a (symbolAnswer line .count)
@@ -152,10 +153,14 @@ module _ (line : List ℕ) where
     form : Form letter (listedForm letter listed)
     form = listed-form letter (writable .2)
 
-    -- The form has as many.
-    form-count : length (listedForm letter listed) ≡ symbolAnswer line .count
+    -- There are as many as counted,
+    listed-count : length listed ≡ symbolAnswer line .count
     unfolding listed
-    form-count = form-length letter listed ∙ length-take-le (symbolAnswer line .count) (symbolAnswer line .operations) (writable .1)
+    listed-count = length-take-le (symbolAnswer line .count) (symbolAnswer line .operations) (writable .1)
+
+    -- and the form has as many.
+    form-count : length (listedForm letter listed) ≡ symbolAnswer line .count
+    form-count = form-length letter listed ∙ listed-count
 
     -- The text is that of the letter and the form.
     group-answer : groupText letter (listedForm letter listed) ≡ answerOf line
@@ -179,7 +184,7 @@ module _ (line : List ℕ) where
 
       placed : symbolBufferOf line zeros 0 ≡ recordOf letter listed ++ drop (0 + totalLength itemWidth (symbolAnswer line .count)) zeros
       unfolding symbolBufferOf textRecord letter listed
-      placed = rw a (all-placed zeros 0 (symbolAnswer line .count) (recordOf (symbolAnswer line .centering) (take (symbolAnswer line .count) (symbolAnswer line .operations))) (enough-room a))
+      placed = rw a (all-placed zeros 0 (totalLength itemWidth (symbolAnswer line .count)) (recordOf letter listed) (record-length letter listed ∙ ap (totalLength itemWidth) listed-count) (enough-room a))
 
       split : bytes ≡ bytesOf operationBytes (listedForm letter listed) ++ (byteOf letter ∷ behind)
       unfolding recordOf written trailer behind

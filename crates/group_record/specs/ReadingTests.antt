@@ -29,28 +29,13 @@ use Rattle.centering.specs.Lattices.{points, tripleOf, translationOf, smallestO
 use Rattle.centering.specs.LatticeLaws.{holds, Smallest, smallest-is, smallest-same, congruent-lattice}
 use Rattle.centering.specs.Keeps.{keepsOf, keeps-lattice}
 use Rattle.centering.specs.declared.Centering.{Centering}
+pub use Rattle.group_record.specs.Tests.{both-true, all-true, has-true}
 use Rattle.group_record.specs.Record.{Item, item≡, itemOf}
 use Rattle.group_record.specs.Reading.{operationOfItem, isItem, itemBefore, areItems, alikeItems, productListed, pairListed, keepsItem, memberAllowed, isAllowed}
 use Rattle.group_record.specs.Groups.{Alike, Allowed, Form}
 use Rattle.group_record.specs.ListedForm.{operation≡, code-matrix, matrix-injective, CodeBefore, form-listing}
-use Rattle.group_record.specs.OneRecord.{operation-of-item}
+use Rattle.group_record.specs.OneRecord.{operation-of-item, operations-of-items}
 use Rattle.group_record.specs.GroupLaws.{identity-listed}
-
--- ---- tests
-pub both-true : (a b : Bool) → (a && b ≡ true) ↔ ((a ≡ true) × (b ≡ true))
-both-true true b = ((λ e. (refl, e)), λ (p, q). q)
-both-true false b = ((λ e. absurd (true≢false (sym e))), λ (p, q). absurd (true≢false (sym p)))
-
-pub all-true : {A : Type 0} (test : A → Bool) (l : List A) → (all test l ≡ true) ↔ ((a : A) → Mem a l → test a ≡ true)
-all-true test l = ((λ e a m. holds .0 (all-member test (holds .1 e) m)), λ h. holds .0 (member-all test l (λ a m. holds .1 (h a m))))
-
-pub has-true : {A : Type 0} (same : A → A → Bool) (x : A) (l : List A) → (has same x l ≡ true) ↔ ((y : A) × Mem y l × (same x y ≡ true))
-unfolding has
-has-true {A} same x l = ((λ e. let (y, m, t) = has-member same x l (holds .1 e) in (y, m, holds .0 t)), λ (y, m, e). holds .0 (found l m (holds .1 e)))
-  where
-    found : (l : List A) {y : A} → Mem y l → T (same x y) → T (has same x l)
-    found (z ∷ l) (here e) t = or-left (same x z) _ (rw e at t)
-    found (z ∷ l) (there m) t = or-right (same x z) _ (found l m t)
 
 -- ---- items
 -- What 34 asks of items: codes at most 19682 that ascend, and smallest triples, below 12.
@@ -59,7 +44,7 @@ pub record GoodItems (c : Centering) (items : List Item) : Type 0 where
   pub smallest : (i : Item) → Mem i items → Smallest c (i .translation) (i .translation)
   pub ascend : Sorted (λ i j. i .code < j .code) items
 
-item-test : (c : Centering) (i : Item) → (isItem c i ≡ true) ↔ ((i .code < 19683) × Smallest c (i .translation) (i .translation))
+pub item-test : (c : Centering) (i : Item) → (isItem c i ≡ true) ↔ ((i .code < 19683) × Smallest c (i .translation) (i .translation))
 unfolding isItem belowTwelve
 item-test c i = (forth, back)
   where
@@ -117,7 +102,7 @@ pub item-of-operation : (i : Item) → i .code < 19683 → itemOf (operationOfIt
 unfolding operationOfItem
 item-of-operation i h = item≡ (rw (lt-ltb (i .code) 19683 h) (code-rotation (i .code) h)) refl
 
-item-entries : (i : Item) → i .code < 19683 → Entries (matrixOf (operationOfItem i .rotation))
+pub item-entries : (i : Item) → i .code < 19683 → Entries (matrixOf (operationOfItem i .rotation))
 unfolding operationOfItem
 item-entries i h = rw (lt-ltb (i .code) 19683 h) (digits-entries (rotationOf (i .code)) .0 (rotation-digits (i .code)))
 
@@ -125,11 +110,6 @@ pub items-of-operations : (items : List Item) → ((i : Item) → Mem i items �
 items-of-operations [] h = refl
 items-of-operations (i ∷ items) h =
     ap₂ (λ (j : Item) (r : List Item). j ∷ r) (item-of-operation i (h i (here refl))) (items-of-operations items (λ j m. h j (there m)))
-
-pub operations-of-items : (l : List Operation) → ((f : Operation) → Mem f l → Entries (matrixOf (f .rotation))) → map operationOfItem (map itemOf l) ≡ l
-operations-of-items [] h = refl
-operations-of-items (f ∷ l) h =
-    ap₂ (λ (g : Operation) (r : List Operation). g ∷ r) (operation-of-item f (h f (here refl))) (operations-of-items l (λ g m. h g (there m)))
 
 -- Good items are those of operations in the listed form.
 codes-ascend : (l : List Operation) → Sorted (λ i j. i .code < j .code) (map itemOf l) → Sorted CodeBefore l
@@ -156,7 +136,7 @@ form-good c l F =
 
 -- ---- the group
 -- A vector's class modulo L goes by its residues.
-congruent-residues : (c : Centering) (u v w : Vector) → reduced u ≡ reduced v → Congruent (pointsOf c) v w → Congruent (pointsOf c) u w
+pub congruent-residues : (c : Centering) (u v w : Vector) → reduced u ≡ reduced v → Congruent (pointsOf c) v w → Congruent (pointsOf c) u w
 congruent-residues c u v w e m =
     mem-cast (reduced-plus u (opposite w) ∙ ap (λ t. t ⊕ reduced (opposite w)) e ∙ sym (reduced-plus v (opposite w))) m
 
@@ -212,7 +192,7 @@ product-test c l entries f g = (λ e. forth (productOf f g) refl e, back)
         is-inside inside = product-within f g inside
 
 -- The identity with (0,0,0): no other triple is the smallest of the class of (0,0,0).
-identity-entries : Entries (matrixOf (identityOperation .rotation))
+pub identity-entries : Entries (matrixOf (identityOperation .rotation))
 identity-entries = digits-entries (identityOperation .rotation) .0 digits
   where
     digits : Digits (identityOperation .rotation)

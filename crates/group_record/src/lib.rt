@@ -1,5 +1,8 @@
 // The group record: the byte form of a group of operations, written and read. New in the port: the Rust has no such form.
+mod allowed;
+pub mod codes;
 pub mod copier;
+mod items;
 pub mod reader;
 pub mod symbol;
 mod writer;

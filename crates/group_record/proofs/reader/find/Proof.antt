@@ -1,7 +1,7 @@
 -- Each early return is a rule of the reading; the last call is what the letter leaves to be read.
 use mathlib.Core.Path.{sym, _∙_}
 use native.Mathlib.Omega.{arith}
-use Rattle.group_record.specs.Reading.{readLettered}
+use Rattle.group_record.specs.Rules.{letteredTold}
 use Rattle.group_record.specs.Found.{nothing-found, stands-as}
 use Rattle.group_record.specs.Search.{read-short, read-other-edition, read-by-letter}
 use borrow.Author.Needs.{needs}
@@ -47,7 +47,7 @@ nothing-requires-3 : tie.Need-nothing-requires-3
 nothing-requires-3 c κs = search needs
 
 returns-3 : tie.Need-returns-3
-unfolding readLettered
+unfolding letteredTold
 returns-3 c =
     let bytes = c .before .before .before .before .before .before .before .before .before .args .bytes .now in
     let letter = sym (c .before .before .before .from-byte .ensures) ∙ c .before .enum-told .given .1 in
@@ -57,7 +57,7 @@ find-counted-requires : tie.Need-find-counted-requires
 find-counted-requires c κs = search needs
 
 returns-4 : tie.Need-returns-4
-unfolding readLettered
+unfolding letteredTold
 returns-4 c =
     let bytes = c .before .before .before .before .before .before .before .before .before .before .args .bytes .now in
     let letter = sym (c .before .before .before .before .from-byte .ensures) ∙ c .before .before .c .given .1 in
