@@ -1,8 +1,8 @@
 -- What a reading of groups tells, for any editions, letters and further rule: exactly the records of allowed operations in the listed form.
 -- The idea: its tests mean what is asked of motions, and the reading is the rules.
-use mathlib.Core.Path.{_≡_, refl, sym, _∙_, ap, subst}
+use mathlib.Core.Path.{_≡_, sym, _∙_, ap, subst}
 use mathlib.Core.Logic.{_↔_}
-use mathlib.Core.Bool.{true, _&&_}
+use mathlib.Core.Bool.{true, _&&_, and-eq-true-iff}
 use mathlib.Core.List.{List, _++_, map}
 use Prim.Native.Nat.{ℕ, _<_, _≤_}
 use lib.ListN.{length, length-map}
@@ -19,7 +19,7 @@ use Rattle.group_record.specs.Record.{writtenIn}
 use Rattle.group_record.specs.Reading.{GroupReading, rulesOf, isAllowed, firstReading, firstRules}
 use Rattle.group_record.specs.Groups.{Allowed, Form}
 use Rattle.group_record.specs.OneRecord.{written-items, operations-of-items}
-use Rattle.group_record.specs.ReadingTests.{both-true, GoodItems, item-test, items-of-operations, good-form, form-good, allowed-test}
+use Rattle.group_record.specs.ReadingTests.{GoodItems, item-test, items-of-operations, good-form, form-good, allowed-test}
 use Rattle.group_record.specs.Outcomes.{Good, Meaning, Outcome, Held, told-exactly, held-told, held-exactly}
 
 -- One order for another that follows from it.
@@ -57,9 +57,9 @@ module _ {Sign Kind : Type 0} (G : GroupReading Sign Kind) where
       → (isAllowed (G .lattice c) items && G .further c (map operationOfItem items) ≡ true) ↔ IsAllowed c items
   group-test k c items g one few = (
     (λ e.
-        let (p, q) = both-true (isAllowed (G .lattice c) items) _ .0 e in
+        let (p, q) = and-eq-true-iff (isAllowed (G .lattice c) items) _ .0 e in
         (test .0 (ap (isAllowed (G .lattice c)) again ∙ p), G .further-test c (map operationOfItem items) .0 q)),
-    λ (p, q). both-true (isAllowed (G .lattice c) items) _ .1 (sym (ap (isAllowed (G .lattice c)) again) ∙ test .1 p, G .further-test c (map operationOfItem items) .1 q),
+    λ (p, q). and-eq-true-iff (isAllowed (G .lattice c) items) _ .1 (sym (ap (isAllowed (G .lattice c)) again) ∙ test .1 p, G .further-test c (map operationOfItem items) .1 q),
   )
     where
       again : map itemOf (map operationOfItem items) ≡ items

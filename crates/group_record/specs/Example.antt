@@ -1,4 +1,4 @@
--- The example of 01, "Group record": the record of `-P 1`, byte by byte, from its operations and from its text.
+-- The example of R5.6: the record of `-P 1`, byte by byte, from its operations and from its text.
 -- It holds the definitions of code, order and trailer against the paper.
 use mathlib.Core.Path.{_≡_, refl}
 use mathlib.Core.List.{[], _∷_}
@@ -58,5 +58,5 @@ example = refl
 
 -- The same from the text `-P 1`.
 pub example-text : textRecord (45 ∷ 80 ∷ 32 ∷ 49 ∷ []) ≡ 12 ∷ 126 ∷ 0 ∷ 0 ∷ 0 ∷ 64 ∷ 100 ∷ 0 ∷ 0 ∷ 0 ∷ 80 ∷ 1 ∷ 2 ∷ 0 ∷ 15 ∷ []
-unfolding textRecord recordOf recordIn writtenIn itemBytes bytesOf listedForm smallestOperation insert sort lattices.smallestOf lattice.smallest lattice.leastRank lattice.rank lattice.unrank _⊕_ symbolAnswer outcomeOf firstOff listing isSmall sameVectorClass onList keepsOf letterAmong letterOf handednessBy handednessOf operationOf entryOf matrixOf vectorOf motionOf digitAbove digitOf inside rowInside allInside codeOf agrees stepsFrom steadyFrom place sameInteger sameMatrix fresh run closure keepsPoints lattice.all lattice.sameTriple has residue turned product times act plus opposite unit origin determinant nought _⊖_ one whitespace solid allowed unclosed opening runs.run tokensFrom letterToken latticeToken shifts.oneDigit shifts.twoDigits shifts.numberOf shifts.numbersOf shifts.closedShift shiftedCoordinate shifted atShift atEnd operations readSymbol token-reader.readRun token-reader.letterThen token-reader.readLetter token-reader.markThen token-reader.readMark token-reader.foldThen token-reader.readFold token-reader.readToken token-reader.onceThen token-reader.movedThen token-letters.occurs token-letters.repeats token-letters.repeatFrom token-reader.turnThen token-reader.axisThen token-reader.operationOfParts token-reader.operationToken token-bytes.valueAt token-bytes.foldOf token-bytes.markOf token-bytes.letterOf token-bytes.runByteOf token-bytes.passes token-runs.every token-axes.placeOf token-matrices.turns token-matrices.isFor token-matrices.turnAmong token-matrices.turnOf token-matrices.signed token-translations.screwRight token-translations.frontRight token-translations.digitsRight token-translations.sumX token-translations.sumY token-translations.sumZ token-translations.rise token-translations.translationOf token-translations.movedBy
+unfolding textRecord recordOf recordIn writtenIn itemBytes bytesOf listedForm smallestOperation insert sort lattices.smallestOf lattice.smallest lattice.leastRank lattice.rank lattice.unrank _⊕_ symbolAnswer outcomeOf firstOff listing isSmall sameVectorClass onList keepsOf letterAmong letterOf handednessBy handednessOf operationOf entryOf matrixOf vectorOf motionOf digitAbove digitOf inside rowInside allInside codeOf agrees stepsFrom steadyFrom place sameInteger sameMatrix fresh run closure keepsPoints lattice.all lattice.sameTriple has residue turned product times act plus opposite unit origin determinant nought _⊖_ one whitespace solid allowed unclosed opening runs.run tokensFrom letterToken latticeToken shifts.oneDigit shifts.twoDigits shifts.shiftNumber shifts.numbersOf shifts.closedShift shiftedCoordinate shifted atShift atEnd operations readSymbol token-reader.readRun token-reader.letterThen token-reader.readLetter token-reader.markThen token-reader.readMark token-reader.foldThen token-reader.readFold token-reader.readToken token-reader.onceThen token-reader.movedThen token-letters.occurs token-letters.repeats token-letters.repeatFrom token-reader.turnThen token-reader.axisThen token-reader.operationOfParts token-reader.operationToken token-bytes.valueAt token-bytes.foldOf token-bytes.markOf token-bytes.letterOf token-bytes.runByteOf token-bytes.passes token-runs.every token-axes.tokenPlace token-matrices.turns token-matrices.isFor token-matrices.turnAmong token-matrices.turnOf token-matrices.signed token-translations.screwRight token-translations.frontRight token-translations.digitsRight token-translations.sumX token-translations.sumY token-translations.sumZ token-translations.rise token-translations.translationOf token-translations.movedBy
 example-text = refl

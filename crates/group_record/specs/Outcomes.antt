@@ -3,22 +3,22 @@
 -- The idea: a buffer that is long enough is a front and a trailer, and each rule speaks of one of them.
 use mathlib.Core.Path.{_≡_, refl, sym, _∙_, ap, ap₂, subst}
 use mathlib.Core.Logic.{_↔_}
-use mathlib.Core.Bool.{Bool, true, false, cond}
+use mathlib.Core.Bool.{Bool, true, false, cond, and-eq-true-iff}
 use mathlib.Core.List.{List, [], _∷_, _++_, append-assoc, List·Memᴰ as Mem}
 use mathlib.Core.Option.{Option, none, some}
 use Prim.Native.Nat.{ℕ, zero, suc, _+_, _*_, _-_, _/_, _%_, _<_, _≤_}
 use native.Mathlib.Omega.{arith}
 use native.Mathlib.Decide.{decLt}
-use lib.Dec.{leb, eqb, ltb}
+use lib.Dec.{leb, eqb}
 use borrow.Author.Tests.{lt-ltb, le-ltb, le-leb, leb-true, eq-eqb, eqb-true}
 use lib.ListN.{length, getD, take, drop, length-append, length-drop, take-append-drop}
 use lib.Seq.{getD-append-add, drop-drop, drop-at, length-take-le}
 use Rattle.laws.specs.Lattice.{all}
-use Rattle.laws.specs.Sorted.{Sorted, key-strict, key-decides, ascending, ascending-sorted, sorted-ascending}
+use Rattle.laws.specs.Sorted.{Sorted, key-strict, key-decides, ascending-sorted, sorted-ascending}
 use Rattle.group_record.specs.Items.{Bytes, bytes-left, itemsIn, items-length, bytesOf, bytes-length, written-read}
-use Rattle.group_record.specs.Editions.{Edition, totalLength, lastFive, trailerBytes, fromEnd, from-end, framed, framed-items}
+use Rattle.group_record.specs.Editions.{totalLength, lastFive, trailerBytes, from-end, framed, framed-items}
 use Rattle.group_record.specs.Rules.{Spelled, Rules, Told, refused, holds, lengthFits, keyBefore, areGood, itemsTold, lastItems, countedTold, letteredTold, editionTold, toldBy}
-use Rattle.group_record.specs.Tests.{both-true, all-true, fails, failed}
+use Rattle.group_record.specs.Tests.{all-true, fails, failed}
 use Rattle.group_record.specs.declared.Refusal.the-variants.{Short, WrongEdition, WrongLetter, WrongLength, WrongItem, NotAllowed}
 
 -- ---- bytes that spell
@@ -47,14 +47,14 @@ pub length-test : (width limit n stated size : ℕ) → (lengthFits width limit 
 unfolding lengthFits
 length-test width limit n stated size = (
   (λ e.
-      let (p, q) = both-true (leb 1 n) _ .0 e in
-      let (r, s) = both-true (leb n limit) _ .0 q in
-      let (t, u) = both-true (eqb stated (totalLength width n)) _ .0 s in
+      let (p, q) = and-eq-true-iff (leb 1 n) _ .0 e in
+      let (r, s) = and-eq-true-iff (leb n limit) _ .0 q in
+      let (t, u) = and-eq-true-iff (eqb stated (totalLength width n)) _ .0 s in
       (leb-true 1 n p, leb-true n limit r, eqb-true _ _ t, leb-true _ size u)),
   λ (p, q, r, s).
-      both-true (leb 1 n) _ .1 (
+      and-eq-true-iff (leb 1 n) _ .1 (
         le-leb 1 n p,
-        both-true (leb n limit) _ .1 (le-leb n limit q, both-true (eqb stated (totalLength width n)) _ .1 (eq-eqb _ _ r, le-leb _ size s)),
+        and-eq-true-iff (leb n limit) _ .1 (le-leb n limit q, and-eq-true-iff (eqb stated (totalLength width n)) _ .1 (eq-eqb _ _ r, le-leb _ size s)),
       ),
 )
 
@@ -141,13 +141,13 @@ module _ {Item Letter Kind : Type 0} (R : Rules Item Letter Kind) (W : Meaning R
   unfolding areGood
   good-test k c items = (
     (λ e.
-        let (p, q) = both-true (all (R .isItem c) items) _ .0 e in
+        let (p, q) = and-eq-true-iff (all (R .isItem c) items) _ .0 e in
         record {
           each = λ i m. W .item-test c i .0 (all-true (R .isItem c) items .0 p i m);
           ascend = ascending-sorted (λ (i j : Item). R .edition k .key i < R .edition k .key j) (λ i. Mem i items) (keyBefore R k) (key-decides (R .edition k .key) _) (key-strict (R .edition k .key)) items (λ i m. m) q;
         }),
     λ g.
-        both-true (all (R .isItem c) items) _ .1 (
+        and-eq-true-iff (all (R .isItem c) items) _ .1 (
           all-true (R .isItem c) items .1 (λ i m. W .item-test c i .1 (g .each i m)),
           sorted-ascending (λ (i j : Item). R .edition k .key i < R .edition k .key j) (λ i. Mem i items) (keyBefore R k) (key-decides (R .edition k .key) _) (λ i m. m) (g .ascend),
         ),

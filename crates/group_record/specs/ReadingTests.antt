@@ -2,18 +2,18 @@
 -- and refusal 35 exactly where these are not allowed.
 use mathlib.Core.Path.{_≡_, refl, sym, _∙_, ap, ap₂, subst}
 use mathlib.Core.Logic.{_↔_}
-use mathlib.Core.Bool.{Bool, true, false, _&&_, true≢false}
+use mathlib.Core.Bool.{true, true≢false, and-eq-true-iff}
 use mathlib.Core.List.{List, [], _∷_, map, List·Memᴰ as Mem, List·Memᴰ·head as here, List·Memᴰ·tail as there, Memᴰ·map as mem-map, Memᴰ·of-map as mem-of-map, Memᴰ·cast as mem-cast}
 use Prim.Native.Nat.{ℕ, _<_, _≤_}
 use native.Mathlib.Omega.{arith}
-use lib.Dec.{T, ltb, eqb}
+use lib.Dec.{ltb, eqb}
 use borrow.Author.Tests.{ltb-true, lt-ltb, eqb-true, eq-eqb}
 use lib.ListN.{length, length-map}
 use Rattle.laws.specs.Matrix.{Vector, opposite}
 use Rattle.laws.specs.Motion.{SpaceMotion, compose}
 use Rattle.laws.specs.Residue.{Triple, reduced, _⊕_, reduced-plus}
-use Rattle.laws.specs.Distinct.{has, has-member, or-left, or-right}
-use Rattle.laws.specs.Lattice.{Congruent, congruent-reflexive, zeroTriple, Before, by-x, by-y, by-z, all, all-member, member-all, sameTriple, triple-decides, belowTwelve, same-test, and-right}
+use Rattle.laws.specs.Distinct.{has}
+use Rattle.laws.specs.Lattice.{Congruent, congruent-reflexive, zeroTriple, Before, by-x, by-y, by-z, all, sameTriple, triple-decides, belowTwelve, same-test, and-right}
 use Rattle.laws.specs.LatticeMaps.{MapsOnto, onto-unimodular}
 use Rattle.laws.specs.Sorted.{Sorted, sorted-nil, sorted-cons, key-strict, key-decides, ascending-sorted, sorted-ascending, head-first, tail-sorted, sorted-map}
 use Rattle.operation.specs.Code.{codeOf, rotationOf, rotation-digits, code-rotation, code-lt}
@@ -29,12 +29,12 @@ use Rattle.centering.specs.Lattices.{points, tripleOf, translationOf, smallestO
 use Rattle.centering.specs.LatticeLaws.{holds, Smallest, smallest-is, smallest-same, congruent-lattice}
 use Rattle.centering.specs.Keeps.{keepsOf, keeps-lattice}
 use Rattle.centering.specs.declared.Centering.{Centering}
-pub use Rattle.group_record.specs.Tests.{both-true, all-true, has-true}
+pub use Rattle.group_record.specs.Tests.{all-true, has-true}
 use Rattle.group_record.specs.Record.{Item, item≡, itemOf}
 use Rattle.group_record.specs.Reading.{operationOfItem, isItem, itemBefore, areItems, alikeItems, productListed, pairListed, keepsItem, memberAllowed, isAllowed}
 use Rattle.group_record.specs.Groups.{Alike, Allowed, Form}
 use Rattle.group_record.specs.ListedForm.{operation≡, code-matrix, matrix-injective, CodeBefore, form-listing}
-use Rattle.group_record.specs.OneRecord.{operation-of-item, operations-of-items}
+use Rattle.group_record.specs.OneRecord.{operation-of-item}
 use Rattle.group_record.specs.GroupLaws.{identity-listed}
 
 -- ---- items
@@ -50,8 +50,8 @@ item-test c i = (forth, back)
   where
     forth : isItem c i ≡ true → (i .code < 19683) × Smallest c (i .translation) (i .translation)
     forth e =
-        let (p, q) = both-true (ltb (i .code) 19683) _ .0 e in
-        let (r, s) = both-true (belowTwelve (tripleOf (i .translation))) _ .0 q in
+        let (p, q) = and-eq-true-iff (ltb (i .code) 19683) _ .0 e in
+        let (r, s) = and-eq-true-iff (belowTwelve (tripleOf (i .translation))) _ .0 q in
         let same = triple-decides .exact _ _ (holds .1 s) in
         (ltb-true (i .code) 19683 p, smallest-is c (i .translation) (i .translation) .1 (ap translationOf (sym same)))
 
@@ -59,10 +59,10 @@ item-test c i = (forth, back)
     back (h, s) =
         let same : tripleOf (smallestOf c (i .translation)) ≡ tripleOf (i .translation) = ap tripleOf (sym (smallest-is c (i .translation) (i .translation) .0 s)) in
         let (x, y, z) = s .below in
-        both-true (ltb (i .code) 19683) _ .1 (
+        and-eq-true-iff (ltb (i .code) 19683) _ .1 (
           lt-ltb (i .code) 19683 h,
-          both-true (belowTwelve (tripleOf (i .translation))) _ .1 (
-            both-true (ltb (i .translation .x) 12) _ .1 (lt-ltb _ 12 x, both-true (ltb (i .translation .y) 12) _ .1 (lt-ltb _ 12 y, lt-ltb _ 12 z)),
+          and-eq-true-iff (belowTwelve (tripleOf (i .translation))) _ .1 (
+            and-eq-true-iff (ltb (i .translation .x) 12) _ .1 (lt-ltb _ 12 x, and-eq-true-iff (ltb (i .translation .y) 12) _ .1 (lt-ltb _ 12 y, lt-ltb _ 12 z)),
             rw same (holds .0 (triple-decides .reflexive (tripleOf (i .translation)))),
           ),
         )
@@ -83,7 +83,7 @@ pub items-test : (c : Centering) (items : List Item) → (areItems c items ≡ t
 unfolding areItems
 items-test c items = (
   (λ e.
-      let (p, q) = both-true (all (isItem c) items) _ .0 e in
+      let (p, q) = and-eq-true-iff (all (isItem c) items) _ .0 e in
       let each = all-true (isItem c) items .0 p in
       record {
         code = λ i m. item-test c i .0 (each i m) .0;
@@ -91,7 +91,7 @@ items-test c items = (
         ascend = ascending-sorted (λ i j. i .code < j .code) (λ i. Mem i items) itemBefore (key-decides itemKey _) (key-strict itemKey) items (λ i m. m) q;
       }),
   λ g.
-      both-true (all (isItem c) items) _ .1 (
+      and-eq-true-iff (all (isItem c) items) _ .1 (
         all-true (isItem c) items .1 (λ i m. item-test c i .1 (g .code i m, g .smallest i m)),
         sorted-ascending (λ i j. i .code < j .code) (λ i. Mem i items) itemBefore (key-decides itemKey _) (λ i m. m) (g .ascend),
       ),
@@ -145,9 +145,9 @@ alike-test : (c : Centering) (f g : Operation) → (alikeItems c (itemOf f) (ite
 unfolding alikeItems
 alike-test c f g = (
   (λ e.
-      let (p, q) = both-true (eqb (codeOf (f .rotation)) (codeOf (g .rotation))) _ .0 e in
+      let (p, q) = and-eq-true-iff (eqb (codeOf (f .rotation)) (codeOf (g .rotation))) _ .0 e in
       (eqb-true _ _ p, congruent-lattice c (f .translation) (g .translation) .0 q)),
-  λ (p, q). both-true (eqb (codeOf (f .rotation)) (codeOf (g .rotation))) _ .1 (eq-eqb _ _ p, congruent-lattice c (f .translation) (g .translation) .1 q),
+  λ (p, q). and-eq-true-iff (eqb (codeOf (f .rotation)) (codeOf (g .rotation))) _ .1 (eq-eqb _ _ p, congruent-lattice c (f .translation) (g .translation) .1 q),
 )
 
 -- An item is among those of a list up to L exactly if an operation of the list is alike.
@@ -247,9 +247,9 @@ member-test : (c : Centering) (l : List Operation) → ((f : Operation) → Mem 
 unfolding memberAllowed
 member-test c l entries f m = (
   (λ e.
-      let (p, q) = both-true (keepsItem c (itemOf f)) _ .0 e in
+      let (p, q) = and-eq-true-iff (keepsItem c (itemOf f)) _ .0 e in
       (keeps-test c f (entries f m) .0 p, row-test c l entries f m .0 q)),
-  λ (p, q). both-true (keepsItem c (itemOf f)) _ .1 (keeps-test c f (entries f m) .1 p, row-test c l entries f m .1 q),
+  λ (p, q). and-eq-true-iff (keepsItem c (itemOf f)) _ .1 (keeps-test c f (entries f m) .1 p, row-test c l entries f m .1 q),
 )
 
 -- The test of 35: operations in the listed form, 1 to 48 of them, are allowed.
@@ -262,7 +262,7 @@ allowed-test c l F some few = (forth, back)
 
     forth : isAllowed c (map itemOf l) ≡ true → Allowed c (map motionOf l)
     forth e =
-        let (p, q) = both-true (has (alikeItems c) (itemOf identityOperation) (map itemOf l)) _ .0 e in
+        let (p, q) = and-eq-true-iff (has (alikeItems c) (itemOf identityOperation) (map itemOf l)) _ .0 e in
         let member : (f : Operation) → Mem f l → _ = λ f m. member-test c l (F .entries) f m .0 (all-true (memberAllowed c (map itemOf l)) (map itemOf l) .0 q (itemOf f) (mem-map itemOf m)) in
         record {
           count = rw (length-map l motionOf) (some, few);
@@ -279,7 +279,7 @@ allowed-test c l F some few = (forth, back)
 
     back : Allowed c (map motionOf l) → isAllowed c (map itemOf l) ≡ true
     back A =
-        both-true (has (alikeItems c) (itemOf identityOperation) (map itemOf l)) _ .1 (
+        and-eq-true-iff (has (alikeItems c) (itemOf identityOperation) (map itemOf l)) _ .1 (
           identity-test c l F .1 (identity-listed (form-listing c F) (A .holds-identity)),
           all-true (memberAllowed c (map itemOf l)) (map itemOf l) .1 (λ i m.
               let (f, k, e) = mem-of-map itemOf l m in

@@ -6,7 +6,7 @@ use native.Mathlib.Omega.{arith}
 use lib.ListN.{length-drop}
 use Rattle.group_record.specs.Found.{leadsTo}
 use Rattle.group_record.specs.Search.{itemsOf, readItems}
-use Rattle.group_record.specs.Parts.{tail-part}
+use Rattle.laws.specs.LentParts.{tail-part}
 use Rattle.group_record.specs.declared.Reading.{Reading}
 use borrow.Author.Needs.{needs}
 use Rattle.group_record.proofs.reader.read_record.Statement.{statement}
