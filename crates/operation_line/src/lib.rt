@@ -1,0 +1,10 @@
+// Operation lines, as `-x,-y+1/2,z`: read into operations, or refused. New in the port: the Rust has no such lines.
+use operation::Operation;
+
+// An operation read from a line; `TooLong` is refusal 40 at place 0, `Misspelt` 41 with its place, `Determinant` 42 at place 0.
+pub enum ReadLine {
+    Operation(Operation),
+    TooLong,
+    Misspelt(usize),
+    Determinant,
+}
