@@ -10,8 +10,10 @@ use native.Mathlib.Numerals.{add-one}
 use lib.ListN.{length, getD, take, drop, set, length-append}
 use lib.Seq.{drop-cons, take-suc, set-at, length-take-le}
 use Rattle.operation.specs.Below.{allBelow, below}
-use Rattle.placing.specs.Placing.{Put, put-then, put-named}
-use Rattle.operation_line.specs.Spelling.{Letter, X, Y, Z, Body, letter, fraction, Term, signed, letterByte, numeral, bodyBytes}
+use Rattle.placed_text.specs.Placing.{Put, put-then, put-named}
+use Rattle.operation_line.specs.declared.Letter.{Letter}
+use Rattle.operation_line.specs.declared.Letter.the-variants.{X, Y, Z}
+use Rattle.operation_line.specs.Spelling.{Body, letter, fraction, Term, signed, letterByte, numeral, bodyBytes}
 use Rattle.operation_line.specs.Writing.{letterTerm, numerators, divisors, twelfths, fractionTerm, lettersOf, rowTerms, signBytes, isEmpty, plainBytes}
 
 -- ---- the bytes of one term, by the entry's digit and by the twelfths

@@ -7,7 +7,9 @@ use Rattle.laws.specs.Matrix.{Vector}
 use Rattle.operation.specs.declared.Rotation.{Rotation}
 use Rattle.operation.specs.declared.Translation.{Translation}
 use Rattle.operation.specs.declared.Operation.{Operation}
-use Rattle.operation_line.specs.Spelling.{Letter, X, Y, Z, Body, letter, fraction, Term, Line, sameLetter}
+use Rattle.operation_line.specs.declared.Letter.{Letter}
+use Rattle.operation_line.specs.declared.Letter.the-variants.{X, Y, Z}
+use Rattle.operation_line.specs.Spelling.{Body, letter, fraction, Term, Line, sameLetter}
 
 -- ---- the operation
 

@@ -10,7 +10,7 @@ use lib.Seq.{take-at}
 use Rattle.operation.specs.declared.Operation.{Operation}
 use Rattle.five_bytes.specs.FiveBytes.{fiveBytesOf}
 use Rattle.five_bytes.specs.declared.FiveBytes.the-variants.{Is, Wrong}
-use Rattle.placing.specs.Placing.{Put, put-front}
+use Rattle.placed_text.specs.Placing.{Put, put-front}
 use Rattle.operation_line.specs.Writing.{lineOf, plainLine, writtenLine, fittedAnswer, fitted, writable, writtenBy, bufferBy, writeOf, bufferOf}
 use Rattle.operation_line.specs.Building.{part-short}
 use Rattle.operation_line.specs.declared.writer.WrittenLine.{WrittenLine}

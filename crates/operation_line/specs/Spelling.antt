@@ -5,13 +5,10 @@ use mathlib.Core.Bool.{Bool, true, false, cond, _||_}
 use mathlib.Core.List.{List, [], _∷_, _++_, List·Memᴰ as Mem}
 use Prim.Native.Nat.{ℕ, _+_, _/_, _%_, _<_, _≤_}
 use lib.Dec.{ltb}
+use Rattle.operation_line.specs.declared.Letter.{Letter}
+use Rattle.operation_line.specs.declared.Letter.the-variants.{X, Y, Z}
 
 -- ---- terms
-
-pub data Letter : Type 0 where
-  X : Letter
-  Y : Letter
-  Z : Letter
 
 -- What a term's sign stands before: a letter, or a numerator over a denominator.
 pub data Body : Type 0 where

@@ -14,7 +14,9 @@ use Rattle.operation.specs.declared.rotation_type.Handedness.the-variants.{Prop
 use Rattle.five_bytes.specs.FiveBytes.{fiveBytesOf}
 use Rattle.five_bytes.specs.declared.FiveBytes.{FiveBytes}
 use Rattle.five_bytes.specs.declared.FiveBytes.the-variants.{Is, Wrong}
-use Rattle.operation_line.specs.Spelling.{Letter, X, Y, Z, Body, letter, fraction, Term, signed, bodyBytes, Line}
+use Rattle.operation_line.specs.declared.Letter.{Letter}
+use Rattle.operation_line.specs.declared.Letter.the-variants.{X, Y, Z}
+use Rattle.operation_line.specs.Spelling.{Body, letter, fraction, Term, signed, bodyBytes, Line}
 use Rattle.operation_line.specs.declared.writer.WrittenLine.{WrittenLine}
 use Rattle.operation_line.specs.declared.writer.WrittenLine.the-variants.{Length, NoOperation, Determinant, NoRoom}
 

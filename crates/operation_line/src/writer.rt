@@ -4,7 +4,7 @@ ghost use mathlib.Core.List.{_++_};
 ghost use Prim.Native.Nat.{_+_, _≤_, _<_};
 ghost use lib.ListN.{length, take, drop};
 ghost use Rattle.five_bytes.specs.FiveBytes.{Sayable};
-ghost use Rattle.placing.specs.Placing.{Put};
+ghost use Rattle.placed_text.specs.Placing.{Put};
 ghost use Rattle.operation_line.specs.Spelling.{numeral};
 ghost use Rattle.operation_line.specs.Writing.{signBytes, plainBytes, rowTerms, writtenLine, fittedAnswer, fitted, writable, writeOf, bufferOf};
 ghost use Rattle.operation_line.specs.Building.{letterBytes, fractionBytes};

@@ -3,7 +3,7 @@ use mathlib.Core.Path.{sym, ap}
 use mathlib.Core.Bool.{false}
 use lib.ListN.{getD, length-set}
 use native.Mathlib.Omega.{arith}
-use Rattle.placing.specs.Placing.{put-byte, put-nothing, put-then, put-named}
+use Rattle.placed_text.specs.Placing.{put-byte, put-nothing, put-then, put-named}
 use Rattle.operation_line.specs.Writing.{numerators, divisors}
 use Rattle.operation_line.specs.Building.{fractionBytes, fraction-signed, sign-short, numeral-short, numerator-small, divisor-small}
 use borrow.Author.Needs.{needs}

@@ -2,7 +2,7 @@
 use mathlib.Core.Path.{sym, _∙_, ap}
 use native.Mathlib.Omega.{arith}
 use lib.Dec.{eqb}
-use Rattle.placing.specs.Placing.{put-byte, put-nothing, put-then, put-named}
+use Rattle.placed_text.specs.Placing.{put-byte, put-nothing, put-then, put-named}
 use Rattle.operation_line.specs.Building.{letterBytes, letter-signed, sign-short}
 use borrow.Author.Needs.{needs}
 use Rattle.operation_line.proofs.writer.put_letter.Statement.{statement}

@@ -1,7 +1,7 @@
 -- Three parts of at most twelve bytes each, with commas between them.
 use native.Mathlib.Omega.{arith}
 use lib.ListN.{length-set}
-use Rattle.placing.specs.Placing.{put-byte, put-then}
+use Rattle.placed_text.specs.Placing.{put-byte, put-then}
 use Rattle.operation_line.specs.Writing.{lineOf, plainLine, writtenLine}
 use Rattle.operation_line.specs.Building.{part-short}
 use borrow.Author.Needs.{needs}

@@ -1,7 +1,7 @@
 -- One digit or two.
 use native.Mathlib.Omega.{arith}
 use lib.ListN.{length-set}
-use Rattle.placing.specs.Placing.{put-byte, put-two, put-named}
+use Rattle.placed_text.specs.Placing.{put-byte, put-two, put-named}
 use Rattle.operation_line.specs.Building.{one-digit, two-digits}
 use borrow.Author.Needs.{needs}
 use Rattle.operation_line.proofs.writer.put_numeral.Statement.{statement}

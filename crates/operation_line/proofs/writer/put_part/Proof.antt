@@ -4,8 +4,8 @@ use mathlib.Core.Bool.{true}
 use mathlib.Core.List.{[], append-nil}
 use native.Mathlib.Omega.{arith}
 use lib.Dec.{eqb}
-use Rattle.placing.specs.Placing.{put-nothing, put-then, put-named}
-use Rattle.operation_line.specs.Spelling.{X, Y, Z}
+use Rattle.placed_text.specs.Placing.{put-nothing, put-then, put-named}
+use Rattle.operation_line.specs.declared.Letter.the-variants.{X, Y, Z}
 use Rattle.operation_line.specs.Writing.{letterTerm, lettersOf, rowTerms, plainBytes}
 use Rattle.operation_line.specs.Building.{letter-short, first-letter, put-letter-more, put-fraction-more}
 use borrow.Author.Needs.{needs}

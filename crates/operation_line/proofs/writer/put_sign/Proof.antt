@@ -2,7 +2,7 @@
 use mathlib.Core.Path.{sym, _∙_, ap}
 use mathlib.Core.Bool.{false}
 use Rattle.operation_line.specs.Writing.{signBytes}
-use Rattle.placing.specs.Placing.{put-byte, put-nothing, put-named}
+use Rattle.placed_text.specs.Placing.{put-byte, put-nothing, put-named}
 use borrow.Author.Needs.{needs}
 use Rattle.operation_line.proofs.writer.put_sign.Statement.{statement}
 use Rattle.operation_line.proofs.writer.put_sign.Tie as tie
