@@ -8,3 +8,4 @@ pub mod Building
 pub mod Placed
 pub mod LowestTerms
 pub mod WrittenForm
+pub mod WrittenLines
