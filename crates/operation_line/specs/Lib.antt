@@ -9,3 +9,4 @@ pub mod Placed
 pub mod LowestTerms
 pub mod WrittenForm
 pub mod WrittenLines
+pub mod WritingAnswers
