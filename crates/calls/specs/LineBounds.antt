@@ -1,0 +1,32 @@
+-- What is answered for a line can be packed: a written line has at most 38 bytes, and its refusals are at 0.
+use mathlib.Core.Bool.{Bool, true, false, cond}
+use mathlib.Core.List.{List}
+use Prim.Native.Nat.{ℕ}
+use native.Mathlib.Omega.{arith}
+use lib.Dec.{ltb}
+use lib.ListN.{length}
+use Rattle.operation.specs.declared.Operation.{Operation}
+use Rattle.five_bytes.specs.FiveBytes.{fiveBytesOf}
+use Rattle.five_bytes.specs.declared.FiveBytes.{FiveBytes}
+use Rattle.five_bytes.specs.declared.FiveBytes.the-variants.{Is, Wrong}
+use Rattle.operation_line.specs.Placed.{line-short}
+use Rattle.operation_line.specs.Writing.{writtenLine, writable, fittedAnswer, writtenAnswer, writtenBy, writeOf}
+use Rattle.operation_line.specs.declared.writer.WrittenLine.the-variants.{Length, NoOperation, Determinant, NoRoom}
+use Rattle.calls.specs.Packing.{Told, near, Within, Low}
+
+-- ---- written
+by-room : (f : Operation) (t : Bool) → Within Low (writtenAnswer (cond t NoRoom (Length (length (writtenLine f)))))
+by-room f true = near (omega arith) (omega arith) (omega arith)
+by-room f false = omega (arith, line-short f)
+
+by-turn : (f : Operation) (room : ℕ) (t : Bool) → Within Low (writtenAnswer (cond t (fittedAnswer (writtenLine f) room) Determinant))
+by-turn f room true = by-room f (ltb room (length (writtenLine f)))
+by-turn f room false = near (omega arith) (omega arith) (omega arith)
+
+by-bytes : (five : FiveBytes) (room : ℕ) → Within Low (writtenAnswer (writtenBy five room))
+by-bytes (Is f) room = by-turn f room (writable f)
+by-bytes Wrong room = near (omega arith) (omega arith) (omega arith)
+
+pub written-within : (bytes : List ℕ) (room : ℕ) → Within Low (writtenAnswer (writeOf bytes room))
+unfolding writeOf
+written-within bytes room = by-bytes (fiveBytesOf bytes) room
