@@ -2,3 +2,9 @@
 pub mod Spelling
 pub mod Denoted
 pub mod Reading
+pub mod Numbers
+pub mod Beginnings
+pub mod SpeltRead
+pub mod Offending
+pub mod Held
+pub mod Ended
