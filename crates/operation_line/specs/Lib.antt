@@ -1,7 +1,14 @@
 -- Operation lines: how they are spelt, what they denote, how they are read and how they are written.
 pub mod Spelling
 pub mod Denoted
+-- How they are read.
 pub mod Reading
+pub mod Numbers
+pub mod Beginnings
+pub mod SpeltRead
+pub mod Offending
+pub mod Held
+pub mod Ended
 -- How they are written.
 pub mod Writing
 pub mod Building
