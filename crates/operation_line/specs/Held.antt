@@ -95,7 +95,7 @@ used-letter l (t ∷ ts) = go (t .body) (used-letter l ts)
 -- ---- twelfths
 
 -- The twelfths of a fraction of an edge: 1 to 11.
-range : (p q : ℕ) → Proper (fraction p q) → (1 ≤ 12 * p / q) × (12 * p / q ≤ 11)
+pub range : (p q : ℕ) → Proper (fraction p q) → (1 ≤ 12 * p / q) × (12 * p / q ≤ 11)
 range p q (least, less, here e) = rw e (omega arith, omega arith)
 range p q (least, less, there (here e)) = rw e (omega arith, omega arith)
 range p q (least, less, there (there (here e))) = rw e (omega arith, omega arith)

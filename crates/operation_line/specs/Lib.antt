@@ -8,3 +8,5 @@ pub mod SpeltRead
 pub mod Offending
 pub mod Held
 pub mod Ended
+pub mod Answers
+pub mod Moves
