@@ -95,7 +95,7 @@ used-letter l (t ∷ ts) = go (t .body) (used-letter l ts)
 -- ---- twelfths
 
 -- The twelfths of a fraction of an edge: 1 to 11.
-range : (p q : ℕ) → Proper (fraction p q) → (1 ≤ 12 * p / q) × (12 * p / q ≤ 11)
+pub range : (p q : ℕ) → Proper (fraction p q) → (1 ≤ 12 * p / q) × (12 * p / q ≤ 11)
 range p q (least, less, here e) = rw e (omega arith, omega arith)
 range p q (least, less, there (here e)) = rw e (omega arith, omega arith)
 range p q (least, less, there (there (here e))) = rw e (omega arith, omega arith)
@@ -147,7 +147,7 @@ rows-small (y ∷ []) h = omega (arith, row-small y)
 rows-small (y ∷ (x ∷ [])) h = omega (arith, row-small y, row-small x)
 rows-small (z ∷ (y ∷ (x ∷ ps))) h = absurd (omega arith)
 
-part-small : {q : List ℕ} {ts : List Term} → Part q ts → twelfthsIn ts < 12
+pub part-small : {q : List ℕ} {ts : List Term} → Part q ts → twelfthsIn ts < 12
 part-small {q} {ts} p = twelfths-small ts (terms-proper (p .spelt))
 
 ranks-small : {front : List ℕ} (ps : List (List Term)) → Done front ps → length ps ≤ 2 → ranks ps < 144

@@ -9,6 +9,8 @@ pub mod SpeltRead
 pub mod Offending
 pub mod Held
 pub mod Ended
+pub mod Answers
+pub mod Moves
 -- How they are written.
 pub mod Writing
 pub mod Building
@@ -17,3 +19,5 @@ pub mod LowestTerms
 pub mod WrittenForm
 pub mod WrittenLines
 pub mod WritingAnswers
+-- There and back.
+pub mod ReadBack

@@ -1,4 +1,7 @@
 // Operation lines, as `-x,-y+1/2,z`: read into operations and written. New in the port: the Rust has no such lines.
+ghost use mathlib.Core.Path.{_≡_};
+ghost use Rattle.operation_line.specs.Answers.{numberOf, placeOf};
+
 pub mod reader;
 pub mod writer;
 
@@ -17,4 +20,29 @@ pub enum ReadLine {
     TooLong,
     Misspelt(usize),
     Determinant,
+}
+
+impl ReadLine {
+    // The refusal's number, 0 where an operation is read.
+    pub fn number(self) -> u8
+        ensures { λ r. ⌜ r ≡ numberOf self ⌝ }
+    {
+        match self {
+            ReadLine::Operation(_) => 0,
+            ReadLine::TooLong => 40,
+            ReadLine::Misspelt(_) => 41,
+            ReadLine::Determinant => 42,
+        }
+    }
+
+    pub fn place(self) -> usize
+        ensures { λ r. ⌜ r ≡ placeOf self ⌝ }
+    {
+        match self {
+            ReadLine::Operation(_) => 0,
+            ReadLine::TooLong => 0,
+            ReadLine::Misspelt(place) => place,
+            ReadLine::Determinant => 0,
+        }
+    }
 }
