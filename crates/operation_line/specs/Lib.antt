@@ -10,3 +10,4 @@ pub mod Held
 pub mod Ended
 pub mod Answers
 pub mod Moves
+pub mod LinesToTry
