@@ -3,7 +3,7 @@
 use mathlib.Core.Path.{_≡_, refl, sym, _∙_, ap, subst}
 use mathlib.Core.Bool.{Bool, true, false, cond}
 use mathlib.Core.List.{List, [], _∷_}
-use mathlib.Core.Logic.{_⊎_, inl, inr, _↔_}
+use mathlib.Core.Logic.{inl, inr, _↔_}
 use Prim.Native.Nat.{ℕ, _<_, _≤_}
 use native.Mathlib.Omega.{arith}
 use lib.Dec.{ltb}
@@ -95,6 +95,10 @@ handed A inside Neither e = go
     go (inl d) = let p = determinant-proper A inside d in let z : _≡_ {A = ℕ} 0 1 = cc in absurd (omega arith)
     go (inr d) = let p = determinant-improper A inside d in let z : _≡_ {A = ℕ} 0 1 = cc in absurd (omega arith)
 
+-- A line's matrix by its own handedness.
+line-handed : (l : Line) (h : Handedness) → handednessOf (matrixOf (operationBy l .rotation)) ≡ h → Handed (matrixOf (operationBy l .rotation)) h
+line-handed l h e = handed (matrixOf (operationBy l .rotation)) (line-inside l) h e
+
 module _ (text : List ℕ) where
   -- What is spelt is answered by its determinant.
   pub spelt-answer : (l : Line) → length text ≤ 64 → Spells text l → readLine text ≡ decided (operationBy l)
@@ -109,9 +113,9 @@ module _ (text : List ℕ) where
   decided-holds l short spells = go (handednessOf (matrixOf (operationBy l .rotation))) refl
     where
       go : (h : Handedness) → handednessOf (matrixOf (operationBy l .rotation)) ≡ h → Answers text (turned (operationBy l) h)
-      go Proper e = record { short = short; line = l; spells = spells; is = refl; unimodular = handed (matrixOf (operationBy l .rotation)) (line-inside l) Proper e }
-      go Improper e = record { short = short; line = l; spells = spells; is = refl; unimodular = handed (matrixOf (operationBy l .rotation)) (line-inside l) Improper e }
-      go Neither e = record { short = short; line = l; spells = spells; other = handed (matrixOf (operationBy l .rotation)) (line-inside l) Neither e }
+      go Proper e = record { short = short; line = l; spells = spells; is = refl; unimodular = line-handed l Proper e }
+      go Improper e = record { short = short; line = l; spells = spells; is = refl; unimodular = line-handed l Improper e }
+      go Neither e = record { short = short; line = l; spells = spells; other = line-handed l Neither e }
 
   module _ (short : length text ≤ 64) (s : Reading) (reached : reach text begin ≡ at s) where
     -- A spelt text is read to the end of its third part.
@@ -120,7 +124,10 @@ module _ (text : List ℕ) where
 
     breaks-off : ¬ ((s .mode ≡ Told) × (length (s .done) ≡ 2)) → Answers text (Misspelt (length text))
     breaks-off not-whole =
-        (short, ended-offending text s reached (λ (l, spells). not-whole (ap (λ (r : Reading). r .mode) (at-end l spells), ap (λ (r : Reading). length (r .done)) (at-end l spells))))
+        (short, ended-offending text s reached (λ (l, spells). not-whole (whole l spells)))
+      where
+        whole : (l : Line) → Spells text l → (s .mode ≡ Told) × (length (s .done) ≡ 2)
+        whole l spells = (ap (λ (r : Reading). r .mode) (at-end l spells), ap (λ (r : Reading). length (r .done)) (at-end l spells))
 
     whole-holds : s .mode ≡ Told → (d : List (List Term)) → s .done ≡ d → Answers text (wholeLine (length text) d (s .terms))
     unfolding wholeLine
@@ -181,15 +188,17 @@ module _ (text : List ℕ) where
   holds-answer (Operation f) h =
       let l = h .line in
       let g = operationBy l in
+      let turn = handednessOf (matrixOf (g .rotation)) in
       let u : Unimodular (matrixOf (g .rotation)) = subst (λ (g : operation.Operation). Unimodular (matrixOf (g .rotation))) (h .is) (h .unimodular) in
-      spelt-answer l (h .short) (h .spells) ∙ kept g (handednessOf (matrixOf (g .rotation))) (handed (matrixOf (g .rotation)) (line-inside l) (handednessOf (matrixOf (g .rotation))) refl) u
+      spelt-answer l (h .short) (h .spells) ∙ kept g turn (line-handed l turn refl) u
       ∙ ap Operation (sym (h .is))
   holds-answer TooLong h = ap (λ (t : Bool). cond t TooLong (answered text (reach text begin))) (lt-ltb 64 (length text) h)
   holds-answer (Misspelt k) h = misspelt-answer k (h .0) (h .1)
   holds-answer Determinant h =
       let l = h .line in
       let g = operationBy l in
-      spelt-answer l (h .short) (h .spells) ∙ dropped g (handednessOf (matrixOf (g .rotation))) (handed (matrixOf (g .rotation)) (line-inside l) (handednessOf (matrixOf (g .rotation))) refl) (h .other)
+      let turn = handednessOf (matrixOf (g .rotation)) in
+      spelt-answer l (h .short) (h .spells) ∙ dropped g turn (line-handed l turn refl) (h .other)
 
   -- ---- the two are one
 
@@ -268,7 +277,10 @@ place-said Determinant = refl
 module _ (text : List ℕ) where
   -- Read: at most 64 bytes, spelt by the rules, and the terms' matrix has determinant 1 or −1.
   pub reads-exactly : (f : operation.Operation) → (answerOf (readLine text) ≡ given f) ↔ IsRead text f
-  reads-exactly f = ((λ e. answers-exact text (Operation f) .0 (one-said (readLine text) (Operation f) e)), λ h. ap answerOf (answers-exact text (Operation f) .1 h))
+  reads-exactly f = (
+    (λ e. answers-exact text (Operation f) .0 (one-said (readLine text) (Operation f) e)),
+    λ h. ap answerOf (answers-exact text (Operation f) .1 h),
+  )
 
   -- 40 at 0: over 64 bytes.
   pub forty-exactly : (k : ℕ) → (answerOf (readLine text) ≡ refused 40 k tt) ↔ ((k ≡ 0) × (64 < length text))

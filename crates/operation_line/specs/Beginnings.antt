@@ -9,7 +9,6 @@ use lib.Dec.{eqb, ltb}
 use lib.ListN.{length}
 use borrow.Author.Tests.{eqb-true, eqb-false, ltb-true, ltb-false, lt-ltb}
 use Rattle.operation_line.specs.declared.Letter.{Letter}
-use Rattle.operation_line.specs.declared.Letter.the-variants.{X, Y, Z}
 use Rattle.operation_line.specs.declared.reader.Symbol.{Symbol}
 use Rattle.operation_line.specs.declared.reader.Symbol.the-variants.{Space, Sign, Named, Digit, Slash, Comma, Foreign}
 use Rattle.operation_line.specs.declared.reader.Mode.{Mode}
@@ -67,12 +66,8 @@ blank-more h = blank-append h (space none)
 
 terms-space : {p : List ℕ} {ts : List Term} → Terms p ts → Terms (p ++ (32 ∷ [])) ts
 terms-space (blank h) = blank (blank-more h)
-terms-space (unsigned {s} {v} h b proper k) =
-    subst (λ (l : List ℕ). Terms l (signed false b ∷ [])) (sym (append-assoc s (bodyBytes b ++ v) (32 ∷ []) ∙ ap (λ (l : List ℕ). s ++ l) (append-assoc (bodyBytes b) v (32 ∷ []))))
-    (unsigned h b proper (blank-more k))
-terms-space (then {p} {u} {v} {ts} h n g b proper fresh k) =
-    subst (λ (l : List ℕ). Terms l (signed n b ∷ ts)) (sym (append-assoc p (signByte n ∷ (u ++ (bodyBytes b ++ v))) (32 ∷ []) ∙ ap (λ (l : List ℕ). p ++ (signByte n ∷ l)) (append-assoc u (bodyBytes b ++ v) (32 ∷ []) ∙ ap (λ (l : List ℕ). u ++ l) (append-assoc (bodyBytes b) v (32 ∷ [])))))
-    (then h n g b proper fresh (blank-more k))
+terms-space (unsigned h b proper k) = simp append-assoc (unsigned h b proper (blank-more k))
+terms-space (then h n g b proper fresh k) = simp append-assoc (then h n g b proper fresh (blank-more k))
 
 -- ---- fractions and letters that are used
 
@@ -132,28 +127,16 @@ Good text stopped = Unit {0}
 
 -- Before the first term a sign may be missing.
 pub start-front : {q : List ℕ} → Blank q → Front q [] false
-start-front {q} h =
-    record {
-      more-terms = λ u g b proper fresh.
-          subst (λ (l : List ℕ). Terms l (signed false b ∷ [])) (append-assoc q u (bodyBytes b ++ []) ∙ ap (λ (l : List ℕ). q ++ (u ++ l)) (append-nil (bodyBytes b)))
-          (unsigned (blank-append h g) b proper none);
-    }
+start-front h =
+    record { more-terms = λ u g b proper fresh. simp (append-assoc, append-nil) at (unsigned (blank-append h g) b proper none) }
 
 -- Behind terms a sign.
 sign-front : {q : List ℕ} {ts : List Term} → Terms q ts → (n : Bool) → Front (q ++ (signByte n ∷ [])) ts n
-sign-front {q} {ts} h n =
-    record {
-      more-terms = λ u g b proper fresh.
-          subst (λ (l : List ℕ). Terms l (signed n b ∷ ts)) (ap (λ (l : List ℕ). q ++ (signByte n ∷ (u ++ l))) (append-nil (bodyBytes b)) ∙ sym (append-assoc q (signByte n ∷ []) (u ++ bodyBytes b)))
-          (then h n g b proper fresh none);
-    }
+sign-front h n =
+    record { more-terms = λ u g b proper fresh. simp append-assoc (simp append-nil at (then h n g b proper fresh none)) }
 
 space-front : {q : List ℕ} {ts : List Term} {n : Bool} → Front q ts n → Front (q ++ (32 ∷ [])) ts n
-space-front {q} {ts} {n} h =
-    record {
-      more-terms = λ u g b proper fresh.
-          subst (λ (l : List ℕ). Terms l (signed n b ∷ ts)) (sym (append-assoc q (32 ∷ []) (u ++ bodyBytes b))) (h .more-terms (32 ∷ u) (space g) b proper fresh);
-    }
+space-front h = record { more-terms = λ u g b proper fresh. simp append-assoc (h .more-terms (32 ∷ u) (space g) b proper fresh) }
 
 -- A term closes.
 pub closed : {q : List ℕ} {ts : List Term} {n : Bool} → Front q ts n → (b : Body) → Proper b → used b ts ≡ false → Part (q ++ bodyBytes b) (signed n b ∷ ts)
@@ -195,6 +178,11 @@ module _ (text : List ℕ) (s : Reading) (b : ℕ) (h : Begun text s) where
         few = h .few;
         ends = e;
       }
+
+  -- The terms stay, and so does what stands at the end.
+  stay : (m : Mode) → s .mode ≡ m → (c : ℕ) → b ≡ c → Ends (h .part ++ (c ∷ [])) (s .terms) m → Begun (text ++ (b ∷ [])) s
+  stay m is c byte e =
+      on (s .terms) (s .mode) (subst (Ends (h .part ++ (b ∷ [])) (s .terms)) (sym is) (subst (λ (d : ℕ). Ends (h .part ++ (d ∷ [])) (s .terms) m) (sym byte) e))
 
   letter-good : (n : Bool) (l : Letter) → b ≡ letterByte l → Front (h .part) (s .terms) n → Good (text ++ (b ∷ [])) (withLetter s n l)
   unfolding withLetter
@@ -242,7 +230,7 @@ module _ (text : List ℕ) (s : Reading) (b : ℕ) (h : Begun text s) where
       front = subst (λ (ts : List Term). Front (h .part) ts false) (sym e) (start-front g)
 
       spaced : b ≡ 32 → Begun (text ++ (b ∷ [])) s
-      spaced is = on (s .terms) (s .mode) (subst (Ends (h .part ++ (b ∷ [])) (s .terms)) (sym m) (subst (λ (c : ℕ). Blank (h .part ++ (c ∷ []))) (sym is) (blank-more g), e))
+      spaced is = stay Start m 32 is (blank-more g, e)
 
       go : (y : Symbol) → ByteOf y b → Good (text ++ (b ∷ [])) (atStart s y)
       go Space is = begun-good false Space is front spaced
@@ -258,15 +246,11 @@ module _ (text : List ℕ) (s : Reading) (b : ℕ) (h : Begun text s) where
       go Foreign is = tt
 
   owed-good : (n : Bool) (y : Symbol) → ByteOf y b → Front (h .part) (s .terms) n → full (s .terms) ≡ false → s .mode ≡ Owed n → Good (text ++ (b ∷ [])) (begun s n y)
-  owed-good n y is f e m =
-      begun-good n y is f
-      (λ c. on (s .terms) (s .mode) (subst (Ends (h .part ++ (b ∷ [])) (s .terms)) (sym m) (subst (λ (c : ℕ). Front (h .part ++ (c ∷ [])) (s .terms) n) (sym c) (space-front f), e)))
+  owed-good n y is f e m = begun-good n y is f (λ byte. stay (Owed n) m 32 byte (space-front f, e))
 
   term-good : (y : Symbol) → ByteOf y b → Part (h .part) (s .terms) → s .mode ≡ Told → Good (text ++ (b ∷ [])) (afterTerm s y)
   unfolding afterTerm
-  term-good Space is p m =
-      on (s .terms) (s .mode)
-      (subst (Ends (h .part ++ (b ∷ [])) (s .terms)) (sym m) (subst (λ (c : ℕ). Part (h .part ++ (c ∷ [])) (s .terms)) (sym is) (record { spelt = terms-space (p .spelt); some = p .some })))
+  term-good Space is p m = stay Told m 32 is (record { spelt = terms-space (p .spelt); some = p .some })
   term-good (Sign n) is p m = go (full (s .terms)) refl
     where
       go : (t : Bool) → full (s .terms) ≡ t → Good (text ++ (b ∷ [])) (cond t stopped (ending s (Owed n)))
@@ -282,7 +266,7 @@ module _ (text : List ℕ) (s : Reading) (b : ℕ) (h : Begun text s) where
           record {
             front = h .front ++ (h .part ++ (44 ∷ []));
             part = [];
-            split = ap (λ (l : List ℕ). l ++ (b ∷ [])) (h .split) ∙ append-assoc (h .front) (h .part) (b ∷ []) ∙ ap (λ (c : ℕ). h .front ++ (h .part ++ (c ∷ []))) is ∙ sym (append-nil (h .front ++ (h .part ++ (44 ∷ []))));
+            split = rw (h .split, is) (simp (append-assoc, append-nil));
             finished = more (h .finished) p;
             few = omega (arith, ltb-true (length (s .done)) 2 e);
             ends = (none, refl);
@@ -369,7 +353,8 @@ module _ (text : List ℕ) (s : Reading) (b : ℕ) (h : Begun text s) where
       where
         go : (t : Bool) → eqb d 2 ≡ t → Good (text ++ (b ∷ [])) (cond t (withFraction s n m 12) stopped)
         go true two =
-            completes (47 ∷ 49 ∷ []) 12 (there (there (there (there (here refl))))) (ap (λ (c : ℕ). 47 ∷ 49 ∷ c ∷ []) (is .0 ∙ ap (λ (k : ℕ). 48 + k) (eqb-true d 2 two))) f
+            let last = is .0 ∙ ap (λ (k : ℕ). 48 + k) (eqb-true d 2 two) in
+            completes (47 ∷ 49 ∷ []) 12 (there (there (there (there (here refl))))) (ap (λ (c : ℕ). 47 ∷ 49 ∷ c ∷ []) last) f
         go false two = tt
     one-more Slash is f = tt
     one-more Comma is f = tt

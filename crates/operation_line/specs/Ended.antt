@@ -1,13 +1,12 @@
 -- What the code answers: at the end of a line the operation of the numbers it holds, which is that of the line's terms; and at each byte before, where it
 -- goes on and where it stops.
 use mathlib.Core.Path.{_≡_, refl, sym, _∙_, ap, subst}
-use mathlib.Core.Bool.{Bool, true, false, cond}
+use mathlib.Core.Bool.{Bool, cond}
 use mathlib.Core.List.{List, [], _∷_, _++_}
-use Prim.Native.Nat.{ℕ, suc, _+_, _*_, _/_, _%_, _^_, _<_, _≤_}
+use Prim.Native.Nat.{ℕ, suc, _+_, _*_, _/_, _%_, _<_, _≤_}
 use native.Mathlib.Omega.{arith}
 use native.Mathlib.Numerals.{add-one}
-use lib.Dec.{eqb, ltb}
-use lib.ListN.{length, getD, take, drop, take-append-drop}
+use lib.ListN.{length, getD, take, drop}
 use lib.Seq.{take-suc, take-length, split-at, length-take-le}
 use borrow.Author.Tests.{lt-ltb, le-ltb}
 use Rattle.operation.specs.Meaning.{Digits}
@@ -16,17 +15,15 @@ use Rattle.operation.specs.declared.Operation as operation
 use Rattle.operation.specs.declared.code.Decoded.{Decoded}
 use Rattle.operation.specs.declared.code.Decoded.the-variants.{Inside, Outside}
 use Rattle.operation_line.specs.declared.Letter.the-variants.{X, Y, Z}
-use Rattle.operation_line.specs.declared.ReadLine.{ReadLine}
-use Rattle.operation_line.specs.declared.ReadLine.the-variants.{Operation, TooLong, Misspelt, Determinant}
+use Rattle.operation_line.specs.declared.ReadLine.the-variants.{TooLong, Misspelt}
 use Rattle.operation_line.specs.declared.reader.Mode.{Mode}
 use Rattle.operation_line.specs.declared.reader.Mode.the-variants.{Start, Owed, Told, Numerator, Behind, Twelfth}
 use Rattle.operation_line.specs.declared.reader.State.{State}
-use Rattle.operation_line.specs.declared.reader.Next.{Next}
 use Rattle.operation_line.specs.declared.reader.Next.the-variants.{On, Stop}
 use Rattle.operation_line.specs.Spelling.{Term, Line}
 use Rattle.operation_line.specs.Denoted.{digitIn, twelfthsIn, rotationBy, translationBy, operationBy}
-use Rattle.operation_line.specs.Reading.{Reading, Reached, at, stopped, step, onwards, reach, passed, readable, begin, turned, decided, lineOf, wholeLine, ended, answered, readLine}
-use Rattle.operation_line.specs.Numbers.{decodedThen, decodedLine, wholeNumbers, endedBy, endedNumbers, stepNumbers, Within}
+use Rattle.operation_line.specs.Reading.{Reading, Reached, at, stopped, step, onwards, reach, passed, readable, begin, decided, lineOf, wholeLine, ended, answered, readLine}
+use Rattle.operation_line.specs.Numbers.{numbered, decodedThen, decodedLine, wholeNumbers, endedBy, endedNumbers, stepNumbers, Within}
 use Rattle.operation_line.specs.Beginnings.{Done, nothing, more, Ends, Begun, reached-begun}
 use Rattle.operation_line.specs.SpeltRead.{reach-append}
 use Rattle.operation_line.specs.Held.{rowCode, rowsCode, ranks, numbersOf, numbersNext, digit-small, twelfths-small, terms-proper, begun-within, step-held}
@@ -58,24 +55,29 @@ module _ (x y z : List Term) where
   line-decoded =
       let r = rotationBy (lineOf x y z) in
       let d = line-digits (lineOf x y z) in
-      ap decodedOf line-code ∙ ap (λ (t : Bool). cond t (Inside (rotationOf (codeOf r))) Outside) (lt-ltb (codeOf r) 19683 (code-lt r d)) ∙ ap Inside (rotation-code r d)
+      ap decodedOf line-code
+      ∙ ap (λ (t : Bool). cond t (Inside (rotationOf (codeOf r))) Outside) (lt-ltb (codeOf r) 19683 (code-lt r d)) ∙ ap Inside (rotation-code r d)
 
   module _ (x-small : twelfthsIn x < 12) (y-small : twelfthsIn y < 12) (z-small : twelfthsIn z < 12) where
-    whole-held : decodedLine (rowsCode (y ∷ (x ∷ [])) * 27 + rowCode z) (ranks (y ∷ (x ∷ [])) * 12 + twelfthsIn z) ≡ decided (operationBy (lineOf x y z))
-    unfolding decodedThen operationBy translationBy ranks
-    whole-held = ap (λ (d : Decoded). decodedThen d (ranks (y ∷ (x ∷ [])) * 12 + twelfthsIn z)) line-decoded ∙ ap decided moved
+    abbrev twelfths : ℕ
+    twelfths = ranks (y ∷ (x ∷ [])) * 12 + twelfthsIn z
+
+    line-numbered : numbered (rotationBy (lineOf x y z)) twelfths ≡ operationBy (lineOf x y z)
+    unfolding operationBy translationBy ranks
+    line-numbered = λ i. record { rotation = rotationBy (lineOf x y z); translation = record { x = one i; y = two i; z = three i } }
       where
-        one : (ranks (y ∷ (x ∷ [])) * 12 + twelfthsIn z) / 144 % 12 ≡ twelfthsIn x
+        one : twelfths / 144 % 12 ≡ twelfthsIn x
         one = omega arith
 
-        two : (ranks (y ∷ (x ∷ [])) * 12 + twelfthsIn z) / 12 % 12 ≡ twelfthsIn y
+        two : twelfths / 12 % 12 ≡ twelfthsIn y
         two = omega arith
 
-        three : (ranks (y ∷ (x ∷ [])) * 12 + twelfthsIn z) % 12 ≡ twelfthsIn z
+        three : twelfths % 12 ≡ twelfthsIn z
         three = omega arith
 
-        moved : _≡_ {A = operation.Operation} (record { rotation = rotationBy (lineOf x y z); translation = record { x = (ranks (y ∷ (x ∷ [])) * 12 + twelfthsIn z) / 144 % 12; y = (ranks (y ∷ (x ∷ [])) * 12 + twelfthsIn z) / 12 % 12; z = (ranks (y ∷ (x ∷ [])) * 12 + twelfthsIn z) % 12 } }) (record { rotation = rotationBy (lineOf x y z); translation = record { x = twelfthsIn x; y = twelfthsIn y; z = twelfthsIn z } })
-        moved = λ i. record { rotation = rotationBy (lineOf x y z); translation = record { x = one i; y = two i; z = three i } }
+    whole-held : decodedLine (rowsCode (y ∷ (x ∷ [])) * 27 + rowCode z) twelfths ≡ decided (operationBy (lineOf x y z))
+    unfolding decodedThen
+    whole-held = ap (λ (d : Decoded). decodedThen d twelfths) line-decoded ∙ ap decided line-numbered
 
 -- Behind a term.
 told-held : (size : ℕ) (front q : List ℕ) (done : List (List Term)) (ts : List Term) → Done front done → length done ≤ 2 → Ends q ts Told → wholeNumbers size (numbersOf (record { done = done; terms = ts; mode = Told })) ≡ wholeLine size done ts
@@ -166,7 +168,7 @@ module _ (line : List ℕ) (i : ℕ) (state : State) (h : Holds line i state) wh
             record {
               within = omega arith;
               reading = s;
-              reached = ap (λ (n : ℕ). reach (take n line) begin) (add-one i) ∙ ap (λ (l : List ℕ). reach l begin) (take-suc line i 0 more) ∙ reach-append (take i line) (byte ∷ []) begin (h .reading) (h .reached) ∙ reach-one byte (h .reading) ∙ is;
+              reached = rw (add-one i, take-suc line i 0 more) (reach-append (take i line) (byte ∷ []) begin (h .reading) (h .reached) ∙ reach-one byte (h .reading) ∙ is);
               numbers = cc;
             }
         go stopped is same = let z : _≡_ {A = ℕ} 0 1 = cc in absurd (omega arith)
@@ -182,6 +184,13 @@ module _ (line : List ℕ) (i : ℕ) (state : State) (h : Holds line i state) wh
         go : (w : Reached) → step (h .reading) byte ≡ w → numbersNext w ≡ Stop → Misspelt i ≡ readLine line
         go (at s) is same = let z : _≡_ {A = ℕ} 0 1 = cc in absurd (omega arith)
         go stopped is same =
-            let place : readable line begin ≡ i = ap (λ (l : List ℕ). readable l begin) split ∙ readable-stop (take i line) byte (drop (suc i) line) begin (h .reading) (h .reached) is ∙ length-take-le i line (h .within) in
-            let none : reach line begin ≡ stopped = ap (λ (l : List ℕ). reach l begin) split ∙ reach-append (take i line) (byte ∷ drop (suc i) line) begin (h .reading) (h .reached) ∙ reach-stop byte (drop (suc i) line) (h .reading) is in
-            ap Misspelt (sym place) ∙ ap (answered line) (sym none) ∙ sym (ap (λ (t : Bool). cond t TooLong (answered line (reach line begin))) (le-ltb 64 (length line) short))
+            let place : readable line begin ≡ i =
+            ap (λ (l : List ℕ). readable l begin) split
+            ∙ readable-stop (take i line) byte (drop (suc i) line) begin (h .reading) (h .reached) is
+            ∙ length-take-le i line (h .within) in
+            let ends : reach line begin ≡ stopped =
+            ap (λ (l : List ℕ). reach l begin) split
+            ∙ reach-append (take i line) (byte ∷ drop (suc i) line) begin (h .reading) (h .reached)
+            ∙ reach-stop byte (drop (suc i) line) (h .reading) is in
+            ap Misspelt (sym place) ∙ ap (answered line) (sym ends)
+            ∙ sym (ap (λ (t : Bool). cond t TooLong (answered line (reach line begin))) (le-ltb 64 (length line) short))

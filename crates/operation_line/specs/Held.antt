@@ -1,12 +1,12 @@
 -- The numbers that the code holds are those of the terms it has read: the rows' code and the twelfths. Each step on the numbers is the step of the reading.
 use mathlib.Core.Path.{_≡_, refl, sym, _∙_, ap, subst}
 use mathlib.Core.Bool.{Bool, true, false, cond, not, _&&_, _||_, true≢false}
-use mathlib.Core.List.{List, [], _∷_, List·Memᴰ as Mem, List·Memᴰ·head as here, List·Memᴰ·tail as there}
-use Prim.Native.Nat.{ℕ, zero, suc, _+_, _*_, _-_, _/_, _%_, _<_, _≤_}
+use mathlib.Core.List.{List, [], _∷_, List·Memᴰ·head as here, List·Memᴰ·tail as there}
+use Prim.Native.Nat.{ℕ, suc, _+_, _*_, _-_, _/_, _%_, _<_, _≤_}
 use native.Mathlib.Omega.{arith}
 use lib.Dec.{eqb, ltb}
 use lib.ListN.{length}
-use borrow.Author.Tests.{eqb-true, eqb-false, eq-eqb, ne-eqb, not-true, not-false}
+use borrow.Author.Tests.{eqb-true, ne-eqb, not-false}
 use Rattle.operation_line.specs.declared.Letter.{Letter}
 use Rattle.operation_line.specs.declared.Letter.the-variants.{X, Y, Z}
 use Rattle.operation_line.specs.declared.reader.Symbol.{Symbol}
@@ -16,11 +16,11 @@ use Rattle.operation_line.specs.declared.reader.Mode.the-variants.{Start
 use Rattle.operation_line.specs.declared.reader.State.{State}
 use Rattle.operation_line.specs.declared.reader.Next.{Next}
 use Rattle.operation_line.specs.declared.reader.Next.the-variants.{On, Stop}
-use Rattle.operation_line.specs.Spelling.{Body, letter, fraction, Term, signed, sameLetter, denominators, Proper, clash, used, none, Terms, blank, unsigned, then, Part}
+use Rattle.operation_line.specs.Spelling.{Body, letter, fraction, Term, signed, sameLetter, Proper, clash, used, none, Terms, blank, unsigned, then, Part}
 use Rattle.operation_line.specs.Denoted.{signDigit, digitThen, digitIn, fractionTwelfths, twelfthsThen, twelfthsIn}
 use Rattle.operation_line.specs.Reading.{symbolOf, Reading, Reached, at, stopped, ending, told, withLetter, withFraction, withNumerator, begun, atStart, full, nextPart, afterTerm, afterNumerator, oneDigit, overDigit, afterSlash, afterOne, stepBy, step}
 use Rattle.operation_line.specs.Numbers.{weightOf, columnOf, endingNumbers, toldNumbers, letterNumbers, fractionNumbers, numeratorNumbers, begunNumbers, startNumbers, fullNumbers, nextNumbers, termNumbers, secondNumbers, afterNumbers, unitOf, overNumbers, slashNumbers, twelveNumbers, oneNumbers, numbersBy, stepNumbers, Within}
-use Rattle.operation_line.specs.Beginnings.{used-fraction, Done, nothing, more, Front, InFraction, Ends, Begun}
+use Rattle.operation_line.specs.Beginnings.{Done, nothing, more, Front, InFraction, Ends, Begun}
 use Rattle.operation_line.specs.Offending.{unused-some}
 
 -- ---- the numbers of terms
@@ -267,7 +267,16 @@ module _ (s : Reading) (proper : Propers (s .terms)) where
   full-held : fullNumbers (held .code) (held .rank) ≡ full (s .terms)
   unfolding fullNumbers full
   full-held =
-      rw (column-digit X, column-digit Y, column-digit Z, last-twelfths, used-letter X (s .terms), used-letter Y (s .terms), used-letter Z (s .terms), used-twelfths 1 2 (s .terms) proper)
+      rw (
+        column-digit X,
+        column-digit Y,
+        column-digit Z,
+        last-twelfths,
+        used-letter X (s .terms),
+        used-letter Y (s .terms),
+        used-letter Z (s .terms),
+        used-twelfths 1 2 (s .terms) proper,
+      )
       (go (eqb (digitIn X (s .terms)) 1) (eqb (digitIn Y (s .terms)) 1) (eqb (digitIn Z (s .terms)) 1) (eqb (twelfthsIn (s .terms)) 0))
     where
       go : (a b c d : Bool) → cond a false (cond b false (cond c false (not d))) ≡ (not a && (not b && (not c && not d)))

@@ -11,6 +11,7 @@ pub mod Held
 pub mod Ended
 pub mod Answers
 pub mod Moves
+pub mod LinesToTry
 -- How they are written.
 pub mod Writing
 pub mod Building

@@ -1,27 +1,27 @@
 -- What a line's operation does: at every integer vector, in twelfths, the three parts take the values of the motion, modulo 12.
 -- Letters are coordinates, so letters, signs and rows are tied to motions and to no convention of the code.
-use mathlib.Core.Path.{_≡_, refl, sym, _∙_, ap, ap₂, subst}
-use mathlib.Core.Bool.{Bool, true, false, cond, _||_, not}
+use mathlib.Core.Path.{_≡_, refl, sym, _∙_, ap}
+use mathlib.Core.Bool.{Bool, true, false}
 use mathlib.Core.List.{List, [], _∷_}
-use Prim.Native.Nat.{ℕ, _+_, _*_, _-_, _/_, _%_, _<_, _≤_}
+use Prim.Native.Nat.{ℕ, _+_, _*_, _-_, _/_, _%_}
 use native.Mathlib.Omega.{arith}
 use lib.Dec.{eqb}
 use borrow.Author.Tests.{eqb-true, not-false}
-use lib.IntN.{ℤ, pos, negℤ, one, _+ℤ_, _-ℤ_, _*ℤ_}
+use lib.IntN.{ℤ, pos, negℤ, one, _+ℤ_, _*ℤ_}
 use Rattle.laws.specs.Integer.{ring, nought}
-use Rattle.laws.specs.Matrix.{Matrix, Vector, dot, act, plus}
+use Rattle.laws.specs.Matrix.{Vector, dot, act, plus}
 use Rattle.laws.specs.Motion.{SpaceMotion}
-use Rattle.laws.specs.Residue.{residue, residue-add, residue-neg, residue-pos, residue-lt, Triple, triple≡, reduced}
+use Rattle.laws.specs.Residue.{residue, residue-add, residue-neg, residue-pos, triple≡, reduced}
 use Rattle.operation.specs.Meaning.{entryOf, matrixOf, vectorOf, motionOf}
 use Rattle.operation.specs.declared.Operation as operation
 use Rattle.operation_line.specs.declared.Letter.{Letter}
 use Rattle.operation_line.specs.declared.Letter.the-variants.{X, Y, Z}
 use Rattle.operation_line.specs.declared.ReadLine.the-variants.{Operation}
-use Rattle.operation_line.specs.Spelling.{Body, letter, fraction, Term, signed, Proper, used, Terms, blank, unsigned, then, Part, Line, Spells}
+use Rattle.operation_line.specs.Spelling.{Body, letter, fraction, Term, signed, Proper, used, Terms, blank, unsigned, then, Line, Spells}
 use Rattle.operation_line.specs.Denoted.{signDigit, digitThen, digitIn, fractionTwelfths, twelfthsThen, twelfthsIn, rotationBy, translationBy, operationBy, coordinate, bodyValue, signedValue, valueAt}
 use Rattle.operation_line.specs.Reading.{readLine}
 use Rattle.operation_line.specs.Held.{used-letter, used-twelfths, range, Propers, terms-proper}
-use Rattle.operation_line.specs.Answers.{IsRead, answers-exact}
+use Rattle.operation_line.specs.Answers.{answers-exact}
 
 -- The three parts' values.
 abbrev pub valuesAt : Vector → Line → Vector

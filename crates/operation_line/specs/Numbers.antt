@@ -7,6 +7,8 @@ use native.Mathlib.Omega.{arith}
 use borrow.Author.Tests.{eqb-true}
 use lib.Dec.{eqb, ltb}
 use Rattle.operation.specs.Code.{decodedOf}
+use Rattle.operation.specs.declared.Rotation.{Rotation}
+use Rattle.operation.specs.declared.Operation.{Operation}
 use Rattle.operation.specs.declared.code.Decoded.{Decoded}
 use Rattle.operation.specs.declared.code.Decoded.the-variants.{Inside, Outside}
 use Rattle.operation_line.specs.declared.Letter.{Letter}
@@ -144,9 +146,13 @@ Within s = (s .code < 19683) × (s .rank < 1728)
 
 -- ---- the end
 
+-- A rotation with three twelfths in one number.
+abbrev pub numbered : Rotation → ℕ → Operation
+numbered r n = record { rotation = r; translation = record { x = n / 144 % 12; y = n / 12 % 12; z = n % 12 } }
+
 -- The operation of a code and of three twelfths.
 unfoldable pub decodedThen : Decoded → ℕ → ReadLine
-decodedThen (Inside r) n = decided (record { rotation = r; translation = record { x = n / 144 % 12; y = n / 12 % 12; z = n % 12 } })
+decodedThen (Inside r) n = decided (numbered r n)
 decodedThen Outside n = Determinant
 
 abbrev pub decodedLine : ℕ → ℕ → ReadLine

@@ -1,21 +1,20 @@
 -- Where a misspelt line goes wrong: the reader stops at the first byte that no line so spelt has after the bytes before it. Every beginning that it
 -- has read can be completed, and behind the byte at which it stops nothing helps.
 use mathlib.Core.Path.{_≡_, refl, sym, _∙_, ap, subst}
-use mathlib.Core.Bool.{Bool, true, false, cond, _&&_, true≢false}
+use mathlib.Core.Bool.{Bool, true, false, _&&_}
 use mathlib.Core.List.{List, [], _∷_, _++_, append-assoc, append-nil, List·Memᴰ·head as here, List·Memᴰ·tail as there}
-use Prim.Native.Nat.{ℕ, zero, suc, _+_, _<_, _≤_}
+use Prim.Native.Nat.{ℕ, suc, _<_, _≤_}
 use native.Mathlib.Omega.{arith}
-use lib.Dec.{ltb}
-use lib.ListN.{length, take, drop, take-append-drop}
+use lib.ListN.{length, take}
 use lib.Seq.{take-length}
 use Rattle.laws.specs.Prefixes.{Starts, FirstOffending}
 use Rattle.operation_line.specs.declared.Letter.the-variants.{X, Y, Z}
 use Rattle.operation_line.specs.declared.reader.Mode.{Mode}
 use Rattle.operation_line.specs.declared.reader.Mode.the-variants.{Start, Owed, Told, Numerator, Behind, Twelfth}
-use Rattle.operation_line.specs.Spelling.{Body, letter, fraction, Term, signed, numeral, bodyBytes, Proper, used, Blank, none, Terms, unsigned, Part, Line, Spells, Spelt}
+use Rattle.operation_line.specs.Spelling.{Body, letter, fraction, Term, signed, numeral, bodyBytes, Proper, used, none, unsigned, Part, Spelt}
 use Rattle.operation_line.specs.Reading.{Reading, Reached, at, stopped, full, step, onwards, reach, passed, readable, begin, lineOf}
-use Rattle.operation_line.specs.Beginnings.{used-fraction, Done, nothing, more, Front, InFraction, Ends, Begun, Good, closed, start-front, good-reach, reached-begun}
-use Rattle.operation_line.specs.SpeltRead.{state, read, reach-append, begun-spelt, spelt-read}
+use Rattle.operation_line.specs.Beginnings.{used-fraction, Done, more, InFraction, Ends, Begun, closed, start-front, reached-begun}
+use Rattle.operation_line.specs.SpeltRead.{read, begun-spelt, spelt-read}
 
 -- ---- completions
 
@@ -46,8 +45,9 @@ fraction-completed q ts n m digits rest e f =
     record {
       rest = rest;
       terms = signed n (fraction m 12) ∷ ts;
-      part = subst (λ (l : List ℕ). Part l (signed n (fraction m 12) ∷ ts)) (sym (ap (λ (l : List ℕ). l ++ rest) (f .split) ∙ append-assoc (f .front) digits rest ∙ ap (λ (l : List ℕ). f .front ++ l) e))
-          (closed (f .opens) (fraction m 12) (f .least, omega (arith, f .most), there (there (there (there (here refl))))) (used-fraction m 12 1 2 ts ∙ f .fresh));
+      part =
+          let proper : Proper (fraction m 12) = (f .least, omega (arith, f .most), there (there (there (there (here refl))))) in
+          rw (f .split, append-assoc (f .front) digits rest, e) (closed (f .opens) (fraction m 12) proper (used-fraction m 12 1 2 ts ∙ f .fresh));
     }
 
 completed : (q : List ℕ) (ts : List Term) (m : Mode) → Ends q ts m → Completed q
@@ -99,10 +99,7 @@ pub begun-starts : (text : List ℕ) (s : Reading) → Begun text s → Starts S
 begun-starts text s h =
     let c = completed (h .part) (s .terms) (s .mode) (h .ends) in
     let w = whole (h .front) (h .part ++ c .rest) (s .done) (c .terms) (h .finished) (h .few) (c .part) in
-    let rest = w .0 in (
-      c .rest ++ rest,
-      subst Spelt (sym (ap (λ (t : List ℕ). t ++ (c .rest ++ rest)) (h .split) ∙ append-assoc (h .front) (h .part) (c .rest ++ rest) ∙ ap (λ (t : List ℕ). h .front ++ t) (sym (append-assoc (h .part) (c .rest) rest)) ∙ sym (append-assoc (h .front) (h .part ++ c .rest) rest))) (w .1),
-    )
+    (c .rest ++ w .0, rw (h .split) (simp append-assoc (simp append-assoc at (w .1))))
 
 -- ---- stopping
 

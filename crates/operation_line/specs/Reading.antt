@@ -1,10 +1,9 @@
 -- How a line is read, byte by byte: the finished parts, the terms of the part that is read, and what stands at the end of the bytes read.
 -- Any byte that cannot go on there stops the reader.
-use mathlib.Core.Path.{_≡_}
 use mathlib.Core.Bool.{Bool, true, false, cond, _&&_, _||_}
 use mathlib.Core.List.{List, [], _∷_}
 use Prim.Native.Nat.{ℕ, suc, _+_, _-_}
-use lib.Dec.{eqb, ltb, leb}
+use lib.Dec.{eqb, ltb}
 use lib.ListN.{length}
 use Rattle.operation.specs.Meaning.{matrixOf}
 use Rattle.operation.specs.RotationType.{handednessOf}

@@ -2,21 +2,20 @@
 -- With the other way round, a line's terms are read exactly if the text spells them, and a text spells one line at most.
 use mathlib.Core.Path.{_≡_, refl, sym, _∙_, ap, subst}
 use mathlib.Core.Bool.{Bool, true, false, cond, _&&_}
-use mathlib.Core.List.{List, [], _∷_, _++_, append-assoc, append-nil, List·Memᴰ as Mem, List·Memᴰ·head as here, List·Memᴰ·tail as there, List·Memᴰ·not-nil as not-in-nil}
+use mathlib.Core.List.{List, [], _∷_, _++_, append-assoc, List·Memᴰ as Mem, List·Memᴰ·head as here, List·Memᴰ·tail as there}
 use mathlib.Core.Logic.{_↔_}
-use Prim.Native.Nat.{ℕ, zero, suc, _+_, _-_, _<_, _≤_}
+use Prim.Native.Nat.{ℕ, _+_, _<_, _≤_}
 use native.Mathlib.Omega.{arith}
-use lib.Dec.{eqb, ltb}
+use lib.Dec.{ltb}
 use lib.ListN.{length}
 use borrow.Author.Tests.{ltb-true, ltb-false, ne-eqb, lt-ltb, le-ltb}
 use Rattle.operation_line.specs.declared.Letter.{Letter}
 use Rattle.operation_line.specs.declared.Letter.the-variants.{X, Y, Z}
-use Rattle.operation_line.specs.declared.reader.Symbol.{Symbol}
-use Rattle.operation_line.specs.declared.reader.Symbol.the-variants.{Space, Sign, Named, Digit, Slash, Comma, Foreign}
+use Rattle.operation_line.specs.declared.reader.Symbol.the-variants.{Sign, Named, Digit}
 use Rattle.operation_line.specs.declared.reader.Mode.{Mode}
-use Rattle.operation_line.specs.declared.reader.Mode.the-variants.{Start, Owed, Told, Numerator, Behind, Twelfth}
+use Rattle.operation_line.specs.declared.reader.Mode.the-variants.{Start, Owed, Told, Numerator, Behind}
 use Rattle.operation_line.specs.Spelling.{Body, letter, fraction, Term, signed, letterByte, signByte, numeral, bodyBytes, denominators, Proper, used, Blank, none, space, Terms, blank, unsigned, then, Part, Line, Spells}
-use Rattle.operation_line.specs.Reading.{Entry, symbolIn, marks, digitOr, symbolOf, Reading, Reached, at, stopped, ending, told, withLetter, withFraction, withNumerator, begun, atStart, full, nextPart, afterTerm, afterNumerator, oneDigit, overDigit, afterSlash, afterOne, stepBy, step, onwards, reach, begin, lineOf}
+use Rattle.operation_line.specs.Reading.{symbolIn, digitOr, symbolOf, Reading, Reached, at, stopped, ending, told, withLetter, withFraction, withNumerator, begun, atStart, full, afterTerm, afterNumerator, oneDigit, overDigit, afterSlash, afterOne, stepBy, step, onwards, reach, begin}
 use Rattle.operation_line.specs.Beginnings.{used-fraction, numeral-one, Done, nothing, more, Begun, reached-begun}
 
 abbrev pub state : List (List Term) → List Term → Mode → Reading
@@ -262,7 +261,7 @@ begun-spelt text l h =
       first = two .first;
       second = two .second;
       third = h .part;
-      split = h .split ∙ ap (λ (t : List ℕ). t ++ h .part) (two .split) ∙ append-assoc (two .first) (44 ∷ (two .second ++ (44 ∷ []))) (h .part) ∙ ap (λ (t : List ℕ). two .first ++ (44 ∷ t)) (append-assoc (two .second) (44 ∷ []) (h .part));
+      split = h .split ∙ ap (λ (t : List ℕ). t ++ h .part) (two .split) ∙ simp append-assoc;
       of-x = two .of-x;
       of-y = two .of-y;
       of-z = h .ends;

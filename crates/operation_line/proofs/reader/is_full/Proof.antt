@@ -1,6 +1,4 @@
 -- By the columns' tests.
-use mathlib.Core.Bool.{true, false}
-use mathlib.Core.Path.{sym, _∙_}
 use borrow.Author.Tests.{eq-eqb, ne-eqb}
 use Rattle.operation_line.specs.Numbers.{fullNumbers}
 use borrow.Author.Needs.{needs}

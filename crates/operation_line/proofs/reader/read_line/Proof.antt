@@ -1,12 +1,11 @@
 -- After each byte the state holds the numbers of the reading that the bytes so far reach.
-use mathlib.Core.Path.{_≡_, sym, _∙_, ap, subst}
-use Prim.Native.Nat.{ℕ, _+_, _-_, _≤_}
+use mathlib.Core.Path.{_≡_, sym, _∙_}
+use Prim.Native.Nat.{_-_}
 use native.Mathlib.Omega.{arith}
 use lib.ListN.{length}
 use borrow.Author.Needs.{needs}
 use borrow.Author.Tests.{lt-ltb}
 use Rattle.operation_line.specs.Reading.{readLine}
-use Rattle.operation_line.specs.Numbers.{endedNumbers}
 use Rattle.operation_line.specs.Ended.{Holds, holds-begin, holds-within, holds-on, holds-stop, holds-end}
 use Rattle.operation_line.proofs.reader.read_line.Statement.{statement}
 use Rattle.operation_line.proofs.reader.read_line.Tie as tie
