@@ -93,14 +93,17 @@ module _ (v : Vector) where
   letter-added : (n : Bool) (l : Letter) (ts : List Term) → digitIn l ts ≡ 1 → rowAt (signed n (letter l) ∷ ts) ≡ signedValue n (coordinate l v) +ℤ rowAt ts
   unfolding digitIn digitThen twelfthsIn twelfthsThen
   letter-added n X ts e =
+      let sign = entryOf (signDigit n) in
       rw (e, entry-none)
-      (first (entryOf (signDigit n)) (signedValue n (v .x)) (v .x) (entryOf (digitIn Y ts) *ℤ v .y) (entryOf (digitIn Z ts) *ℤ v .z) (pos (twelfthsIn ts)) (sign-times n (v .x)))
+      (first sign (signedValue n (v .x)) (v .x) (entryOf (digitIn Y ts) *ℤ v .y) (entryOf (digitIn Z ts) *ℤ v .z) (pos (twelfthsIn ts)) (sign-times n (v .x)))
   letter-added n Y ts e =
+      let sign = entryOf (signDigit n) in
       rw (e, entry-none)
-      (second (entryOf (signDigit n)) (signedValue n (v .y)) (v .y) (entryOf (digitIn X ts) *ℤ v .x) (entryOf (digitIn Z ts) *ℤ v .z) (pos (twelfthsIn ts)) (sign-times n (v .y)))
+      (second sign (signedValue n (v .y)) (v .y) (entryOf (digitIn X ts) *ℤ v .x) (entryOf (digitIn Z ts) *ℤ v .z) (pos (twelfthsIn ts)) (sign-times n (v .y)))
   letter-added n Z ts e =
+      let sign = entryOf (signDigit n) in
       rw (e, entry-none)
-      (third (entryOf (signDigit n)) (signedValue n (v .z)) (v .z) (entryOf (digitIn X ts) *ℤ v .x) (entryOf (digitIn Y ts) *ℤ v .y) (pos (twelfthsIn ts)) (sign-times n (v .z)))
+      (third sign (signedValue n (v .z)) (v .z) (entryOf (digitIn X ts) *ℤ v .x) (entryOf (digitIn Y ts) *ℤ v .y) (pos (twelfthsIn ts)) (sign-times n (v .z)))
 
   -- −x and 12 − x are one modulo 12.
   fraction-residue : (n : Bool) (p q : ℕ) → Proper (fraction p q) → residue (pos (fractionTwelfths n p q)) ≡ residue (signedValue n (pos (12 * p / q)))

@@ -1,14 +1,17 @@
 -- What the reader's code holds for a reading: the code of the rows and the twelfths as one number each. The same steps on these numbers: a letter is
 -- used where its digit is not 1, a fraction where the last twelfths are not 0.
-use mathlib.Core.Path.{_≡_, refl}
+use mathlib.Core.Path.{_≡_, refl, sym, _∙_, ap}
 use mathlib.Core.Bool.{Bool, true, false, cond, not}
 use Prim.Native.Nat.{ℕ, _+_, _*_, _-_, _/_, _%_, _<_, _≤_}
 use native.Mathlib.Omega.{arith}
 use borrow.Author.Tests.{eqb-true}
 use lib.Dec.{eqb, ltb}
 use Rattle.operation.specs.Code.{decodedOf}
+use Rattle.operation.specs.Meaning.{matrixOf}
+use Rattle.operation.specs.RotationType.{handednessOf}
 use Rattle.operation.specs.declared.Rotation.{Rotation}
 use Rattle.operation.specs.declared.Operation.{Operation}
+use Rattle.operation.specs.declared.rotation_type.Handedness.{Handedness}
 use Rattle.operation.specs.declared.code.Decoded.{Decoded}
 use Rattle.operation.specs.declared.code.Decoded.the-variants.{Inside, Outside}
 use Rattle.operation_line.specs.declared.Letter.{Letter}
@@ -22,7 +25,7 @@ use Rattle.operation_line.specs.declared.reader.Mode.the-variants.{Start
 use Rattle.operation_line.specs.declared.reader.State.{State}
 use Rattle.operation_line.specs.declared.reader.Next.{Next}
 use Rattle.operation_line.specs.declared.reader.Next.the-variants.{On, Stop}
-use Rattle.operation_line.specs.Reading.{symbolOf, decided}
+use Rattle.operation_line.specs.Reading.{symbolOf, turned, decided}
 
 -- A letter's place in a row of three digits.
 abbrev pub weightOf : Letter → ℕ
@@ -157,6 +160,12 @@ decodedThen Outside n = Determinant
 
 abbrev pub decodedLine : ℕ → ℕ → ReadLine
 decodedLine c n = decodedThen (decodedOf c) n
+
+-- What the code answers for a rotation that it has decoded.
+pub decoded-answer : (c n : ℕ) (d : Decoded) (r : Rotation) (h k : Handedness) → d ≡ decodedOf c → d ≡ Inside r → h ≡ handednessOf (matrixOf r) → h ≡ k → turned (numbered r n) k ≡ decodedLine c n
+unfolding decodedThen
+decoded-answer c n d r h k code inside handed told =
+    ap (turned (numbered r n)) (sym told ∙ handed) ∙ ap (λ (e : Decoded). decodedThen e n) (sym inside ∙ code)
 
 unfoldable pub wholeNumbers : ℕ → State → ReadLine
 wholeNumbers size s = cond (eqb (s .part) 2) (decodedLine (s .code) (s .rank)) (Misspelt size)

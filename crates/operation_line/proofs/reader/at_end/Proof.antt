@@ -33,7 +33,9 @@ returns-2 : tie.Need-returns-2
 returns-2 c = ap (endedBy (c .before .before .args .size) (c .before .before .args .state)) (sym (c .enum-told2 .given .1))
 
 returns-3 : tie.Need-returns-3
-returns-3 c = c .whole .ensures ∙ ap (endedBy (c .before .before .before .args .size) (c .before .before .before .args .state)) (sym (c .before .enum-told3 .given .1))
+returns-3 c =
+    let args = c .before .before .before .args in
+    c .whole .ensures ∙ ap (endedBy (args .size) (args .state)) (sym (c .before .enum-told3 .given .1))
 
 returns-4 : tie.Need-returns-4
 returns-4 c = ap (endedBy (c .before .before .args .size) (c .before .before .args .state)) (sym (c .enum-told4 .given .1))

@@ -1,8 +1,8 @@
 -- By what the code stands for, and by the handedness.
+use Rattle.operation_line.specs.Numbers.{decodedThen, decoded-answer}
 use mathlib.Core.Path.{sym, _∙_, ap}
 use Rattle.operation.specs.declared.code.Decoded.{Decoded}
 use Rattle.operation_line.specs.Reading.{turned}
-use Rattle.operation_line.specs.Numbers.{decodedThen}
 use borrow.Author.Needs.{needs}
 use Rattle.operation_line.proofs.reader.operation_of.Statement.{statement}
 use Rattle.operation_line.proofs.reader.operation_of.Tie as tie
@@ -18,7 +18,9 @@ enum-told c = search needs
 
 returns : tie.Need-returns
 unfolding decodedThen
-returns c = ap (λ (d : Decoded). decodedThen d (c .before .before .before .args .rank)) (sym (c .enum-told .given .1) ∙ c .before .before .rotation-of-code .ensures)
+returns c =
+    let outside = sym (c .enum-told .given .1) ∙ c .before .before .rotation-of-code .ensures in
+    ap (λ (d : Decoded). decodedThen d (c .before .before .before .args .rank)) outside
 
 cast-t9 : tie.Need-cast-t9
 cast-t9 c = search needs
@@ -42,22 +44,31 @@ enum-told-4 : tie.Need-enum-told-4
 enum-told-4 c = search needs
 
 returns-2 : tie.Need-returns-2
-unfolding turned decodedThen
+unfolding turned
 returns-2 c =
-    ap (turned _) (sym (c .enum-told2 .given .1) ∙ c .before .before .identify-handedness .ensures)
-    ∙ ap (λ (d : Decoded). decodedThen d (c .before .before .before .before .before .before .before .args .rank)) (sym (c .before .before .before .before .rotation .given .1) ∙ c .before .before .before .before .before .before .rotation-of-code .ensures)
+    let inside = c .before .before .before .before in
+    let args = inside .before .before .before .args in
+    decoded-answer (args .code) (args .rank) _ _ _ _ (inside .before .before .rotation-of-code .ensures) (inside .rotation .given .1)
+    (c .before .before .identify-handedness .ensures)
+    (c .enum-told2 .given .1)
 
 returns-3 : tie.Need-returns-3
-unfolding turned decodedThen
+unfolding turned
 returns-3 c =
-    ap (turned _) (sym (c .enum-told3 .given .1) ∙ c .before .before .identify-handedness .ensures)
-    ∙ ap (λ (d : Decoded). decodedThen d (c .before .before .before .before .before .before .before .args .rank)) (sym (c .before .before .before .before .rotation .given .1) ∙ c .before .before .before .before .before .before .rotation-of-code .ensures)
+    let inside = c .before .before .before .before in
+    let args = inside .before .before .before .args in
+    decoded-answer (args .code) (args .rank) _ _ _ _ (inside .before .before .rotation-of-code .ensures) (inside .rotation .given .1)
+    (c .before .before .identify-handedness .ensures)
+    (c .enum-told3 .given .1)
 
 returns-4 : tie.Need-returns-4
-unfolding turned decodedThen
+unfolding turned
 returns-4 c =
-    ap (turned _) (sym (c .enum-told4 .given .1) ∙ c .before .before .identify-handedness .ensures)
-    ∙ ap (λ (d : Decoded). decodedThen d (c .before .before .before .before .before .before .before .args .rank)) (sym (c .before .before .before .before .rotation .given .1) ∙ c .before .before .before .before .before .before .rotation-of-code .ensures)
+    let inside = c .before .before .before .before in
+    let args = inside .before .before .before .args in
+    decoded-answer (args .code) (args .rank) _ _ _ _ (inside .before .before .rotation-of-code .ensures) (inside .rotation .given .1)
+    (c .before .before .identify-handedness .ensures)
+    (c .enum-told4 .given .1)
 
 pub operation-of-spec : {M : Type 1} → statement M
 operation-of-spec =

@@ -34,9 +34,9 @@ enum-told c = search needs
 
 returns-2 : tie.Need-returns-2 Inv-loop μ-loop
 returns-2 c =
-    let loop = c .before .before .before .before .before .loop in
-    let loop-test = c .before .before .before .before .loop-test in
-    holds-stop _ _ _ (loop .inv) (loop-test .taken) (sym (c .before .before .step .ensures) ∙ c .enum-told .given .1) (c .before .before .before .before .before .before .if1 .left)
+    let stepped = c .before .before in
+    let test = stepped .before .before in
+    holds-stop _ _ _ (test .before .loop .inv) (test .loop-test .taken) (sym (stepped .step .ensures) ∙ c .enum-told .given .1) (test .before .before .if1 .left)
 
 enum-known-next : tie.Need-enum-known-next Inv-loop μ-loop
 enum-known-next c = search needs
@@ -49,9 +49,9 @@ loop-less c = omega arith
 
 loop-again : tie.Need-loop-again Inv-loop μ-loop
 loop-again c =
-    let loop = c .before .before .before .before .before .before .loop in
-    let loop-test = c .before .before .before .before .before .loop-test in
-    holds-on _ _ _ (loop .inv) (loop-test .taken) _ (sym (c .before .before .before .step .ensures) ∙ c .before .next .given .1)
+    let stepped = c .before .before .before in
+    let test = stepped .before .before in
+    holds-on _ _ _ (test .before .loop .inv) (test .loop-test .taken) _ (sym (stepped .step .ensures) ∙ c .before .next .given .1)
 
 at-end-requires : tie.Need-at-end-requires Inv-loop μ-loop
 at-end-requires c κs = search needs

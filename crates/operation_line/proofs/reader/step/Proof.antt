@@ -45,22 +45,34 @@ after-one-requires : tie.Need-after-one-requires
 after-one-requires c κs = search needs
 
 returns : tie.Need-returns
-returns c = c .at-start .ensures ∙ ap₂ (numbersBy (c .before .before .before .before .args .state)) (sym (c .before .enum-told .given .1)) (c .before .before .before .symbol-of .ensures)
+returns c =
+    let from = c .before .before .before in
+    c .at-start .ensures ∙ ap₂ (numbersBy (from .before .args .state)) (sym (c .before .enum-told .given .1)) (from .symbol-of .ensures)
 
 returns-2 : tie.Need-returns-2
-returns-2 c = c .begun .ensures ∙ ap₂ (numbersBy (c .before .before .before .before .before .args .state)) (sym (c .before .before .mode .given .1)) (c .before .before .before .before .symbol-of .ensures)
+returns-2 c =
+    let from = c .before .before .before .before in
+    c .begun .ensures ∙ ap₂ (numbersBy (from .before .args .state)) (sym (c .before .before .mode .given .1)) (from .symbol-of .ensures)
 
 returns-3 : tie.Need-returns-3
-returns-3 c = c .after-term .ensures ∙ ap₂ (numbersBy (c .before .before .before .before .args .state)) (sym (c .before .enum-told2 .given .1)) (c .before .before .before .symbol-of .ensures)
+returns-3 c =
+    let from = c .before .before .before in
+    c .after-term .ensures ∙ ap₂ (numbersBy (from .before .args .state)) (sym (c .before .enum-told2 .given .1)) (from .symbol-of .ensures)
 
 returns-4 : tie.Need-returns-4
-returns-4 c = c .after-numerator .ensures ∙ ap₂ (numbersBy (c .before .before .before .before .before .args .state)) (sym (c .before .before .mode2 .given .1)) (c .before .before .before .before .symbol-of .ensures)
+returns-4 c =
+    let from = c .before .before .before .before in
+    c .after-numerator .ensures ∙ ap₂ (numbersBy (from .before .args .state)) (sym (c .before .before .mode2 .given .1)) (from .symbol-of .ensures)
 
 returns-5 : tie.Need-returns-5
-returns-5 c = c .after-slash .ensures ∙ ap₂ (numbersBy (c .before .before .before .before .before .args .state)) (sym (c .before .before .mode3 .given .1)) (c .before .before .before .before .symbol-of .ensures)
+returns-5 c =
+    let from = c .before .before .before .before in
+    c .after-slash .ensures ∙ ap₂ (numbersBy (from .before .args .state)) (sym (c .before .before .mode3 .given .1)) (from .symbol-of .ensures)
 
 returns-6 : tie.Need-returns-6
-returns-6 c = c .after-one .ensures ∙ ap₂ (numbersBy (c .before .before .before .before .before .args .state)) (sym (c .before .before .mode4 .given .1)) (c .before .before .before .before .symbol-of .ensures)
+returns-6 c =
+    let from = c .before .before .before .before in
+    c .after-one .ensures ∙ ap₂ (numbersBy (from .before .args .state)) (sym (c .before .before .mode4 .given .1)) (from .symbol-of .ensures)
 
 pub step-spec : {M : Type 1} → statement M
 step-spec =

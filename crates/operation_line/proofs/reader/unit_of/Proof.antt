@@ -23,7 +23,13 @@ returns-4 c = sym (ap unitOf (c .match .keys4))
 
 returns-5 : tie.Need-returns-5
 unfolding unitOf
-returns-5 c = simp (ne-eqb _ _ (c .match .rest .0 .0 .0 .1), ne-eqb _ _ (c .match .rest .0 .0 .1), ne-eqb _ _ (c .match .rest .0 .1), ne-eqb _ _ (c .match .rest .1))
+returns-5 c =
+    simp (
+      ne-eqb _ _ (c .match .rest .0 .0 .0 .1),
+      ne-eqb _ _ (c .match .rest .0 .0 .1),
+      ne-eqb _ _ (c .match .rest .0 .1),
+      ne-eqb _ _ (c .match .rest .1),
+    )
 
 pub unit-of-spec : {M : Type 1} → statement M
 unit-of-spec = tie.close (tie.spec returns returns-2 returns-3 returns-4 returns-5)

@@ -26,8 +26,8 @@ told-requires c κs = search needs
 returns-2 : tie.Need-returns-2
 unfolding letterNumbers
 returns-2 c =
-    rw (← c .before .before .before .before .column .ensures, eq-eqb _ _ (c .before .before .before .if1 .left), c .before .if2 .taken, ← c .before .before .weight .ensures)
-    (c .told .ensures)
+    let weighed = c .before .before in
+    rw (← weighed .before .before .column .ensures, eq-eqb _ _ (weighed .before .if1 .left), c .before .if2 .taken, ← weighed .weight .ensures) (c .told .ensures)
 
 add-told : tie.Need-add-told
 add-told c = omega (arith, c .before .weight .ensures, weight-small (c .before .before .before .before .args .letter))
@@ -38,8 +38,8 @@ told-requires-2 c κs = search needs
 returns-3 : tie.Need-returns-3
 unfolding letterNumbers
 returns-3 c =
-    rw (← c .before .before .before .before .column .ensures, eq-eqb _ _ (c .before .before .before .if1 .left), c .before .if2 .left, ← c .before .before .weight .ensures)
-    (c .told2 .ensures)
+    let weighed = c .before .before in
+    rw (← weighed .before .before .column .ensures, eq-eqb _ _ (weighed .before .if1 .left), c .before .if2 .left, ← weighed .weight .ensures) (c .told2 .ensures)
 
 pub with-letter-spec : {M : Type 1} → statement M
 with-letter-spec =
