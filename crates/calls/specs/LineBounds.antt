@@ -18,8 +18,8 @@ use Rattle.operation_line.specs.declared.ReadLine as read-line
 use Rattle.operation_line.specs.declared.ReadLine.the-variants as read
 use Rattle.operation_line.specs.Placed.{line-short}
 use Rattle.operation_line.specs.Writing.{writtenLine, writable, fittedAnswer, writtenAnswer, writtenBy, writeOf}
-use Rattle.operation_line.specs.declared.writer.WrittenLine.the-variants.{Length, NoOperation, Determinant, NoRoom}
-use Rattle.calls.specs.Packing.{Told, near, Within, Low}
+use Rattle.operation_line.specs.declared.writer.WrittenLine.the-variants.{Length, Determinant, NoRoom}
+use Rattle.calls.specs.Packing.{near, Within, Low}
 
 -- ---- read
 read-by : (text : List ℕ) (a : read-line.ReadLine) → readLine text ≡ a → Within Reduced (answerOf a)

@@ -13,7 +13,7 @@ use Rattle.operation.specs.Below.{allBelow, below}
 use Rattle.placed_text.specs.Placing.{Put, put-then, put-named}
 use Rattle.operation_line.specs.declared.Letter.{Letter}
 use Rattle.operation_line.specs.declared.Letter.the-variants.{X, Y, Z}
-use Rattle.operation_line.specs.Spelling.{Body, letter, fraction, Term, signed, letterByte, numeral, bodyBytes}
+use Rattle.operation_line.specs.Spelling.{Body, letter, fraction, Term, letterByte, numeral, bodyBytes}
 use Rattle.operation_line.specs.Writing.{letterTerm, numerators, divisors, twelfths, fractionTerm, lettersOf, rowTerms, signBytes, isEmpty, plainBytes}
 
 -- ---- the bytes of one term, by the entry's digit and by the twelfths

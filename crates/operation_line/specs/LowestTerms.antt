@@ -7,10 +7,10 @@ use Prim.Native.Nat.{ℕ, zero, suc, _+_, _-_, _*_, _/_, _%_, _<_, _≤_}
 use native.Mathlib.Omega.{arith}
 use native.Mathlib.Nat.{mod-eq-of-lt}
 use lib.Dec.{eqb, ltb, leb}
-use borrow.Author.Tests.{ltb-true, ltb-false, lt-ltb, leb-true, le-leb, eqb-true, eq-eqb, ne-eqb}
+use borrow.Author.Tests.{ltb-true, ltb-false, lt-ltb, leb-true, le-leb, eqb-true, eq-eqb}
 use lib.ListN.{getD}
 use Rattle.operation.specs.Below.{allBelow, below, both}
-use Rattle.operation_line.specs.Spelling.{Body, fraction, Term, signed, denominators, Proper}
+use Rattle.operation_line.specs.Spelling.{fraction, signed, denominators, Proper}
 use Rattle.operation_line.specs.Writing.{numerators, divisors, twelfths, fractionTerm}
 
 -- No number from 2 on divides both.

@@ -11,7 +11,7 @@ use Rattle.operation.specs.declared.Operation.{Operation}
 use Rattle.five_bytes.specs.FiveBytes.{fiveBytesOf}
 use Rattle.five_bytes.specs.declared.FiveBytes.the-variants.{Is, Wrong}
 use Rattle.placed_text.specs.Placing.{Put, put-front}
-use Rattle.operation_line.specs.Writing.{lineOf, plainLine, writtenLine, fittedAnswer, fitted, writable, writtenBy, bufferBy, writeOf, bufferOf}
+use Rattle.operation_line.specs.Writing.{lineOf, plainLine, writtenLine, fittedAnswer, fitted, writable, writeOf, bufferOf}
 use Rattle.operation_line.specs.Building.{part-short}
 use Rattle.operation_line.specs.declared.writer.WrittenLine.{WrittenLine}
 use Rattle.operation_line.specs.declared.writer.WrittenLine.the-variants.{Length, NoOperation, Determinant, NoRoom}

@@ -18,7 +18,7 @@ use Rattle.operation_line.specs.Denoted.{translationBy, operationBy}
 use Rattle.operation_line.specs.Reading.{readLine}
 use Rattle.operation_line.specs.Held.{part-small}
 use Rattle.operation_line.specs.Ended.{line-digits}
-use Rattle.operation_line.specs.Answers.{IsRead, answers-exact}
+use Rattle.operation_line.specs.Answers.{answers-exact}
 use Rattle.operation_line.specs.Writing.{writtenLine, writtenAnswer, writeOf, bufferOf}
 use Rattle.operation_line.specs.Placed.{line-short}
 use Rattle.operation_line.specs.WrittenLines.{written-spelt}

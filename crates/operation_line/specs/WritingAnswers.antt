@@ -1,6 +1,5 @@
 -- When a line is written and when each refusal is given, said of the five bytes of operations and their determinants; and what the lent buffer holds then.
 use mathlib.Core.Path.{_≡_, refl, sym, _∙_, ap}
-use mathlib.Core.Logic.{_↔_}
 use mathlib.Core.Bool.{Bool, true, false, cond, true≢false}
 use mathlib.Core.List.{List, _++_}
 use Prim.Native.Nat.{ℕ, _<_, _≤_}

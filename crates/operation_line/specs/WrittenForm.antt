@@ -1,22 +1,16 @@
 -- The written form, said of the terms of a line: the letters of each part ascend, a fraction in lowest terms may come last with a plus, and the text is
 -- these terms with no leading plus and no spaces. An operation with entries in −1..1 and no row of zeros has exactly one such text.
-use mathlib.Core.Path.{_≡_, refl, sym, _∙_, ap, ap₂}
-use mathlib.Core.Bool.{Bool, true, false, cond, not, _&&_, _||_}
+use mathlib.Core.Path.{_≡_, refl, ap, ap₂}
+use mathlib.Core.Bool.{Bool, true, false}
 use mathlib.Core.List.{List, [], _∷_, _++_}
-use Prim.Native.Nat.{ℕ, zero, suc, _+_, _*_, _/_, _%_, _<_, _≤_}
+use Prim.Native.Nat.{ℕ, _+_, _<_}
 use native.Mathlib.Omega.{arith}
-use lib.Dec.{eqb, ltb, leb}
-use borrow.Author.Tests.{ltb-true, lt-ltb, le-ltb, eqb-true, eq-eqb, ne-eqb}
-use lib.ListN.{length, getD}
-use Rattle.operation.specs.Below.{allBelow, below, both}
-use Rattle.operation.specs.declared.Operation.{Operation}
-use Rattle.five_bytes.specs.FiveBytes.{Sayable}
 use Rattle.operation_line.specs.declared.Letter.{Letter}
 use Rattle.operation_line.specs.declared.Letter.the-variants.{X, Y, Z}
-use Rattle.operation_line.specs.Spelling.{Body, letter, fraction, Term, signed, denominators, Proper, Line}
-use Rattle.operation_line.specs.Denoted.{signDigit, digitIn, twelfthsIn, digitThen, twelfthsThen, rotationBy, translationBy, operationBy}
+use Rattle.operation_line.specs.Spelling.{letter, fraction, Term, signed, Line}
+use Rattle.operation_line.specs.Denoted.{signDigit, digitIn, twelfthsIn, digitThen, twelfthsThen}
 use Rattle.operation_line.specs.LowestTerms.{Lowest, lowest-term}
-use Rattle.operation_line.specs.Writing.{letterTerm, numerators, divisors, twelfths, fractionTerm, lettersOf, rowTerms, lineOf, plainBytes, plainLine, writtenLine}
+use Rattle.operation_line.specs.Writing.{letterTerm, twelfths, fractionTerm, lettersOf, rowTerms, plainLine}
 
 -- ---- the form
 -- x before y before z.

@@ -1,12 +1,12 @@
 -- What is written is a line by the spelling rules, in written form, and denotes the operation; and no other text in written form does.
-use mathlib.Core.Path.{_≡_, refl, sym, _∙_, ap, ap₂, subst}
-use mathlib.Core.Bool.{Bool, true, false, _&&_, _||_, false≢true}
+use mathlib.Core.Path.{_≡_, refl, sym, _∙_, ap, subst}
+use mathlib.Core.Bool.{Bool, true, false, _&&_, false≢true}
 use mathlib.Core.List.{List, [], _∷_, _++_, append-nil}
-use mathlib.Core.Logic.{_⊎_, inl, inr, _↔_}
+use mathlib.Core.Logic.{inl, inr, _↔_}
 use Prim.Native.Nat.{ℕ, zero, suc, _<_, _≤_}
 use native.Mathlib.Omega.{arith}
 use lib.Dec.{eqb}
-use lib.IntN.{ℤ, negℤ, natAbs, one}
+use lib.IntN.{natAbs, one}
 use borrow.Author.Tests.{eqb-true}
 use lib.ListN.{length}
 use Rattle.laws.specs.Integer.{ring, nought, _⊖_}
@@ -24,10 +24,10 @@ use Rattle.five_bytes.specs.FiveBytes.{Sayable}
 use Rattle.five_bytes.specs.OneForm.{operation≡}
 use Rattle.operation_line.specs.declared.Letter.{Letter}
 use Rattle.operation_line.specs.declared.Letter.the-variants.{X, Y, Z}
-use Rattle.operation_line.specs.Spelling.{Body, letter, fraction, Term, signed, bodyBytes, numeral, Blank, Terms, Part, Line, Spells, used, sameLetter}
+use Rattle.operation_line.specs.Spelling.{letter, fraction, Term, signed, bodyBytes, Terms, Line, Spells, used}
 use Rattle.operation_line.specs.Spelling as spelling
 use Rattle.operation_line.specs.Denoted.{digitIn, twelfthsIn, digitThen, twelfthsThen, rotationBy, translationBy, operationBy}
-use Rattle.operation_line.specs.Writing.{letterTerm, twelfths, fractionTerm, lettersOf, rowTerms, lineOf, signBytes, isEmpty, plainBytes, plainLine, writtenLine, isTurn, writable}
+use Rattle.operation_line.specs.Writing.{letterTerm, lettersOf, rowTerms, lineOf, signBytes, isEmpty, plainBytes, plainLine, writtenLine, isTurn, writable}
 use Rattle.operation_line.specs.LowestTerms.{Lowest, twelfths-lowest}
 use Rattle.operation_line.specs.WrittenForm.{Before, x-y, x-z, y-z, Ascending, WrittenTerms, WrittenAs, row-told}
 use Rattle.operation_line.specs.WrittenForm as form

@@ -1,5 +1,5 @@
 -- The loop's invariant: the first bytes are copied, and the rest of the buffer is as it was. The measure is what is left.
-use mathlib.Core.Path.{_≡_, refl, sym, _∙_, ap}
+use mathlib.Core.Path.{_≡_, refl, _∙_, ap}
 use mathlib.Core.List.{_++_}
 use Prim.Native.Nat.{_-_, _≤_}
 use native.Mathlib.Omega.{arith}

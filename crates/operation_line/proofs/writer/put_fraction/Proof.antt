@@ -4,7 +4,7 @@ use mathlib.Core.Bool.{false}
 use lib.ListN.{getD, length-set}
 use native.Mathlib.Omega.{arith}
 use Rattle.placed_text.specs.Placing.{put-byte, put-nothing, put-then, put-named}
-use Rattle.operation_line.specs.Writing.{numerators, divisors}
+use Rattle.operation_line.specs.Writing.{numerators}
 use Rattle.operation_line.specs.Building.{fractionBytes, fraction-signed, sign-short, numeral-short, numerator-small, divisor-small}
 use borrow.Author.Needs.{needs}
 use Rattle.operation_line.proofs.writer.put_fraction.Statement.{statement}

@@ -1,5 +1,5 @@
 -- Nothing for the entry 0; otherwise the sign, then the letter.
-use mathlib.Core.Path.{sym, _∙_, ap}
+use mathlib.Core.Path.{sym, ap}
 use native.Mathlib.Omega.{arith}
 use lib.Dec.{eqb}
 use Rattle.placed_text.specs.Placing.{put-byte, put-nothing, put-then, put-named}

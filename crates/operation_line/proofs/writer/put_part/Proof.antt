@@ -1,12 +1,10 @@
 -- Three letters and the fraction, one behind the other.
-use mathlib.Core.Path.{refl}
 use mathlib.Core.Bool.{true}
-use mathlib.Core.List.{[], append-nil}
 use native.Mathlib.Omega.{arith}
 use lib.Dec.{eqb}
-use Rattle.placed_text.specs.Placing.{put-nothing, put-then, put-named}
+use Rattle.placed_text.specs.Placing.{put-named}
 use Rattle.operation_line.specs.declared.Letter.the-variants.{X, Y, Z}
-use Rattle.operation_line.specs.Writing.{letterTerm, lettersOf, rowTerms, plainBytes}
+use Rattle.operation_line.specs.Writing.{letterTerm, lettersOf, rowTerms}
 use Rattle.operation_line.specs.Building.{letter-short, first-letter, put-letter-more, put-fraction-more}
 use borrow.Author.Needs.{needs}
 use Rattle.operation_line.proofs.writer.put_part.Statement.{statement}
