@@ -5,6 +5,7 @@ pub mod Denoted
 pub mod Reading
 pub mod Numbers
 pub mod Beginnings
+pub mod AtMostOnce
 pub mod SpeltRead
 pub mod Offending
 pub mod Held
