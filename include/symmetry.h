@@ -19,6 +19,8 @@
  *   symmetry_table_...    order and table   n and n * n bytes by rows, the byte at i * n + j being the product of i and j. Refusals 21 to 25.
  * A source is checked in every call, before anything else that is asked; no function takes a group on trust.
  *
+ * Lines. symmetry_line_operation and symmetry_operation_line are about one operation and no group.
+ *
  * Sets. A set of elements is a 64-bit number: bit i is set if i is a member. A list of sets is lent as bytes, eight bytes a slot, high byte first;
  * bytes left over behind the last whole slot are no slot and are never written. symmetry_set reads a slot. In a list of conjugators or positions a
  * slot is one byte. In the order of a list of sets, the one with more members stands first; of two with as many, the one that holds the lowest
@@ -47,7 +49,7 @@ extern "C" {
 /*
  * The version of this header: the first number changes when something that stands here changes, the second when something is added.
  */
-enum symmetry_version { SYMMETRY_VERSION_MAJOR = 1, SYMMETRY_VERSION_MINOR = 0 };
+enum symmetry_version { SYMMETRY_VERSION_MAJOR = 1, SYMMETRY_VERSION_MINOR = 1 };
 
 /* Sizes that are always enough, and that something needs. */
 enum symmetry_most {
@@ -55,6 +57,9 @@ enum symmetry_most {
     SYMMETRY_MOST_ORDER = 48,             /* elements of a group */
     SYMMETRY_MOST_RECORD = 245,           /* bytes of a record: 5 * 48 + 5 */
     SYMMETRY_MOST_TABLE = 2304,           /* bytes of a table: 48 * 48 */
+    SYMMETRY_MOST_LINE = 64,              /* bytes of an operation line that is read */
+    SYMMETRY_MOST_LINE_WRITTEN = 34,      /* bytes of an operation line that is written */
+    SYMMETRY_OPERATION = 5,               /* bytes of one operation: the code, high byte first, then x, y, z */
     SYMMETRY_MOST_SYMBOL_SUBGROUPS = 98,  /* subgroups of a symbol's group or a record's: those of the cube's */
     SYMMETRY_MOST_SUBGROUPS = 374,        /* subgroups of any group up to order 48: those of five independent elements of order 2 */
     SYMMETRY_SLOT = 8                     /* bytes of a slot in a list of sets */
@@ -84,7 +89,7 @@ enum symmetry_refusal {
     SYMMETRY_TOO_MANY_ROTATIONS = 13, /* over 48 rotations, or one with an entry outside -1..1; at 0 */
     SYMMETRY_TWO_TRANSLATIONS = 14, /* one rotation with two translations that differ by no vector of the lattice; at 0 */
     /* A place in lent memory; at 0. */
-    SYMMETRY_NO_ROOM = 20,          /* the start is beyond the buffer, or fewer bytes than the record needs are left from it */
+    SYMMETRY_NO_ROOM = 20,          /* the start is beyond the buffer, or fewer bytes than the record or the line needs are left from it */
     /* A table of products; at 0. */
     SYMMETRY_ORDER = 21,            /* the order is 0 or over 48 */
     SYMMETRY_CELLS = 22,            /* not as many bytes as the square of the order, or a byte that is no element */
@@ -101,8 +106,13 @@ enum symmetry_refusal {
     SYMMETRY_RECORD_EDITION = 31,   /* the edition is not 1 */
     SYMMETRY_RECORD_LETTER = 32,    /* the letter is not one of P A B C I R F H */
     SYMMETRY_RECORD_LENGTH = 33,    /* not 1 to 48 operations, or a stated length that is wrong or beyond the buffer */
-    SYMMETRY_RECORD_ITEM = 34,      /* a code over 19682, a coordinate over 11, a translation not the smallest of its class, or codes not ascending */
-    SYMMETRY_RECORD_NO_GROUP = 35   /* what is listed is no group that a record may hold */
+    SYMMETRY_RECORD_ITEM = 34,      /* a code over 19682, a coordinate over 11, a translation not the smallest of its class, or codes not ascending;
+                                       of a single operation: not five bytes, or such a code or coordinate */
+    SYMMETRY_RECORD_NO_GROUP = 35,  /* what is listed is no group that a record may hold */
+    /* An operation line. */
+    SYMMETRY_LINE_TOO_LONG = 40,    /* over 64 bytes; at 0 */
+    SYMMETRY_LINE_MISSPELT = 41,    /* at the first byte that no line has after the bytes before it, or at the line's length if it breaks off */
+    SYMMETRY_LINE_DETERMINANT = 42  /* the determinant is not 1 or -1; at 0 */
 };
 
 /* ---- an answer, taken apart ---- */
@@ -133,7 +143,7 @@ static inline const char *symmetry_reason(unsigned number)
     case SYMMETRY_LATTICE_NOT_KEPT: return "a generator does not keep the lattice";
     case SYMMETRY_TOO_MANY_ROTATIONS: return "too many rotations, or too large an entry";
     case SYMMETRY_TWO_TRANSLATIONS: return "one rotation with two translations";
-    case SYMMETRY_NO_ROOM: return "no room for the record";
+    case SYMMETRY_NO_ROOM: return "no room for the record or the line";
     case SYMMETRY_ORDER: return "an order of 0 or over 48";
     case SYMMETRY_CELLS: return "a table of another size, or a cell that is no element";
     case SYMMETRY_NO_IDENTITY: return "no identity";
@@ -149,6 +159,9 @@ static inline const char *symmetry_reason(unsigned number)
     case SYMMETRY_RECORD_LENGTH: return "a wrong count or length in the record";
     case SYMMETRY_RECORD_ITEM: return "a wrong operation in the record";
     case SYMMETRY_RECORD_NO_GROUP: return "a record that holds no group";
+    case SYMMETRY_LINE_TOO_LONG: return "a line of over 64 bytes";
+    case SYMMETRY_LINE_MISSPELT: return "a misspelt line";
+    case SYMMETRY_LINE_DETERMINANT: return "a determinant other than 1 and -1";
     default: return "no refusal of these functions";
     }
 }
@@ -226,6 +239,22 @@ uint64_t symmetry_symbol_record(const uint8_t *text, size_t text_length, uint8_t
 
 /* The same for the group that a record holds: reads it, and writes it from out + start on. */
 uint64_t symmetry_record_copy(const uint8_t *record, size_t record_length, uint8_t *out, size_t out_length, uint64_t start);
+
+/* ---- operation lines ---- */
+
+/*
+ * Reads an operation line, as -x,-y+1/2,z, and answers the operation's number, as symmetry_symbol_operation does. Three parts stand between commas,
+ * each of one or more terms in any order: a letter x y z, each at most once, and at most one fraction p/q with q one of 2 3 4 6 12 and p from 1 to
+ * q - 1. Every term has a sign, but that a part's first plus may be missing. Spaces may stand anywhere but inside a fraction. 40, then 41, then 42.
+ */
+uint64_t symmetry_line_operation(const uint8_t *line, size_t line_length);
+
+/*
+ * Writes the line of an operation, given by its five bytes, from out on, and answers how many bytes it has: in each part the letters in the order
+ * x y z, no leading plus, then +p/q in lowest terms if the translation is not 0; no spaces. The bytes behind it are as they were. What was written is
+ * read as the same operation. 34, then 42, then 20.
+ */
+uint64_t symmetry_operation_line(const uint8_t *operation, size_t operation_length, uint8_t *out, size_t out_length);
 
 /* ---- subgroups ---- */
 

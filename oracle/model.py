@@ -15,6 +15,8 @@ A section below has the name of the section of 01 that it states.
 import re
 import struct
 import sys
+from fractions import Fraction
+from functools import lru_cache
 from itertools import product as pairs
 
 
@@ -400,6 +402,82 @@ def class_of(letter, operation):
     return rotation, smallest(letter, translation)
 
 
+# Lines from structure files, (i) of 02 ---------------------------------------------------------------------------
+
+MOST_LINE = 64
+TERM = rb"(?:[xyz]|1/2|[12]/3|[1-3]/4|[1-5]/6|(?:[1-9]|10|11)/12)"
+PART = re.compile(rb" *[+-]? *" + TERM + rb"(?: *[+-] *" + TERM + rb")* *")
+SIGNED_TERM = re.compile(rb"([+-]?) *(" + TERM + rb")")
+# Behind a beginning of a line one of these makes it whole, if anything does: a term's missing end or a term, and the missing parts.
+MISSING_ENDS = (b"", b"x", b"y", b"z", b"1/2", b"/12", b"12", b"2")
+MISSING_PARTS = (b"", b",x", b",x,x")
+
+
+def terms_of_part(part):
+    """The terms of one part, each a sign and a letter or a fraction, or None if the part is misspelt."""
+    if not PART.fullmatch(part):
+        return None
+    terms = [(-1 if sign == b"-" else 1, body) for sign, body in SIGNED_TERM.findall(part)]
+    kinds = [body if body.isalpha() else b"fraction" for _, body in terms]
+    return terms if len(set(kinds)) == len(kinds) else None
+
+
+def terms_of_line(line):
+    """The terms of the three parts, or None if the line is misspelt; its length does not matter here."""
+    parts = [terms_of_part(part) for part in line.split(b",")]
+    return parts if len(parts) == 3 and None not in parts else None
+
+
+@lru_cache(maxsize=None)
+def begins_line(text):
+    """Whether a line begins with these bytes."""
+    return any(terms_of_line(text + end + parts) for end in MISSING_ENDS for parts in MISSING_PARTS)
+
+
+def read_line(line):
+    """The operation of a line; refusals 40 to 42."""
+    if len(line) > MOST_LINE:
+        raise Refusal(40, 0)
+    parts = terms_of_line(line)
+    if parts is None:
+        raise Refusal(41, next((at for at in range(len(line)) if not begins_line(line[:at + 1])), len(line)))
+    rotation = tuple(sum(sign for sign, body in terms if body == letter) for terms in parts for letter in (b"x", b"y", b"z"))
+    fractions = [[(sign, body.split(b"/")) for sign, body in terms if b"/" in body] for terms in parts]
+    translation = tuple(sum(sign * 12 * int(p) // int(q) for sign, (p, q) in some) % 12 for some in fractions)
+    if abs(determinant(rotation)) != 1:
+        raise Refusal(42, 0)
+    return rotation, translation
+
+
+def written_part(row, twelfths_of_edge):
+    terms = "".join(("+" if entry > 0 else "-") + letter for entry, letter in zip(row, "xyz") if entry)
+    fraction = Fraction(twelfths_of_edge, 12)
+    return (terms + ("+%d/%d" % (fraction.numerator, fraction.denominator) if fraction else "")).removeprefix("+")
+
+
+def five_bytes(rotation, translation):
+    return code(rotation).to_bytes(2, "big") + bytes(translation)
+
+
+def written_line(operation):
+    """The line of an operation's five bytes; refusals 34 and 42."""
+    if len(operation) != 5 or int.from_bytes(operation[:2], "big") > 19682 or max(operation[2:]) > 11:
+        raise Refusal(34, 0)
+    rotation = rotation_of(int.from_bytes(operation[:2], "big"))
+    if abs(determinant(rotation)) != 1:
+        raise Refusal(42, 0)
+    return ",".join(written_part(rotation[3 * i:3 * i + 3], operation[2 + i]) for i in range(3)).encode()
+
+
+def write_line(operation, buffer):
+    """Writes the line at the start of the buffer and answers its length; refusals 34, 42, 20."""
+    line = written_line(operation)
+    if len(buffer) < len(line):
+        raise Refusal(20, 0)
+    buffer[:len(line)] = line
+    return len(line)
+
+
 # Tables and subgroups ---------------------------------------------------------------------------------------------
 
 class Table:
@@ -750,6 +828,33 @@ def example_rest():
     ]
 
 
+# Lines that are refused 41, with the place.
+MISSPELT_LINES = [
+    (b"", 0), (b"x,y", 3), (b"x,y,z,", 5), (b"x,,z", 2), (b"xx,y,z", 1), (b"x+x,y,z", 2), (b"x,y,z+1/ 2", 8), (b"x,y,z+1 1/12", 7),
+    (b"x+1/2+1/3,y,z", 6), (b"x,y,z+0/2", 6), (b"x,y,z+1/5", 8), (b"x,y,z+7/6", 8), (b"x,y,z+12/12", 7), (b"x,y,z+3/", 8), (b"X,y,z", 0),
+    (b"x,\ty,z", 2), (b"x y,y,z", 2), (b"1/2x,y,z", 3), (b"x+y+z+1/2+,y,z", 9), (b"x,y,z+5/1", 9), (b"x,y,z+", 6), (b"x,y,z+01/2", 6),
+]
+
+
+def example_lines():
+    lent = bytearray(b"*" * 9)
+    same = [(b" x , y , z ", b"x,y,z"), (b"-  x,y,z", b"-x,y,z"), (b"1/2+x,y,z", b"x+1/2,y,z"), (b"-1/4-z+y,x,z+2/4", b"y-z+3/4,x,z+1/2")]
+    return [("misspelt %s" % line, outcome(read_line, line), (41, place)) for line, place in MISSPELT_LINES] + [
+        ("%s read" % line, written_line(five_bytes(*read_line(line))), written) for line, written in same] + [
+        ("-x,-y+1/2,z", read_line(b"-x,-y+1/2,z"), ((-1, 0, 0, 0, -1, 0, 0, 0, 1), (0, 6, 0))),
+        ("64 bytes", outcome(read_line, b"x,y,z" + b" " * 59), (IDENTITY, NO_TRANSLATION)),
+        ("65 bytes", outcome(read_line, b"x,y,z" + b" " * 60), (40, 0)),
+        ("a row twice", outcome(read_line, b"x,x,z"), (42, 0)),
+        ("no letter", outcome(read_line, b"x,y,1/2"), (42, 0)),
+        ("four bytes", outcome(written_line, bytes(4)), (34, 0)),
+        ("code 19683", outcome(written_line, b"\x4c\xe3\x00\x00\x00"), (34, 0)),
+        ("a coordinate of 12", outcome(written_line, b"\x40\x64\x00\x0c\x00"), (34, 0)),
+        ("code 0", outcome(written_line, bytes(5)), (42, 0)),
+        ("no room for a line", outcome(write_line, b"\x40\x64\x00\x06\x00", bytearray(8)), (20, 0)),
+        ("just room for a line", (write_line(b"\x40\x64\x00\x06\x00", lent), bytes(lent)), (9, b"x,y+1/2,z")),
+    ]
+
+
 def outside_normalizer(table):
     subgroup = next(each for each in subgroups(table) if normalizer(table, each) != (1 << table.order) - 1)
     element = next(g for g in range(table.order) if not normalizer(table, subgroup) >> g & 1)
@@ -757,7 +862,7 @@ def outside_normalizer(table):
 
 
 def run_examples():
-    examples = example_symbols() + example_rest()
+    examples = example_symbols() + example_rest() + example_lines()
     failed = [each for each in examples if each[1] != each[2]]
     for name, said, expected in failed:
         print("failed: %s: %s, not %s" % (name, said, expected))

@@ -268,6 +268,49 @@ static void records(void) {
     expect(memcmp(out, marks, ROOM) == 0, "untouched buffers", 0);
 }
 
+/* ---- lines ----
+   -x,-y+1/2,z has the digits 0 1 1 / 1 0 1 / 1 1 2 of base 3, 2187 + 729 + 243 + 27 + 9 + 3 + 2 = 3200, and six twelfths along y. */
+static void lines(void) {
+    static const uint8_t screw[5] = { 3200 / 256, 3200 % 256, 0, 6, 0 }, identity[5] = { 0x40, 0x64, 0, 0, 0 }, outside[5] = { 0x4C, 0xE3, 0, 0, 0 };
+    static const uint8_t beyond[5] = { 0x40, 0x64, 0, 12, 0 }, none[5] = { 0, 0, 0, 0, 0 };
+    static const struct { const char *line; unsigned place; } misspelt[] = {
+        { "x,y", 3 }, { "x,y,z,", 5 }, { "x,,z", 2 }, { "xx,y,z", 1 }, { "x+x,y,z", 2 }, { "x,y,z+1/ 2", 8 }, { "x,y,z+1 1/12", 7 },
+        { "x+1/2+1/3,y,z", 6 }, { "x,y,z+0/2", 6 }, { "x,y,z+1/5", 8 }, { "x,y,z+7/6", 8 }, { "x,y,z+12/12", 7 }, { "x,y,z+3/", 8 },
+        { "X,y,z", 0 }, { "x,\ty,z", 2 }, { "x y,y,z", 2 }, { "x+y+z+1/2+,y,z", 9 }, { "x,y,z+5/1", 9 },
+    };
+    uint8_t out[ROOM], after[ROOM], spaces[65];
+    /* 16484 is 1 0 0 / 0 1 0 / 0 0 1 */
+    answers(symmetry_line_operation(TEXT("x,y,z")), UINT64_C(16484) * 1728, "the identity's line");
+    answers(symmetry_line_operation(TEXT(" x , y , z ")), UINT64_C(16484) * 1728, "with spaces");
+    answers(symmetry_line_operation(TEXT("z*0")), refusal(41, 1), "a byte that no line has");
+    answers(symmetry_line_operation(TEXT("-  x,-y+6/12,z")), UINT64_C(3200) * 1728 + 6 * 12, "a screw's line");
+    answers(symmetry_line_operation(TEXT("1/3+x,y,z-1/3")), UINT64_C(16484) * 1728 + 4 * 144 + 8, "thirds");
+    answers(symmetry_line_operation(TEXT("x,x,z")), refusal(42, 0), "a row twice");
+    answers(symmetry_line_operation(TEXT("x,y,1/2")), refusal(42, 0), "a row without a letter");
+    answers(symmetry_line_operation(TEXT("")), refusal(41, 0), "no line");
+    for (size_t i = 0; i < sizeof misspelt / sizeof *misspelt; i++)
+        answers(symmetry_line_operation((const uint8_t *)misspelt[i].line, strlen(misspelt[i].line)), refusal(41, misspelt[i].place), misspelt[i].line);
+    memset(spaces, ' ', 65);
+    memcpy(spaces + 30, "x,y,z", 5);
+    answers(symmetry_line_operation(spaces, 64), UINT64_C(16484) * 1728, "64 bytes");
+    answers(symmetry_line_operation(spaces, 65), refusal(40, 0), "65 bytes");
+    for (size_t length = 0; length <= 14; length++) {
+        memset(out, MARK, ROOM);
+        memset(after, MARK, ROOM);
+        if (length >= 11) memcpy(after, "-x,-y+1/2,z", 11);
+        uint64_t got = symmetry_operation_line(screw, 5, length ? out : NULL, length);
+        expect(got == (length >= 11 ? 11 : refusal(20, 0)) && memcmp(out, after, ROOM) == 0, "a screw's line written", got);
+    }
+    memset(out, MARK, ROOM);
+    memset(after, MARK, ROOM);
+    answers(symmetry_operation_line(identity, 4, out, ROOM), refusal(34, 0), "four bytes");
+    answers(symmetry_operation_line(NULL, 0, out, ROOM), refusal(34, 0), "no bytes");
+    answers(symmetry_operation_line(outside, 5, out, ROOM), refusal(34, 0), "a code of 19683");
+    answers(symmetry_operation_line(beyond, 5, NULL, 0), refusal(34, 0), "a coordinate of 12");
+    answers(symmetry_operation_line(none, 5, NULL, 0), refusal(42, 0), "nine entries of -1");
+    expect(memcmp(out, after, ROOM) == 0, "an untouched buffer", 0);
+}
+
 int main(void) {
     static const uint8_t flip_conjugates[] = { 9, 17, 33 }, flip_conjugators[] = { 0, 2, 1 };
     static const uint8_t other_conjugates[] = { 17, 9, 33 }, other_conjugators[] = { 0, 1, 2 };
@@ -281,6 +324,7 @@ int main(void) {
     pointed();
     written();
     records();
+    lines();
     printf("%d passed, %d failed\n", passed, failed);
     return failed != 0;
 }

@@ -54,7 +54,9 @@ struct entry {
     ENTRY(record_letter, "s", INPUT) \
     ENTRY(symbol_operation, "sn", INPUT, call->number[0]) \
     ENTRY(symbol_record, "sln", INPUT, LENT(0), call->number[0]) \
-    ENTRY(record_copy, "sln", INPUT, LENT(0), call->number[0])
+    ENTRY(record_copy, "sln", INPUT, LENT(0), call->number[0]) \
+    ENTRY(line_operation, "s", INPUT) \
+    ENTRY(operation_line, "sl", INPUT, LENT(0))
 
 #define RUN(NAME, FORM, ...) \
     static uint64_t run_##NAME(const struct call *call) { return symmetry_##NAME(__VA_ARGS__); }

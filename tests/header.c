@@ -28,6 +28,7 @@ static const struct { unsigned constant, number; } refusals[] = {
     { SYMMETRY_NOT_A_SUBGROUP, 27 }, { SYMMETRY_NOT_AN_ELEMENT, 28 }, { SYMMETRY_NOT_NORMALIZING, 29 },
     { SYMMETRY_RECORD_SHORT, 30 }, { SYMMETRY_RECORD_EDITION, 31 }, { SYMMETRY_RECORD_LETTER, 32 },
     { SYMMETRY_RECORD_LENGTH, 33 }, { SYMMETRY_RECORD_ITEM, 34 }, { SYMMETRY_RECORD_NO_GROUP, 35 },
+    { SYMMETRY_LINE_TOO_LONG, 40 }, { SYMMETRY_LINE_MISSPELT, 41 }, { SYMMETRY_LINE_DETERMINANT, 42 },
 };
 enum { REFUSALS = sizeof refusals / sizeof *refusals, ABOVE = 256 };
 
@@ -62,8 +63,12 @@ static void check_sizes(void)
     check("the subgroups of a symbol's group", SYMMETRY_MOST_SYMBOL_SUBGROUPS, 98);
     /* of the 32 vectors over two elements: 1 space of no dimension, 31 of one, 155 of two and of three, 31 of four, 1 of five */
     check("the subgroups of a group", SYMMETRY_MOST_SUBGROUPS, 1 + 31 + 155 + 155 + 31 + 1);
+    check("the longest line", SYMMETRY_MOST_LINE, 64);
+    /* a row of three letters and two of two, each with a sign and eleven twelfths: -x-y-z+11/12 and twice -x-y+11/12, and two commas */
+    check("the longest line written", SYMMETRY_MOST_LINE_WRITTEN, 12 + 10 + 10 + 2);
+    check("the bytes of an operation", SYMMETRY_OPERATION, 5);
     check("the bytes of a slot", SYMMETRY_SLOT, 8);
-    check("the version", SYMMETRY_VERSION_MAJOR * 100 + SYMMETRY_VERSION_MINOR, 100);
+    check("the version", SYMMETRY_VERSION_MAJOR * 100 + SYMMETRY_VERSION_MINOR, 101);
 }
 
 int main(void)

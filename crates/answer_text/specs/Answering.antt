@@ -33,7 +33,7 @@ use Rattle.answer_text.specs.Text.{operationLine, groupText, refusalText
 use Rattle.answer_text.specs.Lines.{Plain, refusal-parts, lines-short}
 use Rattle.answer_text.specs.RecordLines.{operationsIn, AllPlain}
 use Rattle.answer_text.specs.Places.{place-small, number-small}
-use Rattle.answer_text.specs.Placing.{Put, put-front, put-named}
+use Rattle.placed_text.specs.Placing.{Put, put-front, put-named}
 use Rattle.answer_text.specs.declared.AnswerText.{AnswerText}
 
 -- Operations in the listed form have short words.

@@ -14,7 +14,7 @@ use Rattle.group_record.specs.OneRecord.{operationIn}
 use Rattle.group_record.specs.Parts.{tail-part}
 use Rattle.answer_text.specs.Text.{operationLine}
 use Rattle.answer_text.specs.Lines.{Plain}
-use Rattle.answer_text.specs.Placing.{Put, put-nothing, put-then, put-named}
+use Rattle.placed_text.specs.Placing.{Put, put-nothing, put-then, put-named}
 
 -- The first n operations of a record.
 abbrev pub operationsIn : ℕ → List ℕ → List Operation

@@ -5,3 +5,4 @@ pub mod SymbolBounds
 pub mod RecordBounds
 pub mod TableBounds
 pub mod MotionBounds
+pub mod LineBounds
