@@ -1,7 +1,6 @@
 -- How the answer is put together from what the code finds: the length, the first wrong entry, the first that is off, the set of operations seen.
 use mathlib.Core.Path.{_≡_, refl, sym, _∙_, ap}
-use mathlib.Core.Logic.{inl, inr, _↔_}
-use mathlib.Core.Bool.{true, false, not}
+use mathlib.Core.Bool.{not}
 use mathlib.Core.List.{List, List·Memᴰ as Mem}
 use Prim.Native.Nat.{ℕ, zero, suc, _≤_, _<_}
 use native.Mathlib.Omega.{arith}
@@ -24,7 +23,7 @@ use Rattle.symbol_group.specs.Slots.{symbol-slots}
 use Rattle.symbol_group.specs.declared.Answer.the-variants.{Group, Refused as NoGroup}
 use Rattle.symbol_group.specs.declared.SymbolGroup.{SymbolGroup}
 use Rattle.symbol_group.specs.declared.refusal.Refusal as symbol-refusal
-use Rattle.list_check.specs.Checked.{lengthFits, entryCount, wrongAt, entryAt, offAt, missingAt, lowest, missingAnswer, entriesAnswer, listAnswer, slotAt, checkedOf}
+use Rattle.list_check.specs.Checked.{entryCount, wrongAt, entryAt, offAt, missingAt, lowest, missingAnswer, entriesAnswer, listAnswer, slotAt, checkedOf}
 use Rattle.list_check.specs.Entries.{RightLength, WrongLength, length-right, length-wrong}
 use Rattle.list_check.specs.Slots.{Once, lowestUnseen, Compares, lowest-same}
 use Rattle.list_check.specs.declared.comparing.Compared.{Compared}

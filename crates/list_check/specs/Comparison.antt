@@ -6,9 +6,9 @@ use mathlib.Core.Bool.{Bool, true, false, cond, not, _||_, true≢false}
 use mathlib.Core.List.{List, List·Memᴰ as Mem}
 use Prim.Native.Nat.{ℕ, zero, suc, _≤_, _<_, min}
 use native.Mathlib.Omega.{arith}
-use native.Mathlib.Decide.{ℕ-discrete, decLt, decLe}
+use native.Mathlib.Decide.{ℕ-discrete, decLt}
 use lib.Dec.{ltb, eqb-refl}
-use borrow.Author.Tests.{not-true, not-false, lt-ltb, le-ltb, ltb-true, ltb-false}
+use borrow.Author.Tests.{not-false, lt-ltb, le-ltb, ltb-true, ltb-false}
 use Rattle.laws.specs.Motion.{SpaceMotion}
 use Rattle.laws.specs.Distinct.{distinct-equal}
 use Rattle.laws.specs.MotionsModulo.{Alike, motions-keyed}
@@ -20,15 +20,14 @@ use Rattle.operation.specs.declared.Rotation.{Rotation}
 use Rattle.centering.specs.Letters.{pointsOf}
 use Rattle.centering.specs.Lattices.{points}
 use Rattle.centering.specs.declared.Centering.{Centering}
-use Rattle.subgroup_laws.specs.Bounded.{some, first, FirstPassing, or-either, or-holds-left, or-holds-right, not-passing, passes-or-fails, passes-some, some-passes, first-found, first-none, first-cases}
+use Rattle.subgroup_laws.specs.Bounded.{first, FirstPassing, or-either, or-holds-left, or-holds-right, not-passing, passes-or-fails, passes-some, some-passes, first-found, first-none, first-cases}
 use Rattle.space_group.specs.Traversal.{turnOf, sameTurn}
 use Rattle.space_group_theorems.specs.Acceptance.{Accepted}
 use Rattle.space_group_theorems.specs.Members.{rotation-generated, rotations-once}
 use Rattle.space_group_theorems.specs.SetOfMotions.{InSet, set-exactly}
 use Rattle.list_check.specs.Checked.{alike, foreignAt, repeatedAt, offAt, missingAt, noCode, lowest, missingAnswer, entriesAnswer}
 use Rattle.list_check.specs.Answers.{turns, off-answer, on-answer}
-use Rattle.list_check.specs.Slots.{alike-parts, alike-symmetric, none-passes, all-fail}
-use Rattle.list_check.specs.declared.Checked.{Checked}
+use Rattle.list_check.specs.Slots.{alike-parts, alike-symmetric}
 use Rattle.list_check.specs.declared.Checked.the-variants.{Yes, Entry, Missing}
 
 -- ---- what is said of n entries

@@ -1,23 +1,22 @@
 -- The entries of a list as numbers: which are in range, which lists are well formed, and what operation an entry in range says.
 use mathlib.Core.Path.{_≡_, refl, sym, _∙_, ap}
 use mathlib.Core.Logic.{_⊎_, inl, inr, _↔_}
-use mathlib.Core.Bool.{Bool, true, false, cond, _&&_, true≢false}
+use mathlib.Core.Bool.{true, false, _&&_, true≢false}
 use mathlib.Core.List.{List}
-use Prim.Native.Nat.{ℕ, _+_, _*_, _-_, _/_, _%_, _≤_, _<_}
+use Prim.Native.Nat.{ℕ, _+_, _*_, _-_, _%_, _≤_, _<_}
 use native.Mathlib.Nat.{add-zero}
 use native.Mathlib.Omega.{arith}
-use native.Mathlib.Decide.{decLe, ℕ-discrete}
+use native.Mathlib.Decide.{decLe}
 use lib.Dec.{eqb, leb, ltb}
 use borrow.Author.Tests.{eq-eqb, ne-eqb, eqb-true, le-leb, lt-leb, leb-true, lt-ltb, ltb-true}
 use lib.ListN.{length, getD, take, drop, length-take, length-drop}
 use lib.Seq.{getD-take, getD-drop}
 use Rattle.operation.specs.Code.{rotationOf, rotation-digits}
 use Rattle.operation.specs.Meaning.{Digits}
-use Rattle.operation.specs.declared.Operation.{Operation}
 use Rattle.five_bytes.specs.FiveBytes.{belowTwelve, codeIn, translationIn, fiveBytesOf}
 use Rattle.five_bytes.specs.OneForm.{twelve-below, below-twelve}
 use Rattle.five_bytes.specs.declared.FiveBytes.the-variants.{Is}
-use Rattle.subgroup_laws.specs.Bounded.{and-both, both-and, and-fails, and-fails-left, passes-or-fails, not-passing}
+use Rattle.subgroup_laws.specs.Bounded.{and-both, both-and, and-fails, and-fails-left, passes-or-fails}
 use Rattle.list_check.specs.Checked.{lengthFits, entryCount, bytesAt, isWrong, wrongAt, entryAt}
 
 -- ---- which lists are well formed

@@ -1,16 +1,13 @@
 -- What is answered for a text and a list, exactly: the symbol's refusal, 43 and 44 if their rules hold, in this order; then the first entry that is foreign or
 -- repeated, the lowest missing code, or yes, said of the text's set of motions.
-use mathlib.Core.Path.{_≡_, refl, sym, _∙_, ap, ap₂, subst}
+use mathlib.Core.Path.{_≡_, refl, sym, _∙_, ap, subst}
 use mathlib.Core.Logic.{_⊎_, inl, inr, _↔_}
-use mathlib.Core.Bool.{Bool, true, false, cond, true≢false}
+use mathlib.Core.Bool.{Bool, true, false, cond}
 use mathlib.Core.List.{List, List·Memᴰ as Mem}
-use Prim.Native.Nat.{ℕ, _≤_, _<_}
+use Prim.Native.Nat.{ℕ, _<_}
 use native.Mathlib.Omega.{arith}
 use lib.Dec.{ltb}
-use lib.ListN.{length, getD, take}
-use lib.Seq.{getD-take, length-take-le}
-use borrow.Author.Tests.{lt-ltb, le-ltb}
-use Rattle.laws.specs.Motion.{SpaceMotion}
+use lib.ListN.{length}
 use Rattle.operation.specs.Meaning.{Digits}
 use Rattle.operation.specs.Product.{identityOperation}
 use Rattle.operation.specs.declared.Operation.{Operation}
@@ -25,14 +22,13 @@ use Rattle.space_group_theorems.specs.Acceptance.{member-at, member-index}
 use Rattle.symbol_group.specs.AcceptedTexts.{AcceptedText, accepted-text}
 use Rattle.symbol_group.specs.Answers.{symbolAnswer}
 use Rattle.symbol_group.specs.Exactly.{group-exactly}
-use Rattle.symbol_group.specs.Slots.{symbol-slots}
 use Rattle.symbol_group.specs.declared.Answer.{Answer}
 use Rattle.symbol_group.specs.declared.Answer.the-variants.{Group, Refused as NoGroup}
 use Rattle.symbol_group.specs.declared.refusal.Refusal as symbol-refusal
 use Rattle.list_check.specs.Checked.{lengthFits, entryCount, wrongAt, entryAt, offAt, missingAt, noCode, lowest, entriesAnswer, listAnswer, slotAt, checkedBy, checkedOf}
 use Rattle.list_check.specs.Answers.{length-answer, range-answer, entries-answer, slot-listed}
 use Rattle.list_check.specs.Comparison.{Whole, FirstOffEntry, LowestLacking, entry-named, missing-named, yes-said}
-use Rattle.list_check.specs.Entries.{InRange, RightLength, WellFormed, WrongLength, FirstWrong, length-right, length-wrong, entry-inside, entry-digits, entry-right, entry-wrong}
+use Rattle.list_check.specs.Entries.{RightLength, WellFormed, WrongLength, FirstWrong, length-right, length-wrong, entry-inside, entry-digits, entry-right, entry-wrong}
 use Rattle.list_check.specs.declared.Checked.{Checked}
 use Rattle.list_check.specs.declared.Checked.the-variants.{Yes, Entry, Missing, Refused}
 use Rattle.list_check.specs.declared.refusal.Refusal.{Refusal}
@@ -62,13 +58,13 @@ module _ (text : List ℕ) (T : AcceptedText text) where
       (k, within, sym (slot-listed text T k within) ∙ e)
 
 -- A text spells one symbol.
-spells-once : (text : List ℕ) (c d : Centering) (gens hens : List Operation) → Spells text c gens → Spells text d hens → (c ≡ d) × (gens ≡ hens)
+pub spells-once : (text : List ℕ) (c d : Centering) (gens hens : List Operation) → Spells text c gens → Spells text d hens → (c ≡ d) × (gens ≡ hens)
 spells-once text c d gens hens s t =
     let same : symbol c gens ≡ symbol d hens = sym (symbol-exactly text c gens .1 s) ∙ symbol-exactly text d hens .1 t in
     (cc, cc)
 
 -- What holds of one symbol holds of an equal one.
-carried : (P : Centering → List Operation → Type 0) (c d : Centering) (gens hens : List Operation) → c ≡ d → gens ≡ hens → P c gens → P d hens
+pub carried : (P : Centering → List Operation → Type 0) (c d : Centering) (gens hens : List Operation) → c ≡ d → gens ≡ hens → P c gens → P d hens
 carried P c d gens hens p q h = subst (λ (e : Centering). P e hens) p (subst (P c) q h)
 
 -- ---- by the list

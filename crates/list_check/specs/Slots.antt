@@ -1,17 +1,17 @@
 -- What the code keeps of the entries that it has passed: the set of the operations that they are, by index. While no entry is off, an operation is in the set
 -- exactly if an entry is alike to it, so the set tells a repeated entry, and in the end what is missing.
 use mathlib.Core.Path.{_≡_, refl, sym, _∙_, ap, ap₂}
-use mathlib.Core.Logic.{_⊎_, inl, inr, _↔_}
-use mathlib.Core.Bool.{Bool, true, false, cond, not, _&&_, _||_, true≢false}
+use mathlib.Core.Logic.{inl, inr, _↔_}
+use mathlib.Core.Bool.{Bool, true, false, cond, not, _||_, true≢false}
 use mathlib.Core.List.{List}
 use Prim.Native.Nat.{ℕ, zero, suc, _+_, _≤_, _<_, _^_, min}
 use native.Mathlib.Numerals.{add-one}
 use native.Mathlib.Omega.{arith}
 use native.Mathlib.Decide.{ℕ-discrete}
 use lib.Bits.{bitOr}
-use lib.Dec.{eqb, ltb}
+use lib.Dec.{eqb}
 use lib.ListN.{length, getD}
-use borrow.Author.Tests.{eqb-true, eq-eqb, ne-eqb, ltb-true, lt-ltb, le-ltb}
+use borrow.Author.Tests.{eqb-true, eq-eqb, ne-eqb}
 use Rattle.laws.specs.Sets.{member, member-empty, with-member}
 use Rattle.laws.specs.Lattice.{Congruent, congruent-symmetric, congruent-transitive}
 use Rattle.operation.specs.Meaning.{vectorOf}
@@ -21,12 +21,11 @@ use Rattle.centering.specs.Letters.{pointsOf}
 use Rattle.centering.specs.Lattices.{points, congruentOf}
 use Rattle.centering.specs.LatticeLaws.{congruent-lattice}
 use Rattle.centering.specs.declared.Centering.{Centering}
-use Rattle.subgroup_laws.specs.Bounded.{some, first, FirstPassing, and-both, both-and, and-fails-left, or-either, or-holds-left, or-holds-right, not-passing, same-truth, passes-some, some-passes, first-found, first-none, first-cases}
+use Rattle.subgroup_laws.specs.Bounded.{some, first, and-both, both-and, and-fails-left, or-holds-left, or-holds-right, not-passing, same-truth, passes-some, some-passes, first-found, first-none, first-cases}
 use Rattle.space_group.specs.Resuming.{at-any}
 use Rattle.space_group.specs.Traversal.{turnOf}
-use Rattle.list_check.specs.Checked.{alike, foreignAt, repeatedAt, offAt, missingAt, lowest, slotAt, entryAt, missingAnswer, entriesAnswer}
+use Rattle.list_check.specs.Checked.{alike, foreignAt, repeatedAt, offAt, lowest, slotAt, entryAt}
 use Rattle.list_check.specs.declared.comparing.Compared.{Compared}
-use Rattle.list_check.specs.declared.Checked.the-variants.{Entry}
 
 -- ---- one operation modulo the lattice
 -- The test says: one code, and translations that differ by a vector of L.

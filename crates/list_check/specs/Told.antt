@@ -1,14 +1,11 @@
 -- What is answered, by number, place and value: yes, an entry, a missing code, or the refusal. These determine the answer.
-use mathlib.Core.Path.{_≡_, refl, sym, ap}
-use mathlib.Core.Logic.{_↔_}
-use mathlib.Core.List.{List}
-use Prim.Native.Nat.{ℕ, _≤_}
+use mathlib.Core.Path.{_≡_, refl, ap}
+use Prim.Native.Nat.{ℕ}
 use native.Mathlib.Omega.{arith}
 use Rattle.operation.specs.Answer.{Answer, given, refused, Nothing}
 use Rattle.symbol_group.specs.Refusals as symbol
 use Rattle.symbol_group.specs.Told.{number-limit}
 use Rattle.symbol_group.specs.Told as symbol-told
-use Rattle.symbol_group.specs.declared.refusal.Refusal as symbol-refusal
 use Rattle.list_check.specs.Refusals.{numberOf, placeOf}
 use Rattle.list_check.specs.declared.Checked.{Checked}
 use Rattle.list_check.specs.declared.Checked.the-variants.{Yes, Entry, Missing, Refused}

@@ -1,5 +1,5 @@
 -- The length decides, then the first wrong entry, then the first that is off, then what was not seen.
-use mathlib.Core.Path.{_≡_, sym, _∙_}
+use mathlib.Core.Path.{sym, _∙_}
 use mathlib.Core.Logic.{inl, inr}
 use native.Mathlib.Omega.{arith}
 use Rattle.list_check.specs.Checked.{slotAt}

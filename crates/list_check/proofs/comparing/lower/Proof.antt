@@ -1,5 +1,5 @@
 -- A seen operation changes nothing; of one that was not, the lower code is kept.
-use mathlib.Core.Path.{_≡_, refl, sym, _∙_}
+use mathlib.Core.Path.{refl, sym, _∙_}
 use native.Mathlib.Omega.{arith}
 use borrow.Author.Needs.{needs}
 use Rattle.list_check.proofs.comparing.lower.Statement.{statement}

@@ -1,5 +1,5 @@
 -- Each case of the five bytes.
-use mathlib.Core.Path.{_≡_, sym, _∙_, ap}
+use mathlib.Core.Path.{sym, _∙_, ap}
 use Rattle.list_check.specs.Checked.{operationBy, entryAt}
 use borrow.Author.Needs.{needs}
 use Rattle.list_check.proofs.entries.operation_at.Statement.{statement}
