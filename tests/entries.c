@@ -54,6 +54,7 @@ struct entry {
     ENTRY(record_letter, "s", INPUT) \
     ENTRY(symbol_operation, "sn", INPUT, call->number[0]) \
     ENTRY(symbol_record, "sln", INPUT, LENT(0), call->number[0]) \
+    ENTRY(symbol_check, "sl", INPUT, LENT(0)) \
     ENTRY(record_copy, "sln", INPUT, LENT(0), call->number[0])
 
 #define RUN(NAME, FORM, ...) \
