@@ -56,6 +56,7 @@ enum symmetry_most {
     SYMMETRY_MOST_TEXT = 80,              /* bytes of a symbol's text */
     SYMMETRY_MOST_ORDER = 48,             /* elements of a group */
     SYMMETRY_MOST_RECORD = 245,           /* bytes of a record: 5 * 48 + 5 */
+    SYMMETRY_MOST_LIST = 240,             /* bytes of another program's list: 5 * 48 */
     SYMMETRY_MOST_TABLE = 2304,           /* bytes of a table: 48 * 48 */
     SYMMETRY_MOST_LINE = 64,              /* bytes of an operation line that is read */
     SYMMETRY_MOST_LINE_WRITTEN = 34,      /* bytes of an operation line that is written */
@@ -112,7 +113,10 @@ enum symmetry_refusal {
     /* An operation line. */
     SYMMETRY_LINE_TOO_LONG = 40,    /* over 64 bytes; at 0 */
     SYMMETRY_LINE_MISSPELT = 41,    /* at the first byte that no line has after the bytes before it, or at the line's length if it breaks off */
-    SYMMETRY_LINE_DETERMINANT = 42  /* the determinant is not 1 or -1; at 0 */
+    SYMMETRY_LINE_DETERMINANT = 42, /* the determinant is not 1 or -1; at 0 */
+    /* Another program's list of operations. */
+    SYMMETRY_LIST_LENGTH = 43,      /* the length is no multiple of five, or over 240 bytes; at 0 */
+    SYMMETRY_LIST_ENTRY = 44        /* a code over 19682 or a coordinate over 11; at the index of the first such entry */
 };
 
 /* ---- an answer, taken apart ---- */
@@ -162,6 +166,8 @@ static inline const char *symmetry_reason(unsigned number)
     case SYMMETRY_LINE_TOO_LONG: return "a line of over 64 bytes";
     case SYMMETRY_LINE_MISSPELT: return "a misspelt line";
     case SYMMETRY_LINE_DETERMINANT: return "a determinant other than 1 and -1";
+    case SYMMETRY_LIST_LENGTH: return "a list of another length";
+    case SYMMETRY_LIST_ENTRY: return "a wrong operation in the list";
     default: return "no refusal of these functions";
     }
 }
@@ -221,6 +227,27 @@ uint64_t symmetry_record_letter(const uint8_t *record, size_t record_length);
  * rotation's nine entries by rows, and x, y, z its translation in twelfths. 28 if the index is not below the order.
  */
 uint64_t symmetry_symbol_operation(const uint8_t *text, size_t text_length, uint64_t index);
+
+/* ---- lists of another program ---- */
+
+/* What symmetry_symbol_check says of a list that is compared, and what the number beside it is. */
+enum symmetry_check {
+    SYMMETRY_CHECK_YES = 0,      /* the list is the group's; nothing beside it */
+    SYMMETRY_CHECK_ENTRY = 1,    /* an entry is foreign or repeated; its index */
+    SYMMETRY_CHECK_MISSING = 2   /* an operation is missing; its rotation code */
+};
+
+/*
+ * Whether a list of five-byte operations, as a record has them but in any order and with any translations 0 to 11, holds every operation of the
+ * symbol's group modulo the lattice, each once, and nothing else. The value is 0 if it does. Else it is 65536 + i, i being the index of the first entry
+ * that is foreign (no operation of the group, modulo the lattice) or repeated (an entry further left is the same operation, modulo the lattice); or, if
+ * no entry is, 131072 + the lowest code of a rotation of the group that no entry has. 43, then 44, after the symbol's own refusals; an empty list is
+ * compared. symmetry_check_kind and symmetry_check_detail take the value apart.
+ */
+uint64_t symmetry_symbol_check(const uint8_t *text, size_t text_length, const uint8_t *list, size_t list_length);
+
+static inline enum symmetry_check symmetry_check_kind(uint64_t value) { return (enum symmetry_check)(value / 65536); }
+static inline unsigned symmetry_check_detail(uint64_t value) { return (unsigned)(value % 65536); }
 
 /* ---- group records ---- */
 

@@ -402,7 +402,7 @@ def class_of(letter, operation):
     return rotation, smallest(letter, translation)
 
 
-# Lines from structure files, (i) of 02 ---------------------------------------------------------------------------
+# Lines from structure files, R10 ------------------------------------------------------------------------------------
 
 MOST_LINE = 64
 TERM = rb"(?:[xyz]|1/2|[12]/3|[1-3]/4|[1-5]/6|(?:[1-9]|10|11)/12)"
@@ -476,6 +476,39 @@ def write_line(operation, buffer):
         raise Refusal(20, 0)
     buffer[:len(line)] = line
     return len(line)
+
+
+# Lists of another program, R11 -------------------------------------------------------------------------------------
+
+MOST_LIST = ITEM * MOST_OPERATIONS
+
+
+def list_entries(data):
+    """The operations of a list, code and triple each, as they are written; refusals 43 and 44."""
+    if len(data) % ITEM or len(data) > MOST_LIST:
+        raise Refusal(43, 0)
+    entries = [struct.unpack(">HBBB", data[i:i + ITEM]) for i in range(0, len(data), ITEM)]
+    for index, (number, *triple) in enumerate(entries):
+        if number > MOST_CODE or max(triple) > 11:
+            raise Refusal(44, index)
+    return [(rotation_of(number), tuple(triple)) for number, *triple in entries]
+
+
+def compare_list(letter, operations, data):
+    """What is said of a list: yes, the first entry that is foreign or repeated, or the lowest missing code."""
+    entries = [class_of(letter, operation) for operation in list_entries(data)]
+    group = {class_of(letter, operation) for operation in operations}
+    for index, entry in enumerate(entries):
+        if entry not in group or entry in entries[:index]:
+            return "entry", index
+    missing = [code(rotation) for rotation, _ in group.difference(entries)]
+    return ("missing", min(missing)) if missing else ("yes",)
+
+
+def check_list(text, data):
+    """The symbol's own refusals go first."""
+    letter, operations = group_of_symbol(text)
+    return compare_list(letter, operations, data)
 
 
 # Tables and subgroups ---------------------------------------------------------------------------------------------
@@ -796,6 +829,12 @@ def example_rest():
         ("length", outcome(read_record, inverse_record[:-5] + b"P\x01\x03\x00\x14"), (33, 0)),
         ("code order", outcome(read_record, inverse_record[5:10] + inverse_record[:5] + inverse_record[10:]), (34, 0)),
         ("no identity", outcome(read_record, inverse_record[:5] + b"P\x01\x01\x00\x0a"), (35, 0)),
+        ("P 1, its list", check_list(b"P 1", bytes.fromhex("4064000000")), ("yes",)),
+        ("P 1, an empty list", check_list(b"P 1", b""), ("missing", 16484)),
+        ("P 1, an entry twice", check_list(b"P 1", bytes.fromhex("40640000004064000000")), ("entry", 1)),
+        ("P 1, another translation", check_list(b"P 1", bytes.fromhex("4064060000")), ("entry", 0)),
+        ("a list of four bytes", outcome(check_list, b"P 1", bytes(4)), (43, 0)),
+        ("a list with a coordinate of 12", outcome(check_list, b"-P 1", bytes.fromhex("40640600000C7E00000C")), (44, 1)),
         ("-P 4 2 3, subgroups", len(all_subgroups), 98),
         ("-P 4 2 3, classes", len(classes(cubic)), 33),
         ("98 slots", (fill_subgroups(cubic, just_fits), just_fits), (98, all_subgroups)),

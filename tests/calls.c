@@ -311,6 +311,38 @@ static void lines(void) {
     expect(memcmp(out, after, ROOM) == 0, "an untouched buffer", 0);
 }
 
+/* ---- lists of another program ----
+   Codes by hand: the identity is 2 1 1 1 2 1 1 1 2 in base 3, 16484 or 40 64 in hex; the inversion 0 1 1 1 0 1 1 1 0, 3198 or 0C 7E; the turn by a half about
+   z 0 1 1 1 0 1 1 1 2, 3200 or 0C 80. */
+#define LIST(...) (const uint8_t[]){ __VA_ARGS__ }, sizeof((const uint8_t[]){ __VA_ARGS__ })
+#define ONE 0x40, 0x64
+#define INVERTED 0x0C, 0x7E
+#define HALF 0x0C, 0x80
+
+static void checked(void) {
+    uint8_t many[245];
+    for (unsigned i = 0; i < 49; i++) memcpy(many + 5 * i, (const uint8_t[]){ ONE, 0, 0, 0 }, 5);
+    answers(symmetry_symbol_check(TEXT("P 1"), LIST(ONE, 0, 0, 0)), 0, "the list of P 1");
+    answers(symmetry_symbol_check(TEXT("P 1"), NULL, 0), 131072 + 16484, "an empty list");
+    answers(symmetry_symbol_check(TEXT("P 1"), LIST(ONE, 0, 0, 0, ONE, 0, 0, 0)), 65536 + 1, "the same entry twice");
+    answers(symmetry_symbol_check(TEXT("P 1"), LIST(ONE, 6, 0, 0)), 65536, "a known rotation with a wrong translation");
+    answers(symmetry_symbol_check(TEXT("I 1"), LIST(ONE, 6, 6, 6)), 0, "another translation of the class");
+    answers(symmetry_symbol_check(TEXT("I 1"), LIST(ONE, 0, 0, 0, ONE, 6, 6, 6)), 65536 + 1, "repeated with other bytes");
+    answers(symmetry_symbol_check(TEXT("-P 1"), LIST(ONE, 0, 0, 0, INVERTED, 0, 0, 0)), 0, "another order");
+    answers(symmetry_symbol_check(TEXT("-P 1"), LIST(INVERTED, 0, 0, 0)), 131072 + 16484, "the identity is missing");
+    answers(symmetry_symbol_check(TEXT("-P 2"), LIST(ONE, 0, 0, 0)), 131072 + 3198, "the lowest of three that are missing");
+    answers(symmetry_symbol_check(TEXT("P 2"), LIST(INVERTED, 0, 0, 0, HALF, 6, 0, 0)), 65536, "the first of two that are foreign");
+    answers(symmetry_symbol_check(TEXT("P 2"), LIST(INVERTED, 0, 0, 0, HALF, 12, 0, 0)), refusal(44, 1), "a coordinate out of range, after a foreign entry");
+    answers(symmetry_symbol_check(TEXT("P 2"), LIST(HALF, 0, 0, 0, 0x4C, 0xE3, 0, 0, 0)), refusal(44, 1), "a code out of range");
+    answers(symmetry_symbol_check(TEXT("P 2"), LIST(0x4C, 0xE2, 0, 0, 0)), 65536, "the last code");
+    answers(symmetry_symbol_check(TEXT("P 2"), LIST(HALF, 0, 0)), refusal(43, 0), "four bytes");
+    answers(symmetry_symbol_check(TEXT("P 1"), many, 245), refusal(43, 0), "over 240 bytes");
+    answers(symmetry_symbol_check(TEXT("P 1"), many, 240), 65536 + 1, "240 bytes");
+    answers(symmetry_symbol_check(TEXT("P 1a"), LIST(0)), refusal(14, 0), "the symbol's refusal first");
+    answers(symmetry_symbol_check(TEXT("P 2aa"), LIST(0)), refusal(17, 4), "the symbol's refusal first");
+    answers(symmetry_symbol_check(TEXT(""), NULL, 0), refusal(3, 0), "no text and no list");
+}
+
 int main(void) {
     static const uint8_t flip_conjugates[] = { 9, 17, 33 }, flip_conjugators[] = { 0, 2, 1 };
     static const uint8_t other_conjugates[] = { 17, 9, 33 }, other_conjugators[] = { 0, 1, 2 };
@@ -325,6 +357,7 @@ int main(void) {
     written();
     records();
     lines();
+    checked();
     printf("%d passed, %d failed\n", passed, failed);
     return failed != 0;
 }

@@ -56,7 +56,8 @@ struct entry {
     ENTRY(symbol_record, "sln", INPUT, LENT(0), call->number[0]) \
     ENTRY(record_copy, "sln", INPUT, LENT(0), call->number[0]) \
     ENTRY(line_operation, "s", INPUT) \
-    ENTRY(operation_line, "sl", INPUT, LENT(0))
+    ENTRY(operation_line, "sl", INPUT, LENT(0)) \
+    ENTRY(symbol_check, "sl", INPUT, LENT(0))
 
 #define RUN(NAME, FORM, ...) \
     static uint64_t run_##NAME(const struct call *call) { return symmetry_##NAME(__VA_ARGS__); }

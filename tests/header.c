@@ -29,6 +29,7 @@ static const struct { unsigned constant, number; } refusals[] = {
     { SYMMETRY_RECORD_SHORT, 30 }, { SYMMETRY_RECORD_EDITION, 31 }, { SYMMETRY_RECORD_LETTER, 32 },
     { SYMMETRY_RECORD_LENGTH, 33 }, { SYMMETRY_RECORD_ITEM, 34 }, { SYMMETRY_RECORD_NO_GROUP, 35 },
     { SYMMETRY_LINE_TOO_LONG, 40 }, { SYMMETRY_LINE_MISSPELT, 41 }, { SYMMETRY_LINE_DETERMINANT, 42 },
+    { SYMMETRY_LIST_LENGTH, 43 }, { SYMMETRY_LIST_ENTRY, 44 },
 };
 enum { REFUSALS = sizeof refusals / sizeof *refusals, ABOVE = 256 };
 
@@ -59,6 +60,7 @@ static void check_sizes(void)
     check("the longest text", SYMMETRY_MOST_TEXT, 80);
     check("the largest order", SYMMETRY_MOST_ORDER, 48);
     check("the longest record", SYMMETRY_MOST_RECORD, 5 * 48 + 5);
+    check("the longest list", SYMMETRY_MOST_LIST, 5 * 48);
     check("the largest table", SYMMETRY_MOST_TABLE, 48 * 48);
     check("the subgroups of a symbol's group", SYMMETRY_MOST_SYMBOL_SUBGROUPS, 98);
     /* of the 32 vectors over two elements: 1 space of no dimension, 31 of one, 155 of two and of three, 31 of four, 1 of five */
@@ -83,6 +85,11 @@ int main(void)
 
     check_refusals();
     check_sizes();
+    check("a list that passes", symmetry_check_kind(0), SYMMETRY_CHECK_YES);
+    check("entry 47 of a list", symmetry_check_kind(65536 + 47), SYMMETRY_CHECK_ENTRY);
+    check("its index", symmetry_check_detail(65536 + 47), 47);
+    check("a missing code", symmetry_check_kind(131072 + 19682), SYMMETRY_CHECK_MISSING);
+    check("the code", symmetry_check_detail(131072 + 19682), 19682);
     check("number of a refusal", symmetry_number(digit), 7);
     check("place of a refusal", symmetry_place(digit), 2);
     check("a refusal is refused", (uint64_t)symmetry_refused(digit), 1);
