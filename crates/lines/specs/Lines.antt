@@ -1,11 +1,10 @@
--- The lines of a text, by 01, "Symbols to try", and what is written for all of them.
+-- The lines of a text, by the rules, "The program" and "Catalogues": byte 10 ends a line, and a last line without it counts unless it holds no byte.
 use mathlib.Core.Path.{_≡_, refl, _∙_, ap}
 use mathlib.Core.Bool.{Bool, true, false, cond}
-use mathlib.Core.List.{List, [], _∷_, _++_, map, append-nil, append-assoc}
+use mathlib.Core.List.{List, [], _∷_, _++_, append-nil, append-assoc}
 use Prim.Native.Nat.{ℕ}
 use lib.Dec.{eqb}
 use borrow.Author.Tests.{eqb-true}
-use Rattle.answer_text.specs.Text.{textOf}
 
 -- A last line that byte 10 does not end counts unless it holds no byte.
 unfoldable pub lastLine : List ℕ → List (List ℕ)
@@ -25,14 +24,6 @@ linesOf text = linesFrom [] text
 unfoldable pub inARow : List (List ℕ) → List ℕ
 inARow [] = []
 inARow (text ∷ texts) = text ++ inARow texts
-
--- The texts of lines.
-abbrev pub textsOf : List (List ℕ) → List ℕ
-textsOf lines = inARow (map textOf lines)
-
--- What is to be written for a whole input.
-unfoldable pub outputOf : List ℕ → List ℕ
-outputOf text = textsOf (linesOf text)
 
 -- ---- said of the text alone
 -- No byte of a line is 10.
