@@ -1,6 +1,6 @@
 -- The bytes of a piece one after the other, until one ends the line or none is left.
 use mathlib.Core.Path.{_≡_, refl, sym, _∙_, ap}
-use mathlib.Core.Bool.{true, false, cond}
+use mathlib.Core.Bool.{Bool, true, false, cond}
 use mathlib.Core.List.{List, [], _∷_, _++_}
 use Prim.Native.Nat.{ℕ, suc, _+_, _<_, _≤_}
 use native.Mathlib.Omega.{arith}
@@ -10,7 +10,7 @@ use lib.ListN.{length, getD, take, drop}
 use lib.Seq.{take-suc, drop-cons, drop-length}
 use borrow.Author.Tests.{eq-eqb, ne-eqb}
 use Rattle.lines.specs.Lines.{lastLine}
-use Rattle.lines.specs.Feeding.{most, joined, keptAfter, keptBehind, handedOver, takenOf, kept-parts, handed-parts}
+use Rattle.lines.specs.Feeding.{most, shortened, joined, keptAfter, keptBehind, handedOver, takenOf, kept-parts, handed-parts}
 use Rattle.lines.specs.Keeping.{held, stored, lineIn, anyLine, firstLine, takenFrom, lastOf}
 use Rattle.lines.specs.Storing.{Handy, handy-length, joined-handy, held-stored, held-handy, stored-again, stored-whole, joined-longer, held-some}
 use Rattle.lines.specs.declared.Kept.{Kept}
@@ -130,3 +130,59 @@ module _ (k : Kept) (whole : length (k .bytes) ≡ most) where
       counts : (l : List ℕ) → 0 < length l → lastLine l ≡ l ∷ []
       counts [] h = absurd (omega arith)
       counts (b ∷ l) h = counted-line b l
+
+-- ---- lines of at most 81 bytes
+none-handy : Handy []
+unfolding shortened
+none-handy = refl
+
+after-handy : (line : List ℕ) (b : ℕ) → Handy (keptAfter line b)
+unfolding keptAfter
+after-handy line b = by-byte (eqb b 10)
+  where
+    by-byte : (t : Bool) → Handy (cond t [] (joined line b))
+    by-byte true = none-handy
+    by-byte false = joined-handy line b
+
+-- Nothing is left to shorten of what is kept behind bytes,
+pub kept-handy : (line bytes : List ℕ) → Handy line → Handy (keptBehind line bytes)
+unfolding keptBehind
+kept-handy line [] h = h
+kept-handy line (b ∷ bytes) h = kept-handy (keptAfter line b) bytes (after-handy line b)
+
+-- nor of a line that is handed over on them.
+pub first-handy : (line bytes : List ℕ) → Handy line → Handy (firstLine (handedOver line bytes))
+unfolding handedOver
+first-handy line [] h = none-handy
+first-handy line (b ∷ bytes) h = by-byte (eqb b 10) (first-handy (keptAfter line b) bytes (after-handy line b))
+  where
+    by-byte : (t : Bool) → Handy (firstLine (handedOver (keptAfter line b) bytes)) → Handy (firstLine (cond t (line ∷ handedOver (keptAfter line b) bytes) (handedOver (keptAfter line b) bytes)))
+    by-byte true more = h
+    by-byte false more = more
+
+last-handy : (line : List ℕ) → Handy line → Handy (firstLine (lastLine line))
+unfolding lastLine
+last-handy [] h = none-handy
+last-handy (b ∷ line) h = h
+
+-- So what is handed over has at most 81 bytes.
+module _ (k : Kept) (whole : length (k .bytes) ≡ most) where
+  pub taken-length : (piece : List ℕ) → takenFrom k piece .line .length ≤ 81
+  unfolding takenFrom lineIn
+  taken-length piece =
+      let part = take (takenOf piece) piece in
+      handy-length (firstLine (handedOver (held k) part)) (first-handy (held k) part (held-handy k whole))
+
+  pub last-length : lastOf k .line .length ≤ 81
+  unfolding lastOf lineIn
+  last-length = handy-length (firstLine (lastLine (held k))) (last-handy (held k) (held-handy k whole))
+
+-- At most one line is handed over at a time.
+pub handed-once : (line piece : List ℕ) → length (handedOver line (take (takenOf piece) piece)) ≤ 1
+unfolding handedOver takenOf
+handed-once line [] = omega arith
+handed-once line (b ∷ piece) = by-byte (eqb b 10) refl (handed-once (keptAfter line b) piece)
+  where
+    by-byte : (t : Bool) → eqb b 10 ≡ t → length (handedOver (keptAfter line b) (take (takenOf piece) piece)) ≤ 1 → length (handedOver line (take (takenOf (b ∷ piece)) (b ∷ piece))) ≤ 1
+    by-byte true e more = rw (e, e) (omega arith)
+    by-byte false e more = rw (e, e) more

@@ -40,7 +40,7 @@ loop-again c =
     let whole : length from ≡ 80 = search needs in (
       omega arith,
       ap (λ (a : List ℕ). set a (l .i) (getD from (l .i) 0)) (l .inv .1)
-      ∙ copied-more zeros from (l .i) (omega arith) (omega arith),
+          ∙ copied-more zeros from (l .i) (omega arith) (omega arith),
     )
 
 returns : tie.Need-returns Inv-loop μ-loop
