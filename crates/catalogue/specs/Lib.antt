@@ -2,3 +2,4 @@
 pub mod Answers
 pub mod Steps
 pub mod Calls
+pub mod Exactly
