@@ -5,3 +5,6 @@ pub mod SymbolBounds
 pub mod RecordBounds
 pub mod TableBounds
 pub mod MotionBounds
+pub mod Catalogues
+pub mod CatalogueState
+pub mod CatalogueBounds
