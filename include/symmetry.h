@@ -2,8 +2,8 @@
  * Groups of crystal symmetry, from C or C++: what a Hall symbol, a group record or a table of products says, and the subgroups of such a group.
  * Link with libcalls.a, which `rt staticlib calls` makes for x86-64.
  *
- * Every function is a pure one: the same arguments get the same answer, on every day and every machine. Nothing is kept between calls, there is no
- * heap, and calls from several threads do not meet unless they lend the same memory.
+ * Every function is a pure one: the same arguments get the same answer, on every day and every machine. Nothing is kept between calls but what the
+ * caller lends, there is no heap, and calls from several threads do not meet unless they lend the same memory.
  *
  * Slices. A slice is two arguments, a pointer and a length in bytes. The pointer must be good for reading (and where it is not const, for writing)
  * as many bytes as the length says; NULL with length 0 is an empty slice. A slice that is lent for writing overlaps no other slice of the call.
@@ -63,7 +63,9 @@ enum symmetry_most {
     SYMMETRY_OPERATION = 5,               /* bytes of one operation: the code, high byte first, then x, y, z */
     SYMMETRY_MOST_SYMBOL_SUBGROUPS = 98,  /* subgroups of a symbol's group or a record's: those of the cube's */
     SYMMETRY_MOST_SUBGROUPS = 374,        /* subgroups of any group up to order 48: those of five independent elements of order 2 */
-    SYMMETRY_SLOT = 8                     /* bytes of a slot in a list of sets */
+    SYMMETRY_SLOT = 8,                    /* bytes of a slot in a list of sets */
+    SYMMETRY_CATALOGUE_STATE = 81,        /* bytes that a catalogue needs between two calls */
+    SYMMETRY_MOST_PIECE = 4096            /* bytes of a catalogue that may be handed in at once */
 };
 
 /*
@@ -90,7 +92,8 @@ enum symmetry_refusal {
     SYMMETRY_TOO_MANY_ROTATIONS = 13, /* over 48 rotations, or one with an entry outside -1..1; at 0 */
     SYMMETRY_TWO_TRANSLATIONS = 14, /* one rotation with two translations that differ by no vector of the lattice; at 0 */
     /* A place in lent memory; at 0. */
-    SYMMETRY_NO_ROOM = 20,          /* the start is beyond the buffer, or fewer bytes than the record or the line needs are left from it */
+    SYMMETRY_NO_ROOM = 20,          /* the start is beyond the buffer, or fewer bytes than the record or the line needs are left from it; or a
+                                       catalogue's state has under 81 bytes */
     /* A table of products; at 0. */
     SYMMETRY_ORDER = 21,            /* the order is 0 or over 48 */
     SYMMETRY_CELLS = 22,            /* not as many bytes as the square of the order, or a byte that is no element */
@@ -116,7 +119,10 @@ enum symmetry_refusal {
     SYMMETRY_LINE_DETERMINANT = 42, /* the determinant is not 1 or -1; at 0 */
     /* Another program's list of operations. */
     SYMMETRY_LIST_LENGTH = 43,      /* the length is no multiple of five, or over 240 bytes; at 0 */
-    SYMMETRY_LIST_ENTRY = 44        /* a code over 19682 or a coordinate over 11; at the index of the first such entry */
+    SYMMETRY_LIST_ENTRY = 44,       /* a code over 19682 or a coordinate over 11; at the index of the first such entry */
+    /* A catalogue; at 0. */
+    SYMMETRY_PIECE_TOO_LONG = 45,   /* a piece over 4,096 bytes */
+    SYMMETRY_CATALOGUE_ENDED = 46   /* a piece or an end after the end was announced */
 };
 
 /* ---- an answer, taken apart ---- */
@@ -168,6 +174,8 @@ static inline const char *symmetry_reason(unsigned number)
     case SYMMETRY_LINE_DETERMINANT: return "a determinant other than 1 and -1";
     case SYMMETRY_LIST_LENGTH: return "a list of another length";
     case SYMMETRY_LIST_ENTRY: return "a wrong operation in the list";
+    case SYMMETRY_PIECE_TOO_LONG: return "a piece of over 4,096 bytes";
+    case SYMMETRY_CATALOGUE_ENDED: return "the catalogue has ended";
     default: return "no refusal of these functions";
     }
 }
@@ -204,6 +212,20 @@ static inline int symmetry_entry(uint64_t value, unsigned row, unsigned column)
 static inline unsigned symmetry_twelfths(uint64_t value, unsigned axis)
 {
     return (unsigned)(axis == 0 ? value / 144 % 12 : axis == 1 ? value / 12 % 12 : value % 12);
+}
+
+/*
+ * The value that symmetry_catalogue_piece and symmetry_catalogue_end answer, taken apart: how many bytes of the piece were taken; 1 if they finished a
+ * line, else 0; and the answer for that line, in the form of all answers: how many operations the record in the room holds, or the refusal of the line.
+ */
+static inline uint64_t symmetry_catalogue_taken(uint64_t value) { return value % 65536; }
+
+static inline int symmetry_catalogue_finished(uint64_t value) { return value / 65536 != 0; }
+
+static inline uint64_t symmetry_catalogue_answer(uint64_t value)
+{
+    uint64_t said = value / 65536 - 1;
+    return said < 256 ? said : (said / 256) << 56 | said % 256;
 }
 
 /* ---- the group itself ---- */
@@ -282,6 +304,33 @@ uint64_t symmetry_line_operation(const uint8_t *line, size_t line_length);
  * read as the same operation. 34, then 42, then 20.
  */
 uint64_t symmetry_operation_line(const uint8_t *operation, size_t operation_length, uint8_t *out, size_t out_length);
+/* ---- catalogues ---- */
+
+/*
+ * A catalogue of symbols, one a line, that comes in pieces cut anywhere. Lines end with byte 10; a last line without it counts when the end is
+ * announced, unless it holds no byte. What is known between two calls stands in 81 bytes that the caller lends: a status, and the bytes of the line that
+ * goes on. Any 81 bytes are a state, so there is nothing to be wrong in them; bytes behind the 81 are never written.
+ *
+ *   symmetry_catalogue_start(state, 81);
+ *   for each piece:
+ *       until it is taken whole: answer = symmetry_catalogue_piece(state, 81, rest of the piece, its length, out, 245), and if it finished a line, use it
+ *   symmetry_catalogue_end(state, 81, out, 245), and if it finished a line, use it
+ *
+ * However the catalogue is cut, the answers and their order are those for the uncut text.
+ */
+
+/* Makes the state that of a fresh catalogue, and answers 0. 20 if it has under 81 bytes, here and below before everything else. */
+uint64_t symmetry_catalogue_start(uint8_t *state, size_t state_length);
+
+/*
+ * Takes the bytes of the piece up to its first byte 10, with it, or all. If they finish a line, the record of its symbol is written from the start of out
+ * and the answer holds what symmetry_symbol_record answers for the line, 20 if the record has no room there; else out stays as it was. A line over 80
+ * bytes is refused 1 once, at its end. 45 if the piece has over 4,096 bytes, then 46 if the end was announced; the state stays then.
+ */
+uint64_t symmetry_catalogue_piece(uint8_t *state, size_t state_length, const uint8_t *piece, size_t piece_length, uint8_t *out, size_t out_length);
+
+/* Announces the end: no bytes are taken, and a last line is answered as above. 46 if it was announced before. */
+uint64_t symmetry_catalogue_end(uint8_t *state, size_t state_length, uint8_t *out, size_t out_length);
 
 /* ---- subgroups ---- */
 

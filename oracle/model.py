@@ -725,6 +725,79 @@ def program(data):
     return b"".join(map(program_answer, program_lines(data)))
 
 
+# Catalogues -------------------------------------------------------------------------------------------------------
+
+MOST_PIECE = 4096
+STATE = 1 + MOST_BYTES
+OVER, ENDED = MOST_BYTES + 1, MOST_BYTES + 2
+
+
+def line_so_far(state):
+    """The bytes of the line that goes on; a line of over 80 bytes has one more than the 80 that are kept, whatever it was."""
+    return state[1:1 + state[0]] if state[0] <= MOST_BYTES else state[1:STATE] + b"?"
+
+
+def keeping(state, line):
+    """The state that keeps a line: its length, or 81, and its first 80 bytes; the bytes behind them as they were."""
+    kept = line[:MOST_BYTES]
+    return bytes([min(len(line), OVER)]) + kept + state[1 + len(kept):]
+
+
+def line_answer(line, room):
+    """What the writing of the line's record from the start of the room answers, and the room afterwards."""
+    lent = bytearray(room)
+    try:
+        return write_record(*group_of_symbol(line), lent, 0), bytes(lent)
+    except Refusal as refusal:
+        return (refusal.number, refusal.place), bytes(room)
+
+
+def catalogue_start(state):
+    """A fresh start: the state; refusal 20."""
+    if len(state) < STATE:
+        raise Refusal(20, 0)
+    return b"\0" + state[1:]
+
+
+def catalogue_piece(state, piece, room):
+    """The bytes taken, what is answered for a finished line (or None), the state and the room; refusals 20, 45, 46."""
+    if len(state) < STATE:
+        raise Refusal(20, 0)
+    if len(piece) > MOST_PIECE:
+        raise Refusal(45, 0)
+    if state[0] >= ENDED:
+        raise Refusal(46, 0)
+    before, end, _ = piece.partition(b"\n")
+    line = line_so_far(state) + before
+    if not end:
+        return len(piece), None, keeping(state, line), room
+    said, left = line_answer(line, room)
+    return len(before) + 1, said, keeping(state, b""), left
+
+
+def catalogue_end(state, room):
+    """What is answered for a last line (or None), the state and the room; refusals 20, 46."""
+    if len(state) < STATE:
+        raise Refusal(20, 0)
+    if state[0] >= ENDED:
+        raise Refusal(46, 0)
+    said, left = line_answer(line_so_far(state), room) if line_so_far(state) else (None, room)
+    return said, bytes([ENDED]) + state[1:], left
+
+
+def catalogue(pieces, room):
+    """The answers for a catalogue in pieces, each with the room that it leaves: a piece until it is taken whole, then the end."""
+    state, answers = catalogue_start(bytes(STATE)), []
+    for piece in pieces:
+        taken = None
+        while taken is None or piece:
+            taken, said, state, left = catalogue_piece(state, piece, room)
+            piece = piece[taken:]
+            answers += [] if said is None else [(said, left)]
+    said, state, left = catalogue_end(state, room)
+    return answers + ([] if said is None else [(said, left)])
+
+
 # Answers by lines -------------------------------------------------------------------------------------------------
 
 def text_of_hex(word):
@@ -861,6 +934,15 @@ def example_rest():
         ("program, blank line", program(b"\n"), b"\nrefused 3 0\n"),
         ("program, no byte", program(b""), b""),
         ("program, 81 bytes", program(b"P" * 81), b"P" * 80 + b"\nrefused 1 80\n"),
+        ("catalogue, cut", catalogue([b"-P", b"", b" 1\nP 1a", b"\n\nP 1"], bytes(15)),
+         [(2, inverse_record), ((14, 0), bytes(15)), ((3, 0), bytes(15)), (1, bytes.fromhex("4064000000500101000A") + bytes(5))]),
+        ("catalogue, a line of 81 bytes", [said for said, _ in catalogue([b"P" * 70, b"P" * 11 + b"\nP 1\n"], bytes(245))], [(1, 80), 1]),
+        ("catalogue, no room", catalogue([b"-P 1\n"], bytes(14)), [((20, 0), bytes(14))]),
+        ("catalogue, no byte", catalogue([b""], b""), []),
+        ("a piece of 4,097 bytes, after the end", outcome(catalogue_piece, bytes([ENDED]) * STATE, bytes(4097), b""), (45, 0)),
+        ("a piece after the end", outcome(catalogue_piece, bytes([255]) * STATE, b"", b""), (46, 0)),
+        ("an end after the end", outcome(catalogue_end, bytes([ENDED]) * STATE, b""), (46, 0)),
+        ("a state of 80 bytes", outcome(catalogue_piece, bytes(80), bytes(4097), b""), (20, 0)),
         ("C 1ab is plain C", count_of(b"C 1ab"), 1),
         ("I 1n is plain I", count_of(b"I 1n"), 1),
         ("F 1bc is plain F", count_of(b"F 1bc"), 1),

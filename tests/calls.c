@@ -343,6 +343,59 @@ static void checked(void) {
     answers(symmetry_symbol_check(TEXT(""), NULL, 0), refusal(3, 0), "no text and no list");
 }
 
+/* ---- catalogues ---- */
+
+/* A call on a catalogue, and the room and the bytes behind the state as it left them. */
+static uint8_t state[ROOM], room[SYMMETRY_MOST_RECORD];
+
+static uint64_t piece(const char *bytes, size_t length) { return symmetry_catalogue_piece(state, 81, (const uint8_t *)bytes, length, room, sizeof room); }
+static uint64_t line_of(uint64_t said) { return 65536 * (1 + said); }
+
+static void catalogues(void) {
+    static char long_line[SYMMETRY_MOST_PIECE + 1];
+    memset(long_line, 'x', sizeof long_line);
+    memset(state, MARK, ROOM);
+    memset(room, MARK, sizeof room);
+    /* 20 for the state goes first */
+    answers(symmetry_catalogue_start(state, 80), refusal(20, 0), "a start with 80 bytes");
+    answers(symmetry_catalogue_piece(state, 80, (const uint8_t *)long_line, 4097, room, 0), refusal(20, 0), "a piece with 80 bytes");
+    answers(symmetry_catalogue_end(NULL, 0, room, 0), refusal(20, 0), "an end with no state");
+    /* any bytes are a state: here one that has ended */
+    answers(piece(long_line, 4097), refusal(45, 0), "a long piece after the end");
+    answers(piece(long_line, 4096), refusal(46, 0), "a piece after the end");
+    answers(symmetry_catalogue_end(state, 81, room, sizeof room), refusal(46, 0), "an end after the end");
+    expect(state[0] == MARK && state[80] == MARK && room[0] == MARK, "what they left", state[0]);
+    answers(symmetry_catalogue_start(state, 81), 0, "a start");
+    expect(state[0] == 0 && state[1] == MARK && state[81] == MARK, "what it left", state[0]);
+    answers(piece(NULL, 0), 0, "a piece of no bytes");
+    answers(piece("-P", 2), 2, "the beginning of a line");
+    expect(state[0] == 2 && state[1] == '-' && state[2] == 'P' && state[3] == MARK, "what is kept", state[0]);
+    answers(piece(" 1\nP 1a\n", 8), 3 + line_of(2), "the end of a line");
+    expect(memcmp(room, inversion, 15) == 0 && room[15] == MARK, "its record", room[15]);
+    expect(state[0] == 0, "nothing is kept", state[0]);
+    answers(piece("P 1a\n", 5), 5 + line_of(256 * 14), "a refused line");
+    answers(piece("\n", 1), 1 + line_of(256 * 3), "a blank line");
+    answers(symmetry_catalogue_piece(state, 81, (const uint8_t *)"-P 1\n", 5, room, 14), 5 + line_of(256 * 20), "a line with no room for its record");
+    expect(memcmp(room, inversion, 15) == 0, "what they left in the room", room[0]);
+    /* 80 bytes, and 81 */
+    answers(piece("P 1", 3), 3, "the beginning of a line of 80 bytes");
+    answers(piece("                                                                             \n", 78), 78 + line_of(1), "its end");
+    answers(piece(long_line, 4096), 4096, "a line over 80 bytes");
+    expect(state[0] == 81 && state[80] == 'x' && state[81] == MARK, "80 of them are kept", state[0]);
+    answers(piece(long_line, 4097), refusal(45, 0), "4,097 more");
+    expect(state[0] == 81, "nothing changed", state[0]);
+    answers(piece(long_line, 9), 9, "nine more");
+    answers(piece("\nP 1", 4), 1 + line_of(256 * 1 + 80), "its end");
+    answers(piece("P 1", 3), 3, "a last line");
+    answers(symmetry_catalogue_end(state, 81, room, sizeof room), line_of(1), "the end");
+    expect(state[0] == 82, "the catalogue has ended", state[0]);
+    answers(symmetry_catalogue_end(state, 81, room, sizeof room), refusal(46, 0), "an end after the end");
+    answers(piece("\n", 1), refusal(46, 0), "a piece after the end");
+    answers(symmetry_catalogue_start(state, 81), 0, "a fresh start");
+    answers(symmetry_catalogue_end(state, 81, NULL, 0), 0, "the end of nothing");
+    expect(state[81] == MARK && state[ROOM - 1] == MARK, "bytes behind the state", state[81]);
+}
+
 int main(void) {
     static const uint8_t flip_conjugates[] = { 9, 17, 33 }, flip_conjugators[] = { 0, 2, 1 };
     static const uint8_t other_conjugates[] = { 17, 9, 33 }, other_conjugators[] = { 0, 1, 2 };
@@ -358,6 +411,7 @@ int main(void) {
     records();
     lines();
     checked();
+    catalogues();
     printf("%d passed, %d failed\n", passed, failed);
     return failed != 0;
 }

@@ -30,6 +30,7 @@ static const struct { unsigned constant, number; } refusals[] = {
     { SYMMETRY_RECORD_LENGTH, 33 }, { SYMMETRY_RECORD_ITEM, 34 }, { SYMMETRY_RECORD_NO_GROUP, 35 },
     { SYMMETRY_LINE_TOO_LONG, 40 }, { SYMMETRY_LINE_MISSPELT, 41 }, { SYMMETRY_LINE_DETERMINANT, 42 },
     { SYMMETRY_LIST_LENGTH, 43 }, { SYMMETRY_LIST_ENTRY, 44 },
+    { SYMMETRY_PIECE_TOO_LONG, 45 }, { SYMMETRY_CATALOGUE_ENDED, 46 },
 };
 enum { REFUSALS = sizeof refusals / sizeof *refusals, ABOVE = 256 };
 
@@ -70,6 +71,8 @@ static void check_sizes(void)
     check("the longest line written", SYMMETRY_MOST_LINE_WRITTEN, 12 + 10 + 10 + 2);
     check("the bytes of an operation", SYMMETRY_OPERATION, 5);
     check("the bytes of a slot", SYMMETRY_SLOT, 8);
+    check("the state of a catalogue", SYMMETRY_CATALOGUE_STATE, 1 + 80);
+    check("the longest piece", SYMMETRY_MOST_PIECE, 4096);
     check("the version", SYMMETRY_VERSION_MAJOR * 100 + SYMMETRY_VERSION_MINOR, 101);
 }
 
@@ -81,6 +84,8 @@ int main(void)
     const uint64_t code = 6561 + 729 + 2 * 243 + 27 + 9 + 3 + 2, operation = code * 1728 + 11 * 144 + 0 * 12 + 4;
     const int entries[9] = { 0, -1, 0, 1, -1, 0, 0, 0, 1 };
     const uint8_t sets[16] = { 0, 0, 255, 255, 255, 255, 255, 255, 128, 7, 6, 5, 4, 3, 2, 1 };
+    /* of a catalogue: 7 bytes taken and no line; 4,096 taken and a line with 48 operations; none taken and a line refused 1 at 80 */
+    const uint64_t none = 7, many = 4096 + UINT64_C(65536) * (1 + 48), over = UINT64_C(65536) * (1 + 256 * 1 + 80);
     unsigned i;
 
     check_refusals();
@@ -108,6 +113,14 @@ int main(void)
     check("z", symmetry_twelfths(operation, 2), 4);
     check("the first set", symmetry_set(sets, 0), UINT64_C(0x0000FFFFFFFFFFFF));
     check("the second set", symmetry_set(sets, 1), UINT64_C(0x8007060504030201));
+    check("bytes taken", symmetry_catalogue_taken(none), 7);
+    check("no line", (uint64_t)symmetry_catalogue_finished(none), 0);
+    check("all bytes taken", symmetry_catalogue_taken(many), 4096);
+    check("a line", (uint64_t)symmetry_catalogue_finished(many), 1);
+    check("its operations", symmetry_catalogue_answer(many), 48);
+    check("no bytes taken", symmetry_catalogue_taken(over), 0);
+    check("a last line", (uint64_t)symmetry_catalogue_finished(over), 1);
+    check("its refusal", symmetry_catalogue_answer(over), UINT64_C(0x0100000000000050));
     printf("%d passed, %d failed\n", passed, failed);
     return failed != 0;
 }

@@ -7,3 +7,6 @@ pub mod ListBounds
 pub mod TableBounds
 pub mod MotionBounds
 pub mod LineBounds
+pub mod Catalogues
+pub mod CatalogueState
+pub mod CatalogueBounds
