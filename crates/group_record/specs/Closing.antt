@@ -18,12 +18,11 @@ use Rattle.laws.specs.GrowthClosure.{place-test, place-lt, place-same, true-T}
 use Rattle.laws.specs.Lattice.{all}
 use Rattle.laws.specs.LatticeMaps.{MapsOnto, onto-unimodular}
 use Rattle.operation.specs.Code.{codeOf}
-use Rattle.operation.specs.Composed.{identity-motion, product-inside, product-outside}
+use Rattle.operation.specs.Composed.{Reduces, identity-motion}
 use Rattle.operation.specs.Entries.{Entries}
 use Rattle.operation.specs.Meaning.{matrixOf, vectorOf, motionOf}
-use Rattle.operation.specs.Product.{identityOperation, productOf}
+use Rattle.operation.specs.Product.{identityOperation}
 use Rattle.operation.specs.declared.Operation.{Operation}
-use Rattle.operation.specs.declared.product.Product.the-variants.{Inside, Outside}
 use Rattle.centering.specs.Keeps.{keepsOf, keeps-lattice}
 use Rattle.centering.specs.Lattices.{points, congruentOf}
 use Rattle.centering.specs.LatticeLaws.{congruent-lattice}
@@ -36,7 +35,7 @@ use Rattle.group_record.specs.Reading.{operationOfItem, slots, areItems,
 use Rattle.group_record.specs.Groups.{Alike, Allowed, Listing, Form}
 use Rattle.group_record.specs.ListedForm.{code-matrix, matrix-injective, told-by-rotation, alike-reflexive, alike-symmetric, alike-transitive}
 use Rattle.group_record.specs.GroupLaws.{compose-alike}
-use Rattle.group_record.specs.ReadingTests.{congruent-residues, allowed-test, all-true, items-test, good-form, items-of-operations}
+use Rattle.group_record.specs.ReadingTests.{identity-entries, congruent-residues, allowed-test, all-true, items-test, good-form, items-of-operations}
 use Rattle.group_record.specs.Converse.{identity-there}
 use Rattle.group_record.specs.Criterion.{Right, KeepsInto, right-times}
 use Rattle.group_record.specs.Codes.{codesOf, slot-at, image-at, codes-front, codes-count}
@@ -123,41 +122,37 @@ module _ {A : Type 0} (test : A → Bool) (l : List A) where
   unfolding all
   test-end i h k = let end : i ≡ length l = omega arith in rw (end, drop-length l)
 
--- ---- the search for a product
-module _ (c : Centering) (n : ℕ) (operations : List Operation) (codes : List ℕ) (C : Coded c n operations codes) (f g : Operation) where
-  -- The listed operations, and the product that is sought.
+-- ---- the search for a motion
+module _ (c : Centering) (n : ℕ) (operations : List Operation) (codes : List ℕ) (C : Coded c n operations codes) (sought : SpaceMotion) where
+  -- The listed operations.
   abbrev listed : List Operation
   listed = take n operations
-
-  abbrev sought : SpaceMotion
-  sought = compose (motionOf f) (motionOf g)
 
   count : length listed ≡ n
   count = length-take-le n operations (C .there)
 
-  -- A listed operation that is the product has entries in −1..1,
+  -- A listed operation that is the motion has entries in −1..1,
   alike-entries : (h : Operation) → Mem h listed → Alike c sought (motionOf h) → Entries (sought .rotation)
   unfolding motionOf
   alike-entries h k a = rw (a .0) (C .listing .entries h k)
 
-  -- so there is none where the product is outside.
-  pub finds-outside : productOf f g ≡ Outside → Finds c (take n operations) (compose (motionOf f) (motionOf g)) n
+  -- so there is none where the motion has not.
+  pub finds-outside : ¬ Entries (sought .rotation) → Finds c (take n operations) sought n
   finds-outside e =
       record {
         hit = λ h. absurd (omega (arith, count));
-        miss = λ h o k a. product-outside f g .0 e (alike-entries o k a);
+        miss = λ h o k a. e (alike-entries o k a);
       }
 
-  module _ (p : Operation) (e : productOf f g ≡ Inside p) where
-    -- A listed operation that is the product has its rotation,
+  module _ (p : Operation) (inside : Entries (sought .rotation)) (reduces : Reduces sought p) where
+    -- A listed operation that is the motion has its rotation,
     same-turn : (h : Operation) → Mem h listed → Alike c sought (motionOf h) → p .rotation ≡ h .rotation
     unfolding motionOf
     same-turn h k a =
-        let (inside, reduces) = product-inside f g p e in
         matrix-injective (p .rotation) (h .rotation) (rw (reduces .rotation) inside) (C .listing .entries h k) (reduces .rotation ∙ a .0)
 
     -- so there is none where the code is not listed.
-    pub finds-nothing : n ≤ place eqb (turnOf p) (take n codes) → Finds c (take n operations) (compose (motionOf f) (motionOf g)) n
+    pub finds-nothing : n ≤ place eqb (turnOf p) (take n codes) → Finds c (take n operations) sought n
     finds-nothing far =
         record {
           hit = λ h. absurd (omega (arith, count));
@@ -175,7 +170,7 @@ module _ (c : Centering) (n : ℕ) (operations : List Operation) (codes : List �
       found-member : Mem (listedAt listed r) listed
       found-member = member-at listed r identityOperation (omega (arith, count))
 
-      -- and has the product's rotation.
+      -- and has the motion's rotation.
       found-turn : p .rotation ≡ listedAt listed r .rotation
       found-turn =
           let turns = map turnOf listed in
@@ -183,7 +178,6 @@ module _ (c : Centering) (n : ℕ) (operations : List Operation) (codes : List �
           let low : place eqb (turnOf p) turns < length turns = omega (arith, at, h, codes-count n operations (C .there)) in
           let there = true-T (sym (place-test eqb (turnOf p) turns) ∙ lt-ltb (place eqb (turnOf p) turns) (length turns) low) in
           let found = eqb→eq _ _ (place-same eqb (turnOf p) turns 0 there) in
-          let (inside, reduces) = product-inside f g p e in
           code-matrix (p .rotation) (listedAt listed r .rotation) (rw (reduces .rotation) inside) (C .listing .entries _ found-member)
           (found ∙ ap (λ (i : ℕ). getD turns i 0) (sym at) ∙ image-at turnOf listed r identityOperation 0 (omega (arith, count)))
 
@@ -191,9 +185,9 @@ module _ (c : Centering) (n : ℕ) (operations : List Operation) (codes : List �
         slot : getD operations r d ≡ listedAt listed r
         slot = slot-at n operations r d identityOperation h (C .there)
 
-        -- Where its translation is another modulo L, the product is not listed,
+        -- Where its translation is another modulo L, the motion is not listed,
         pub finds-other : congruentOf c (p .translation) (getD operations r d .translation) ≡ false
-            → Finds c (take n operations) (compose (motionOf f) (motionOf g)) n
+            → Finds c (take n operations) sought n
         unfolding motionOf
         finds-other other =
             record {
@@ -202,17 +196,16 @@ module _ (c : Centering) (n : ℕ) (operations : List Operation) (codes : List �
                   λ k o i a.
                   let one = told-by-rotation (C .listing) i found-member (sym (same-turn o i a) ∙ found-turn) in
                   let near =
-                  congruent-residues c (vectorOf (p .translation)) (sought .translation) (vectorOf (o .translation)) (product-inside f g p e .1 .translation) (a .1) in
+                  congruent-residues c (vectorOf (p .translation)) (sought .translation) (vectorOf (o .translation)) (reduces .translation) (a .1) in
                   true≢false (sym (congruent-lattice c (p .translation) (o .translation) .1 near)
                   ∙ ap (λ (x : Operation). congruentOf c (p .translation) (x .translation)) (one ∙ sym slot) ∙ other);
             }
 
         -- and else it is this one.
         pub finds-listed : congruentOf c (p .translation) (getD operations r d .translation) ≡ true
-            → Finds c (take n operations) (compose (motionOf f) (motionOf g)) r
+            → Finds c (take n operations) sought r
         unfolding motionOf
         finds-listed near =
-            let reduces = product-inside f g p e .1 in
             let same = ap (λ (x : Operation). congruentOf c (p .translation) (x .translation)) (sym slot) ∙ near in
             let class = congruent-lattice c (p .translation) (listedAt listed r .translation) .0 same in
             record {
@@ -328,14 +321,19 @@ stored-next c l columns generators g column slots room S made s d lt = elim (ℕ
 ]
 
 -- ---- the identity
-module _ (c : Centering) (l : List Operation) (e : ℕ) (found : Finds c l (compose (motionOf identityOperation) (motionOf identityOperation)) e) where
-  -- The identity's square is the identity.
-  square : compose (motionOf identityOperation) (motionOf identityOperation) ≡ identity
-  square = ap (λ (m : SpaceMotion). compose m m) identity-motion ∙ compose-identity identity
+-- It is the motion of its operation.
+pub unit-entries : Entries (motionOf identityOperation .rotation)
+unfolding motionOf
+unit-entries = identity-entries
 
-  -- What is found for it is the identity modulo L,
+pub unit-reduces : Reduces (motionOf identityOperation) identityOperation
+unfolding motionOf
+unit-reduces = record { rotation = refl; translation = refl; small = omega arith }
+
+module _ (c : Centering) (l : List Operation) (e : ℕ) (found : Finds c l (motionOf identityOperation) e) where
+  -- What is found is the identity modulo L,
   unit-alike : e < length l → Alike c identity (motionOf (listedAt l e))
-  unit-alike h = subst (λ (m : SpaceMotion). Alike c m (motionOf (listedAt l e))) square (found .hit h)
+  unit-alike h = subst (λ (m : SpaceMotion). Alike c m (motionOf (listedAt l e))) identity-motion (found .hit h)
 
   -- and with it as right factor every product is listed.
   pub unit-right : KeepsInto c l → e < length l → Right c l (listedAt l e)
@@ -352,7 +350,7 @@ module _ (c : Centering) (l : List Operation) (e : ℕ) (found : Finds c l (comp
   pub unit-missing : length l ≤ e → ¬ Allowed c (map motionOf l)
   unit-missing far A =
       let (f, m, a) = mem-of-map motionOf l (A .holds-identity) in
-      found .miss far f m (subst (λ (x : SpaceMotion). Alike c x (motionOf f)) (sym square) (subst (Alike c identity) (sym a) (alike-reflexive c identity)))
+      found .miss far f m (subst (λ (x : SpaceMotion). Alike c x (motionOf f)) (sym identity-motion) (subst (Alike c identity) (sym a) (alike-reflexive c identity)))
 
 -- ---- the decision
 -- An operation's rotation maps L onto L.
@@ -395,7 +393,7 @@ module _ (c : Centering) (l : List Operation) (F : Form c l) (some : 1 ≤ lengt
       by-test false e = sym e
 
   -- Where all rotations keep L, the identity is found, and with each operation as right factor every product, all is allowed.
-  pub closed : all (keepsOperation c) l ≡ true → (e : ℕ) → Finds c l (compose (motionOf identityOperation) (motionOf identityOperation)) e → e < length l
+  pub closed : all (keepsOperation c) l ≡ true → (e : ℕ) → Finds c l (motionOf identityOperation) e → e < length l
       → ((k : ℕ) → k < length l → Right c l (listedAt l k)) → true ≡ isAllowed c (map itemOf l)
   closed keep e found h right = sym (allowed-test c l F some few .1 allowed)
     where
@@ -423,7 +421,7 @@ module _ (c : Centering) (l : List Operation) (F : Form c l) (some : 1 ≤ lengt
               (motionOf h, mem-map motionOf w, subst (λ (y : SpaceMotion). Alike c y (motionOf h)) same x)
 
   -- So what was found of the right factors decides.
-  pub decided : all (keepsOperation c) l ≡ true → (e : ℕ) → Finds c l (compose (motionOf identityOperation) (motionOf identityOperation)) e → e < length l
+  pub decided : all (keepsOperation c) l ≡ true → (e : ℕ) → Finds c l (motionOf identityOperation) e → e < length l
       → (r : Bool) → (r ≡ true → (k : ℕ) → k < length l → Right c l (listedAt l k)) → (r ≡ false → (g : Operation) × Mem g l × Lacks c l g)
       → r ≡ isAllowed c (map itemOf l)
   decided keep e found h true right lacks = closed keep e found h (right refl)

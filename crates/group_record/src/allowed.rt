@@ -7,6 +7,7 @@ ghost use lib.ListN.{length, take};
 ghost use Rattle.laws.specs.Lattice.{all};
 ghost use Rattle.laws.specs.Motion.{compose};
 ghost use Rattle.operation.specs.Meaning.{motionOf};
+ghost use Rattle.operation.specs.Product.{identityOperation};
 ghost use Rattle.operation.specs.declared.Operation.{Operation};
 ghost use Rattle.group_record.specs.Record.{itemOf};
 ghost use Rattle.group_record.specs.Reading.{isAllowed};
@@ -44,7 +45,7 @@ pub(crate) fn is_allowed(c: Centering, operations: [Operation; 48], n: usize) ->
         return false;
     }
     let codes = codes_of(operations, n);
-    let e = product_at(c, operations, &codes, n, identity(), identity());
+    let e = identity_at(c, operations, &codes, n);
     if n <= e {
         return false;
     }
@@ -64,6 +65,23 @@ fn all_keep(c: Centering, operations: [Operation; 48], n: usize) -> bool
         i += 1;
     }
     true
+}
+
+// The index of the listed operation that is the identity modulo the lattice, or n.
+fn identity_at(c: Centering, operations: [Operation; 48], codes: &[u32; 48], n: usize) -> usize
+    requires { ⌜ Coded c n operations (now codes) ⌝ }
+    ensures { λ r. ⌜ Finds c (take n operations) (motionOf identityOperation) r ⌝ }
+{
+    let e = identity();
+    let k = place_of(codes, n, rotation_code(e.rotation));
+    if n <= k {
+        return n;
+    }
+    let listed = operations[k];
+    if !c.congruent(e.translation, listed.translation) {
+        return n;
+    }
+    k
 }
 
 // The index of the listed operation that is f times g modulo the lattice, or n.

@@ -1,17 +1,13 @@
 -- Each refusal bars what is allowed; where none is given, what was found of the right factors decides.
-use mathlib.Core.Path.{_≡_, sym, _∙_, subst}
+use mathlib.Core.Path.{_≡_, sym, _∙_}
 use mathlib.Core.Bool.{true}
 use native.Mathlib.Omega.{arith}
 use lib.ListN.{take}
 use lib.Seq.{length-take-le}
 use borrow.Author.Tests.{not-true, not-false}
 use Rattle.laws.specs.Lattice.{all}
-use Rattle.laws.specs.Motion.{compose}
-use Rattle.operation.specs.Meaning.{motionOf}
-use Rattle.operation.specs.Product.{identityOperation}
-use Rattle.operation.specs.declared.Operation.{Operation}
 use Rattle.group_record.specs.ListedForm.{form-listing}
-use Rattle.group_record.specs.Closing.{Finds, Coded, keepsOperation, losing, refuted, unit-missing, unit-right, keep-into, decided}
+use Rattle.group_record.specs.Closing.{Coded, keepsOperation, losing, refuted, unit-missing, unit-right, keep-into, decided}
 use borrow.Author.Needs.{needs}
 use Rattle.group_record.proofs.allowed.is_allowed.Statement.{statement}
 use Rattle.group_record.proofs.allowed.is_allowed.Tie as tie
@@ -19,9 +15,8 @@ use Rattle.group_record.proofs.allowed.is_allowed.Reads as reads
 use Rattle.group_record.proofs.allowed.is_allowed.Lts as lts
 use Rattle.group_record.proofs.allowed.all_keep.Reads as all-keep-reads
 use Rattle.group_record.proofs.allowed.every_product.Reads as every-product-reads
-use Rattle.group_record.proofs.allowed.product_at.Reads as product-at-reads
+use Rattle.group_record.proofs.allowed.identity_at.Reads as identity-at-reads
 use Rattle.group_record.proofs.codes.codes_of.Reads as codes-of-reads
-use Rattle.operation.proofs.product.identity.Reads as identity-reads
 
 -- All rotations keep the lattice.
 kept-at : (c : tie.Else1) → all (keepsOperation (c .before .before .args .c)) (take (c .before .before .args .n) (c .before .before .args .operations)) ≡ true
@@ -32,16 +27,6 @@ coded-at : (c : tie.After-codes-of) → Coded (c .before .before .before .args .
 coded-at c =
     let s = c .before .before .before in
     record { few = s .pre .1; there = s .pre .2; listing = form-listing (s .args .c) (s .pre .3); coded = c .codes-of .ensures }
-
--- What was found for the identity's square.
-found-at : (c : tie.After-product-at) → Finds (c .before .before .before .before .before .before .before .args .c) (take (c .before .before .before .before .before .before .before .args .n) (c .before .before .before .before .before .before .before .args .operations)) (compose (motionOf identityOperation) (motionOf identityOperation)) (c .product-at .result)
-found-at c =
-    let a = c .before .before .before .before .before .before .before .args in
-    let l = take (a .n) (a .operations) in
-    let r = c .product-at .result in
-    let left = c .before .before .identity .result in
-    subst (λ (f : Operation). Finds (a .c) l (compose (motionOf f) (motionOf identityOperation)) r) (c .before .before .identity .ensures)
-    (subst (λ (g : Operation). Finds (a .c) l (compose (motionOf left) (motionOf g)) r) (c .before .identity2 .ensures) (c .product-at .ensures))
 
 all-keep-requires : tie.Need-all-keep-requires
 all-keep-requires c κs = search needs
@@ -58,41 +43,35 @@ returns c =
 codes-of-requires : tie.Need-codes-of-requires
 codes-of-requires c κs = search needs
 
-identity-requires : tie.Need-identity-requires
-identity-requires c κs = search needs
-
-identity-requires-2 : tie.Need-identity-requires-2
-identity-requires-2 c κs = search needs
-
-product-at-requires : tie.Need-product-at-requires
-product-at-requires c κs = coded-at (c .before .before .before)
+identity-at-requires : tie.Need-identity-at-requires
+identity-at-requires c κs = coded-at (c .before)
 
 returns-2 : tie.Need-returns-2
 returns-2 c =
-    let s = c .before .before .before .before .before .before .before .before in
+    let s = c .before .before .before .before .before .before in
     let a = s .args in
     let l = take (a .n) (a .operations) in
     let count = length-take-le (a .n) (a .operations) (s .pre .2) in
-    let barred = unit-missing (a .c) l _ (found-at (c .before)) (omega (arith, count, c .if2 .taken)) in
+    let barred = unit-missing (a .c) l _ (c .before .identity-at .ensures) (omega (arith, count, c .if2 .taken)) in
     refuted (a .c) l (s .pre .3) (omega (arith, count, s .pre)) (omega (arith, count, s .pre)) barred
 
 every-product-requires : tie.Need-every-product-requires
 every-product-requires c κs =
-    let s = c .before .before .before .before .before .before .before .before .before in
+    let s = c .before .before .before .before .before .before .before in
     let a = s .args in
     let l = take (a .n) (a .operations) in
     let count = length-take-le (a .n) (a .operations) (s .pre .2) in
-    let into = keep-into (a .c) l (kept-at (c .before .before .before .before .before .before .before)) in
-    (coded-at (c .before .before .before .before .before .before), into, omega (arith, c .before .if2 .left), unit-right (a .c) l _ (found-at (c .before .before)) into (omega (arith, count, c .before .if2 .left)))
+    let into = keep-into (a .c) l (kept-at (c .before .before .before .before .before)) in
+    (coded-at (c .before .before .before .before), into, omega (arith, c .before .if2 .left), unit-right (a .c) l _ (c .before .before .identity-at .ensures) into (omega (arith, count, c .before .if2 .left)))
 
 returns-3 : tie.Need-returns-3
 returns-3 c =
-    let s = c .before .before .before .before .before .before .before .before .before .before in
+    let s = c .before .before .before .before .before .before .before .before in
     let a = s .args in
     let l = take (a .n) (a .operations) in
     let count = length-take-le (a .n) (a .operations) (s .pre .2) in
     let (right, lacks) = c .every-product .ensures in
-    decided (a .c) l (s .pre .3) (omega (arith, count, s .pre)) (omega (arith, count, s .pre)) (kept-at (c .before .before .before .before .before .before .before .before)) _ (found-at (c .before .before .before)) (omega (arith, count, c .before .before .if2 .left))
+    decided (a .c) l (s .pre .3) (omega (arith, count, s .pre)) (omega (arith, count, s .pre)) (kept-at (c .before .before .before .before .before .before)) _ (c .before .before .before .identity-at .ensures) (omega (arith, count, c .before .before .if2 .left))
     (c .every-product .result) (λ e k h. right e k (omega (arith, count))) lacks
 
 pub is-allowed-spec : {M : Type 1} → statement M
@@ -102,9 +81,7 @@ is-allowed-spec =
     all-keep-requires
     returns
     codes-of-requires
-    identity-requires
-    identity-requires-2
-    product-at-requires
+    identity-at-requires
     returns-2
     every-product-requires
     returns-3)

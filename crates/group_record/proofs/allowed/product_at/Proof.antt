@@ -6,6 +6,9 @@ use lib.Dec.{eqb}
 use lib.ListN.{length, take}
 use borrow.Author.Tests.{not-true, not-false}
 use Rattle.laws.specs.Growth.{place}
+use Rattle.laws.specs.Motion.{compose}
+use Rattle.operation.specs.Composed.{product-inside, product-outside}
+use Rattle.operation.specs.Meaning.{motionOf}
 use Rattle.group_record.specs.Codes.{codes-long}
 use Rattle.group_record.specs.Closing.{finds-outside, finds-nothing, finds-other, finds-listed}
 use borrow.Author.Needs.{needs}
@@ -31,7 +34,8 @@ returns : tie.Need-returns
 returns c =
     let s = c .before .before .before in
     let a = s .args in
-    finds-outside (a .c) (a .n) (a .t2) (a .codes .now) (s .pre) (a .f) (a .g) (sym (c .before .before .mul .ensures) ∙ c .enum-told .given .1)
+    finds-outside (a .c) (a .n) (a .t2) (a .codes .now) (s .pre) (compose (motionOf (a .f)) (motionOf (a .g)))
+    (product-outside (a .f) (a .g) .0 (sym (c .before .before .mul .ensures) ∙ c .enum-told .given .1))
 
 rotation-code-requires : tie.Need-rotation-code-requires
 rotation-code-requires c κs = search needs
@@ -49,7 +53,8 @@ returns-2 c =
     let p = c .before .before .before .before .p .given .0 .0 in
     let inside = sym (c .before .before .before .before .before .before .mul .ensures) ∙ c .before .before .before .before .p .given .1 in
     let at = c .before .place-of .ensures ∙ ap (λ (x : ℕ). place eqb x (take (a .n) (a .codes .now))) (c .before .before .rotation-code .ensures) in
-    finds-nothing (a .c) (a .n) (a .t2) (a .codes .now) (s .pre) (a .f) (a .g) p inside (omega (arith, at, c .if1 .taken))
+    let (entries, reduces) = product-inside (a .f) (a .g) p inside in
+    finds-nothing (a .c) (a .n) (a .t2) (a .codes .now) (s .pre) (compose (motionOf (a .f)) (motionOf (a .g))) p entries reduces (omega (arith, at, c .if1 .taken))
 
 mul-listed : tie.Need-mul-listed
 mul-listed c = search needs
@@ -67,7 +72,8 @@ returns-3 c =
     let p = c .before .before .before .before .before .before .before .p .given .0 .0 in
     let inside = sym (c .before .before .before .before .before .before .before .before .before .mul .ensures) ∙ c .before .before .before .before .before .before .before .p .given .1 in
     let at = c .before .before .before .before .place-of .ensures ∙ ap (λ (x : ℕ). place eqb x (take (a .n) (a .codes .now))) (c .before .before .before .before .before .rotation-code .ensures) in
-    finds-other (a .c) (a .n) (a .t2) (a .codes .now) (s .pre) (a .f) (a .g) p inside _ at (omega (arith, c .before .before .before .if1 .left)) _ (sym (c .before .congruent .ensures) ∙ not-true (c .before .congruent .result) (c .if2 .taken))
+    let (entries, reduces) = product-inside (a .f) (a .g) p inside in
+    finds-other (a .c) (a .n) (a .t2) (a .codes .now) (s .pre) (compose (motionOf (a .f)) (motionOf (a .g))) p entries reduces _ at (omega (arith, c .before .before .before .if1 .left)) _ (sym (c .before .congruent .ensures) ∙ not-true (c .before .congruent .result) (c .if2 .taken))
 
 returns-4 : tie.Need-returns-4
 returns-4 c =
@@ -76,7 +82,8 @@ returns-4 c =
     let p = c .before .before .before .before .before .before .before .p .given .0 .0 in
     let inside = sym (c .before .before .before .before .before .before .before .before .before .mul .ensures) ∙ c .before .before .before .before .before .before .before .p .given .1 in
     let at = c .before .before .before .before .place-of .ensures ∙ ap (λ (x : ℕ). place eqb x (take (a .n) (a .codes .now))) (c .before .before .before .before .before .rotation-code .ensures) in
-    finds-listed (a .c) (a .n) (a .t2) (a .codes .now) (s .pre) (a .f) (a .g) p inside _ at (omega (arith, c .before .before .before .if1 .left)) _ (sym (c .before .congruent .ensures) ∙ not-false (c .before .congruent .result) (c .if2 .left))
+    let (entries, reduces) = product-inside (a .f) (a .g) p inside in
+    finds-listed (a .c) (a .n) (a .t2) (a .codes .now) (s .pre) (compose (motionOf (a .f)) (motionOf (a .g))) p entries reduces _ at (omega (arith, c .before .before .before .if1 .left)) _ (sym (c .before .congruent .ensures) ∙ not-false (c .before .congruent .result) (c .if2 .left))
 
 pub product-at-spec : {M : Type 1} → statement M
 product-at-spec =
