@@ -18,7 +18,7 @@ use Rattle.symbol_group.specs.declared.refusal.Refusal.{Refusal}
 use Rattle.symbol_group.specs.declared.Answer.{Answer}
 use Rattle.symbol_group.specs.declared.Answer.the-variants.{Group, Refused}
 use Rattle.group_record.specs.Items.{bytesOf, bytes-length, read-written, item-at}
-use Rattle.group_record.specs.Record.{itemWidth, editionNumber, totalLength, trailer, listedForm, written, recordOf}
+use Rattle.group_record.specs.Record.{itemWidth, editionNumber, totalLength, trailer, listedForm, writtenIn, recordIn, recordOf}
 use Rattle.group_record.specs.Groups.{Form, Listing}
 use Rattle.group_record.specs.ListedForm.{form-length, listed-form}
 use Rattle.group_record.specs.OneRecord.{operationBytes, operationIn, operation-wide, operation-again, record-length}
@@ -187,7 +187,7 @@ module _ (line : List ℕ) where
       placed = rw a (all-placed zeros 0 (totalLength itemWidth (symbolAnswer line .count)) (recordOf letter listed) (record-length letter listed ∙ ap (totalLength itemWidth) listed-count) (enough-room a))
 
       split : bytes ≡ bytesOf operationBytes (listedForm letter listed) ++ (byteOf letter ∷ behind)
-      unfolding recordOf written trailer behind
+      unfolding recordOf recordIn writtenIn trailer behind
       split = p ∙ placed ∙ append-assoc (bytesOf operationBytes (listedForm letter listed)) (trailer itemWidth editionNumber letter (length (listedForm letter listed))) (drop (0 + totalLength itemWidth (symbolAnswer line .count)) zeros)
 
       pub group-few : n ≤ 48
