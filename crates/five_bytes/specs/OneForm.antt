@@ -1,13 +1,12 @@
 -- Five bytes and the operation they say determine one another: every operation with entries in −1..1 and coordinates below 12 is said by its bytes and no others.
 use mathlib.Core.Path.{_≡_, refl, sym, _∙_, ap, ap₂}
-use mathlib.Core.Bool.{Bool, true, false, _&&_}
+use mathlib.Core.Bool.{Bool, true, false, _&&_, and-eq-true-iff}
 use mathlib.Core.List.{List, [], _∷_}
 use Prim.Native.Nat.{ℕ, _+_, _*_, _/_, _%_, _<_}
 use native.Mathlib.Omega.{arith}
 use lib.Dec.{ltb}
 use borrow.Author.Tests.{ltb-true, lt-ltb, eq-eqb, ne-eqb}
 use lib.ListN.{length, getD}
-use Rattle.operation.specs.Below.{both}
 use Rattle.operation.specs.Code.{codeOf, rotationOf, decodedOf, code-lt, rotation-code, rotation-digits, code-rotation}
 use Rattle.operation.specs.declared.Operation.{Operation}
 use Rattle.operation.specs.declared.Translation.{Translation}
@@ -36,8 +35,8 @@ twelve-last t x y = rw (lt-ltb (t .x) 12 x, lt-ltb (t .y) 12 y) refl
 pub below-twelve : (t : Translation) → belowTwelve t ≡ true → (t .x < 12) × (t .y < 12) × (t .z < 12)
 unfolding belowTwelve
 below-twelve t h =
-    let (p, s) = both (ltb (t .x) 12 && ltb (t .y) 12) (ltb (t .z) 12) h in
-    let (q, r) = both (ltb (t .x) 12) (ltb (t .y) 12) p in
+    let (p, s) = and-eq-true-iff (ltb (t .x) 12 && ltb (t .y) 12) (ltb (t .z) 12) .0 h in
+    let (q, r) = and-eq-true-iff (ltb (t .x) 12) (ltb (t .y) 12) .0 p in
     (ltb-true _ 12 q, ltb-true _ 12 r, ltb-true _ 12 s)
 
 -- Of five bytes with coordinates below 12 the code decides.

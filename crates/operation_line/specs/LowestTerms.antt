@@ -1,7 +1,7 @@
 -- Twelfths as fractions in lowest terms: one test over all numerators and denominators says which fractions are, and that the table of the writer has
 -- exactly these.
 use mathlib.Core.Path.{_≡_, refl, sym, _∙_, ap, ap₂}
-use mathlib.Core.Bool.{Bool, true, false, cond, not, _&&_, true≢false}
+use mathlib.Core.Bool.{Bool, true, false, cond, not, _&&_, true≢false, and-eq-true-iff}
 use mathlib.Core.List.{List, [], _∷_, List·Memᴰ as Mem, List·Memᴰ·head as here, List·Memᴰ·tail as there}
 use Prim.Native.Nat.{ℕ, zero, suc, _+_, _-_, _*_, _/_, _%_, _<_, _≤_}
 use native.Mathlib.Omega.{arith}
@@ -9,7 +9,7 @@ use native.Mathlib.Nat.{mod-eq-of-lt}
 use lib.Dec.{eqb, ltb, leb}
 use borrow.Author.Tests.{ltb-true, ltb-false, lt-ltb, leb-true, le-leb, eqb-true, eq-eqb}
 use lib.ListN.{getD}
-use Rattle.operation.specs.Below.{allBelow, below, both}
+use Rattle.operation.specs.Below.{allBelow, below}
 use Rattle.operation_line.specs.Spelling.{fraction, signed, denominators, Proper}
 use Rattle.operation_line.specs.Writing.{numerators, divisors, twelfths, fractionTerm}
 
@@ -81,9 +81,9 @@ at-most-twelve q (there (there (there (there (here e))))) = omega arith
 tested-lowest : (p q : ℕ) → isLowest p q ≡ true → Lowest p q
 unfolding isLowest parted
 tested-lowest p q h =
-    let (a, r) = both (leb 1 p) _ h in
-    let (b, s) = both (ltb p q) _ r in
-    let (c, d) = both (isIn q denominators) _ s in
+    let (a, r) = and-eq-true-iff (leb 1 p) _ .0 h in
+    let (b, s) = and-eq-true-iff (ltb p q) _ .0 r in
+    let (c, d) = and-eq-true-iff (isIn q denominators) _ .0 s in
     let some = leb-true 1 p a in
     let less = ltb-true p q b in
     let in-list = in-is q denominators c in
@@ -124,8 +124,8 @@ lowest-term p q l =
     let small = at-most-twelve q in-list in
     let tested : inTable p q ≡ true = below 13 (λ q. inTable p q) (below 12 (λ p. allBelow 13 (λ q. inTable p q)) all-in-table p (omega arith)) q (omega arith) in
     let found = rw (lowest-tested p q l) at tested in
-    let (a, r) = both (eqb (getD numerators (12 * p / q) 0) p) _ found in
-    let (b, s) = both (eqb (getD divisors (12 * p / q) 0) q) _ r in
+    let (a, r) = and-eq-true-iff (eqb (getD numerators (12 * p / q) 0) p) _ .0 found in
+    let (b, s) = and-eq-true-iff (eqb (getD divisors (12 * p / q) 0) q) _ .0 r in
     term-by (12 * p / q) p q (leb-true 1 _ s) (eqb-true _ p a) (eqb-true _ q b)
 
 -- The table's fractions are in lowest terms.

@@ -1,6 +1,6 @@
 -- What is written is a line by the spelling rules, in written form, and denotes the operation; and no other text in written form does.
 use mathlib.Core.Path.{_≡_, refl, sym, _∙_, ap, subst}
-use mathlib.Core.Bool.{Bool, true, false, _&&_, false≢true}
+use mathlib.Core.Bool.{Bool, true, false, _&&_, false≢true, and-eq-true-iff}
 use mathlib.Core.List.{List, [], _∷_, _++_, append-nil}
 use mathlib.Core.Logic.{inl, inr, _↔_}
 use Prim.Native.Nat.{ℕ, zero, suc, _<_, _≤_}
@@ -11,7 +11,7 @@ use borrow.Author.Tests.{eqb-true}
 use lib.ListN.{length}
 use Rattle.laws.specs.Integer.{ring, nought, _⊖_}
 use Rattle.laws.specs.Matrix.{Matrix, determinant, Unimodular}
-use Rattle.operation.specs.Below.{allBelow, below, both}
+use Rattle.operation.specs.Below.{allBelow, below}
 use Rattle.operation.specs.Entries.{all-entries, digits-entries}
 use Rattle.operation.specs.Meaning.{entryOf, matrixOf, Digits, rotation≡}
 use Rattle.operation.specs.RotationType.{handednessOf, proper-determinant, improper-determinant, determinant-proper, determinant-improper}
@@ -55,9 +55,9 @@ row-denotes a b c k p q r s =
     let at-b = below 3 (λ b. allBelow 3 (λ c. allBelow 12 (λ k. denotes a b c k))) at-a b (omega arith) in
     let at-c = below 3 (λ c. allBelow 12 (λ k. denotes a b c k)) at-b c (omega arith) in
     let at-k : denotes a b c k ≡ true = below 12 (λ k. denotes a b c k) at-c k s in
-    let (x, more) = both (eqb (digitIn X (rowTerms a b c k)) a) _ at-k in
-    let (y, rest) = both (eqb (digitIn Y (rowTerms a b c k)) b) _ more in
-    let (z, last) = both (eqb (digitIn Z (rowTerms a b c k)) c) _ rest in
+    let (x, more) = and-eq-true-iff (eqb (digitIn X (rowTerms a b c k)) a) _ .0 at-k in
+    let (y, rest) = and-eq-true-iff (eqb (digitIn Y (rowTerms a b c k)) b) _ .0 more in
+    let (z, last) = and-eq-true-iff (eqb (digitIn Z (rowTerms a b c k)) c) _ .0 rest in
     record { x = eqb-true _ a x; y = eqb-true _ b y; z = eqb-true _ c z; moved = eqb-true _ k last }
 
 pub written-denotes : (f : Operation) → Sayable f → operationBy (lineOf f) ≡ f
