@@ -42,8 +42,11 @@ returns : tie.Need-returns Inv-loop μ-loop
 returns c =
     let s = c .before .before .before .before .before .before in
     let l = c .before .before .before .before .before .loop in
-    let test = slot-listed (s .args .t2) (s .args .n) (l .i) _ (omega arith) (s .pre .1) (s .args .c) _ _ (c .before .before .smallest .ensures) (c .before .same .ensures) in
-    sym (every-stop (take (s .args .n) (s .args .t2)) identityOperation (isListed (s .args .c)) (l .i) (omega (arith, first-count (s .args .t2) (s .args .n) (s .pre .1))) (test ∙ not-true (c .before .same .result) (c .if1 .taken)))
+    let test =
+    slot-listed (s .args .t2) (s .args .n) (l .i) _ (omega arith) (s .pre .1) (s .args .c) _ _ (c .before .before .smallest .ensures)
+    (c .before .same .ensures) in
+    sym (every-stop (take (s .args .n) (s .args .t2)) identityOperation (isListed (s .args .c)) (l .i)
+    (omega (arith, first-count (s .args .t2) (s .args .n) (s .pre .1))) (test ∙ not-true (c .before .same .result) (c .if1 .taken)))
     ∙ l .inv .1
 
 add-i : tie.Need-add-i Inv-loop μ-loop
@@ -56,9 +59,12 @@ loop-again : tie.Need-loop-again Inv-loop μ-loop
 loop-again c =
     let s = c .before .before .before .before .before .before in
     let l = c .before .before .before .before .before .loop in
-    let test = slot-listed (s .args .t2) (s .args .n) (l .i) _ (omega arith) (s .pre .1) (s .args .c) _ _ (c .before .before .smallest .ensures) (c .before .same .ensures) in (
+    let test =
+    slot-listed (s .args .t2) (s .args .n) (l .i) _ (omega arith) (s .pre .1) (s .args .c) _ _ (c .before .before .smallest .ensures)
+    (c .before .same .ensures) in (
       omega arith,
-      sym (every-next (take (s .args .n) (s .args .t2)) identityOperation (isListed (s .args .c)) (l .i) (omega (arith, first-count (s .args .t2) (s .args .n) (s .pre .1))) (test ∙ not-false (c .before .same .result) (c .if1 .left)))
+      sym (every-next (take (s .args .n) (s .args .t2)) identityOperation (isListed (s .args .c)) (l .i)
+          (omega (arith, first-count (s .args .t2) (s .args .n) (s .pre .1))) (test ∙ not-false (c .before .same .result) (c .if1 .left)))
           ∙ l .inv .1,
     )
 

@@ -59,7 +59,9 @@ returns c =
     let count = first-count (s .args .t1) (s .args .n) (s .pre .2) in
     let next = slot-code (s .args .t1) (s .args .n) (l .i + 1) _ (omega arith) (s .pre .2) _ (c .before .before .rotation-code .ensures) in
     let here = slot-code (s .args .t1) (s .args .n) (l .i) _ (omega arith) (s .pre .2) _ (c .before .rotation-code2 .ensures) in
-    let fails = le-ltb (codeOf (getD list (l .i) identityOperation .rotation)) (codeOf (getD list (l .i + 1) identityOperation .rotation)) (omega (arith, next, here, c .if1 .taken)) in
+    let fails =
+    le-ltb (codeOf (getD list (l .i) identityOperation .rotation)) (codeOf (getD list (l .i + 1) identityOperation .rotation))
+    (omega (arith, next, here, c .if1 .taken)) in
     sym (ascending-stop list identityOperation beforeByCode (l .i) (omega (arith, count)) fails) ∙ l .inv .1
 
 add-i : tie.Need-add-i Inv-loop μ-loop
@@ -76,7 +78,9 @@ loop-again c =
     let count = first-count (s .args .t1) (s .args .n) (s .pre .2) in
     let next = slot-code (s .args .t1) (s .args .n) (l .i + 1) _ (omega arith) (s .pre .2) _ (c .before .before .rotation-code .ensures) in
     let here = slot-code (s .args .t1) (s .args .n) (l .i) _ (omega arith) (s .pre .2) _ (c .before .rotation-code2 .ensures) in
-    let holds = lt-ltb (codeOf (getD list (l .i) identityOperation .rotation)) (codeOf (getD list (l .i + 1) identityOperation .rotation)) (omega (arith, next, here, c .if1 .left)) in
+    let holds =
+    lt-ltb (codeOf (getD list (l .i) identityOperation .rotation)) (codeOf (getD list (l .i + 1) identityOperation .rotation))
+    (omega (arith, next, here, c .if1 .left)) in
     (omega arith, sym (ascending-next list identityOperation beforeByCode (l .i) (omega (arith, count)) holds) ∙ l .inv .1)
 
 returns-2 : tie.Need-returns-2 Inv-loop μ-loop

@@ -16,7 +16,8 @@ use Rattle.group_record.proofs.items.operation_at.Reads as operation-at
 use Rattle.operation.proofs.product.identity.Reads as identity-reads
 
 abbrev Inv-loop : tie.InvT-loop
-Inv-loop bytes n operations₀ i₀ operations i = (i ≤ n) × (operations ≡ filledTo n bytes i) × (all codeFits (drop i (itemsOf n bytes)) ≡ all codeFits (itemsOf n bytes))
+Inv-loop bytes n operations₀ i₀ operations i =
+    (i ≤ n) × (operations ≡ filledTo n bytes i) × (all codeFits (drop i (itemsOf n bytes)) ≡ all codeFits (itemsOf n bytes))
 
 abbrev μ-loop : tie.MeasureT-loop
 μ-loop bytes n operations₀ i₀ operations i = n - i

@@ -48,7 +48,9 @@ returns : tie.Need-returns
 returns c =
     let a = c .before .before .before .before .before .before .before .args in
     nothing-found (c .nothing .ensures)
-    (counted-fails (a .c) (a .bytes .now) _ _ _ (c .before .before .before .before .before .from-end .ensures) (c .before .before .before .before .from-end2 .ensures) (c .before .before .before .from-end3 .ensures) (sym (c .before .before .length-fits .ensures) ∙ not-true (c .before .before .length-fits .result) (c .before .if1 .taken)))
+    (counted-fails (a .c) (a .bytes .now) _ _ _ (c .before .before .before .before .before .from-end .ensures)
+    (c .before .before .before .before .from-end2 .ensures) (c .before .before .before .from-end3 .ensures)
+    (sym (c .before .before .length-fits .ensures) ∙ not-true (c .before .before .length-fits .result) (c .before .if1 .taken)))
 
 mul-start : tie.Need-mul-start
 mul-start c = search needs
@@ -57,7 +59,9 @@ add-start : tie.Need-add-start
 add-start c = search needs
 
 sub-start : tie.Need-sub-start
-sub-start c = let fits = length-test _ _ _ _ _ .0 (sym (c .before .length-fits .ensures) ∙ not-false (c .before .length-fits .result) (c .if1 .left)) in omega (arith, fits)
+sub-start c =
+    let fits = length-test _ _ _ _ _ .0 (sym (c .before .length-fits .ensures) ∙ not-false (c .before .length-fits .result) (c .if1 .left)) in
+    omega (arith, fits)
 
 returns-2 : tie.Need-returns-2
 returns-2 c =
@@ -68,7 +72,9 @@ returns-2 c =
       some = λ e. bounds .0;
       few = bounds .1;
       within = omega (arith, bounds);
-      same = sym (counted-fits (a .c) (a .bytes .now) _ _ _ (c .before .before .before .before .from-end .ensures) (c .before .before .before .from-end2 .ensures) (c .before .before .from-end3 .ensures) fits);
+      same =
+          sym (counted-fits (a .c) (a .bytes .now) _ _ _ (c .before .before .before .before .from-end .ensures)
+          (c .before .before .before .from-end2 .ensures) (c .before .before .from-end3 .ensures) fits);
     }
 
 pub find-counted-spec : {M : Type 1} → statement M

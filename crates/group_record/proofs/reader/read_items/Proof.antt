@@ -71,7 +71,8 @@ returns-3 c =
     let right = sym (listed .ensures) ∙ not-false (listed .result) (c .before .before .before .if2 .left) in
     let allowed = c .before .before .is-allowed in
     c .refused3 .ensures
-    ∙ sym (items-barred (s .args .c) (s .args .n) (s .args .bytes .now) _ fit filled right (sym (allowed .ensures) ∙ not-true (allowed .result) (c .before .if3 .taken)))
+    ∙ sym (items-barred (s .args .c) (s .args .n) (s .args .bytes .now) _ fit filled right
+    (sym (allowed .ensures) ∙ not-true (allowed .result) (c .before .if3 .taken)))
 
 returns-4 : tie.Need-returns-4
 returns-4 c =

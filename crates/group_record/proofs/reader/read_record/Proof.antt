@@ -48,14 +48,16 @@ returns c =
     let bytes = c .before .before .before .before .before .before .args .bytes .now in
     let f = c .before .before .before .before .find .result in
     c .read-items .ensures ∙ ap (λ (b : List ℕ). readItems (f .centering) (itemsOf (f .count) b)) (tail-part bytes (f .start))
-    ∙ sym (ap (λ (a : Reading). leadsTo bytes a (f .centering) (f .count) (f .start)) (c .before .before .enum-told .given .1)) ∙ c .before .before .before .before .find .ensures .same
+    ∙ sym (ap (λ (a : Reading). leadsTo bytes a (f .centering) (f .count) (f .start)) (c .before .before .enum-told .given .1))
+    ∙ c .before .before .before .before .find .ensures .same
 
 returns-2 : tie.Need-returns-2
 returns-2 c =
     let bytes = c .before .before .before .before .before .before .args .bytes .now in
     let f = c .before .before .before .before .find .result in
     c .refused .ensures
-    ∙ sym (ap (λ (a : Reading). leadsTo bytes a (f .centering) (f .count) (f .start)) (c .before .before .answer .given .1)) ∙ c .before .before .before .before .find .ensures .same
+    ∙ sym (ap (λ (a : Reading). leadsTo bytes a (f .centering) (f .count) (f .start)) (c .before .before .answer .given .1))
+    ∙ c .before .before .before .before .find .ensures .same
 
 pub read-record-spec : {M : Type 1} → statement M
 read-record-spec =
