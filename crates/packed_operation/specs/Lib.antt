@@ -1,0 +1,6 @@
+-- What a number says, the number of an operation, and the laws by which a product of numbers is the number of the product.
+pub mod Number
+pub mod Rows
+pub mod Fields
+pub mod Times
+pub mod Moved
