@@ -23,6 +23,18 @@ module _ (e f g m : ℕ) (he : e < 32) (hf : f < 32) (hg : g < 32) where
   from-third : (rowOf e f g + m * 32768) / 1024 ≡ g + m * 32
   from-third = omega arith
 
+  pub first-digit : e < 4 → (rowOf e f g + m * 32768) % 4 ≡ e
+  first-digit h = omega arith
+
+  pub second-digit : f < 4 → (rowOf e f g + m * 32768) / 32 % 4 ≡ f
+  second-digit h = rw from-second (omega arith)
+
+  pub third-digit : g < 4 → (rowOf e f g + m * 32768) / 1024 % 4 ≡ g
+  third-digit h = rw from-third (omega arith)
+
+  pub above-row : (rowOf e f g + m * 32768) / 32768 ≡ m
+  above-row = omega arith
+
   -- The digits of a row, whatever stands above it.
   row-fields : rowDigits (rowOf e f g + m * 32768) ≡ rowOf (e % 4) (f % 4) (g % 4)
   unfolding rowDigits

@@ -4,3 +4,4 @@ pub mod Rows
 pub mod Fields
 pub mod Times
 pub mod Moved
+pub mod RoundTrip

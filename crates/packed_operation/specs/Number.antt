@@ -68,6 +68,27 @@ numberOf o flag =
     lanesOf (t .x) (t .y) (t .z) * 32768 +
     flag * 9223372036854775808
 
+-- An operation cut down to what fits the fields: nothing changes where digits are below 4 and coordinates below 16.
+abbrev pub narrowed : Operation → Operation
+narrowed o =
+    let r = o .rotation in
+    let t = o .translation in
+    record {
+      rotation =
+          record {
+            xx = r .xx % 4;
+            xy = r .xy % 4;
+            xz = r .xz % 4;
+            yx = r .yx % 4;
+            yy = r .yy % 4;
+            yz = r .yz % 4;
+            zx = r .zx % 4;
+            zy = r .zy % 4;
+            zz = r .zz % 4;
+          };
+      translation = record { x = t .x % 16; y = t .y % 16; z = t .z % 16 };
+    }
+
 -- A product's answer as a number with a flag.
 unfoldable pub numbered : Product → ℕ → Numbered
 numbered (Inside o) flag = answer.Inside (numberOf o flag)

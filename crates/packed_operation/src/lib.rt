@@ -4,7 +4,7 @@ ghost use mathlib.Core.Path.{_≡_};
 ghost use Prim.Native.Nat.{_+_, _*_, _/_, _%_, _≤_};
 ghost use Rattle.operation.specs.Lanes.{lanesOf, rowsTimes};
 ghost use Rattle.operation.specs.Twelves.{bytesOf};
-ghost use Rattle.packed_operation.specs.Number.{digitLanes, twelfthLanes, rowDigits, keyOf, rotationSaid, saidBy, flagOf, numbered};
+ghost use Rattle.packed_operation.specs.Number.{digitLanes, twelfthLanes, rowDigits, rowOf, keyOf, rotationSaid, saidBy, flagOf, numberOf, narrowed, numbered};
 ghost use Rattle.operation.specs.Product.{productOf};
 ghost use Rattle.packed_operation.specs.Rows.{raisedRows, eightsOf};
 ghost use Rattle.packed_operation.specs.Times.{movedLanes};
@@ -61,6 +61,37 @@ pub fn flag(n: u64) -> u64
     ensures { λ r. ⌜ (r ≡ flagOf n) × (r ≤ 1) ⌝ }
 {
     n / FLAG % 2
+}
+
+fn wide(byte: u8) -> u64
+    ensures { λ r. ⌜ r ≡ byte ⌝ }
+{
+    byte as u64
+}
+
+fn packed_row(a: u8, b: u8, c: u8) -> u64
+    ensures { λ r. ⌜ (r ≡ rowOf (a % 4) (b % 4) (c % 4)) × (r ≤ 3171) ⌝ }
+{
+    wide(a % 4) + wide(b % 4) * 32 + wide(c % 4) * 1024
+}
+
+fn packed_twelfths(t: Translation) -> u64
+    ensures { λ r. ⌜ (r ≡ lanesOf (t .x % 16) (t .y % 16) (t .z % 16)) × (r ≤ 65970729123855) ⌝ }
+{
+    wide(t.x % 16) + wide(t.y % 16) * SECOND + wide(t.z % 16) * THIRD
+}
+
+// The number of an operation, each digit cut down to two bits and each coordinate to four, with the lowest bit of a number as its flag.
+pub fn number(o: Operation, flag: u64) -> u64
+    ensures { λ n. ⌜ n ≡ numberOf (narrowed o) (flag % 2) ⌝ }
+{
+    let r = o.rotation;
+    let t = o.translation;
+    packed_row(r.xx, r.xy, r.xz)
+        + packed_row(r.yx, r.yy, r.yz) * SECOND
+        + packed_row(r.zx, r.zy, r.zz) * THIRD
+        + packed_twelfths(t) * 32768
+        + flag % 2 * FLAG
 }
 
 // The operation that a number says, whatever its bits are.
