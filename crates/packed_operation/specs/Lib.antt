@@ -5,3 +5,4 @@ pub mod Fields
 pub mod Times
 pub mod Moved
 pub mod RoundTrip
+pub mod Answered
