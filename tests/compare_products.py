@@ -63,7 +63,7 @@ def number(operation, flag):
     return rows | flag << 63
 
 
-def said(n):
+def said_by(n):
     """The operation and the flag that a number says."""
     return [n >> 21 * i + 5 * j & 3 for i in range(3) for j in range(3)] + [n >> 21 * i + 15 & 15 for i in range(3)], n >> 63
 
@@ -108,7 +108,7 @@ def main():
     while batch := list(itertools.islice(made, BATCH)):
         told = subprocess.run(command + ["numbers"], input=b"".join(struct.pack("<QQ", *pair) for pair in batch), stdout=subprocess.PIPE, check=True).stdout
         for (f, g), (n,) in zip(batch, struct.iter_unpack("<Q", told), strict=True):
-            (left, one), (right, other) = said(f), said(g)
+            (left, one), (right, other) = said_by(f), said_by(g)
             operation = product(left, right)
             wanted = OUTSIDE if operation is None else number(operation, one ^ other)
             inside += operation is not None
