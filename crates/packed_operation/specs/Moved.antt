@@ -1,5 +1,5 @@
 -- The translation of a product: the three sums in lanes, and what is left of them modulo 12.
-use mathlib.Core.Path.{_≡_, refl, sym, _∙_, ap}
+use mathlib.Core.Path.{_≡_, sym, _∙_, ap}
 use Prim.Native.Nat.{ℕ, _+_, _*_, _-_, _/_, _%_, _<_, _≤_}
 use native.Mathlib.Omega.{arith}
 use native.Mathlib.Nat.{mul-le-mul}
@@ -8,7 +8,6 @@ use Rattle.operation.specs.Digits.{moved-residue}
 use Rattle.operation.specs.Lanes.{lanesOf, rowsTimes, moved-lanes}
 use Rattle.operation.specs.Meaning.{matrixOf, vectorOf}
 use Rattle.operation.specs.Twelves.{bytesOf, lanes-reduced}
-use Rattle.operation.specs.declared.Rotation.{Rotation}
 use Rattle.operation.specs.declared.Translation.{Translation}
 use Rattle.operation.specs.declared.Operation.{Operation}
 use Rattle.packed_operation.specs.Number.{translationSaid}

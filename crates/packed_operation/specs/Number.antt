@@ -1,6 +1,6 @@
 -- An operation as one number: the fields, what any number says, the number of an operation, and the answer of a product.
 use mathlib.Core.Path.{_≡_, refl}
-use Prim.Native.Nat.{ℕ, _+_, _*_, _/_, _%_, _<_, _≤_}
+use Prim.Native.Nat.{ℕ, _+_, _*_, _/_, _%_}
 use native.Mathlib.Omega.{arith}
 use Rattle.operation.specs.Lanes.{lanesOf}
 use Rattle.operation.specs.declared.Rotation.{Rotation}

@@ -1,7 +1,7 @@
 -- The nine sums of a product of rotations at once, and what the fields of the result say of its entries.
-use mathlib.Core.Path.{_≡_, refl, sym, _∙_, ap}
+use mathlib.Core.Path.{_≡_, refl, _∙_}
 use mathlib.Core.Bool.{true, _&&_}
-use Prim.Native.Nat.{ℕ, _+_, _*_, _-_, _/_, _%_, _<_, _≤_}
+use Prim.Native.Nat.{ℕ, _+_, _*_, _-_, _%_, _<_, _≤_}
 use native.Mathlib.Omega.{arith}
 use borrow.Author.Tests.{leb-true}
 use lib.Dec.{leb}
@@ -12,7 +12,7 @@ use Rattle.operation.specs.Columns.{lane}
 use Rattle.operation.specs.Meaning.{entryOf, digitOf}
 use Rattle.operation.specs.Lanes.{lanesOf, rowsTimes, raised, raised-sum}
 use Rattle.operation.specs.declared.Rotation.{Rotation}
-use Rattle.packed_operation.specs.Number.{rowOf, rowDigits, keyOf, digitLanes, rotationSaid}
+use Rattle.packed_operation.specs.Number.{rowOf, keyOf, rotationSaid}
 
 -- A field of the result: the digit of a row of entries times a column of entries, and 8.
 unfoldable pub field : ℕ → ℕ → ℕ → ℕ → ℕ → ℕ → ℕ

@@ -1,13 +1,12 @@
 -- The product of what two numbers say: when the two tests of the nine fields pass, and that the answer is then the number of the product.
 use mathlib.Core.Path.{_≡_, refl, sym, _∙_, ap}
-use mathlib.Core.Bool.{Bool, true, false, cond, false≢true, _&&_}
-use Prim.Native.Nat.{ℕ, _+_, _*_, _/_, _%_, _<_, _≤_}
+use mathlib.Core.Bool.{Bool, true, false, cond, false≢true}
+use Prim.Native.Nat.{ℕ, _+_, _*_, _≤_}
 use native.Mathlib.Omega.{arith}
-use lib.IntN.{ℤ, pos, _+ℤ_}
+use lib.IntN.{ℤ}
 use Rattle.laws.specs.Matrix.{Vector, dot, times, act, plus}
 use Rattle.laws.specs.Motion.{product}
 use Rattle.laws.specs.Residue.{residue}
-use Rattle.operation.specs.Digits.{moved-residue}
 use Rattle.operation.specs.Entries.{three-true}
 use Rattle.operation.specs.Lanes.{lanesOf}
 use Rattle.operation.specs.Meaning.{entryOf, digitOf, matrixOf, vectorOf, motionOf, rowInside, allInside}
@@ -15,10 +14,9 @@ use Rattle.operation.specs.Product.{productOf, operationOf}
 use Rattle.operation.specs.declared.Rotation.{Rotation}
 use Rattle.operation.specs.declared.Operation.{Operation}
 use Rattle.operation.specs.declared.product.Product.the-variants.{Inside, Outside}
-use Rattle.packed_operation.specs.Number.{rowOf, keyOf, rotationSaid, translationSaid, saidBy, numberOf, numbered}
+use Rattle.packed_operation.specs.Number.{rowOf, keyOf, numberOf, numbered}
 use Rattle.packed_operation.specs.Rows.{field, rowTimes, raisedRows, eightsOf, Field, the-field, Narrow}
 use Rattle.packed_operation.specs.Fields.{key-fields, eights-apart, eights-together, fields-small, fields-small-next, row-stands, row-digits}
-use Rattle.packed_operation.specs.declared.Numbered.{Numbered}
 use Rattle.packed_operation.specs.declared.Numbered.the-variants as answer
 
 -- ---- the nine entries
