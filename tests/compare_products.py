@@ -1,21 +1,25 @@
 #!/usr/bin/env python3
-"""Holds the port's product of operations, whatever their bytes, to integers.
+"""Holds the port's product of operations, whatever their bytes, and of operations as numbers, whatever their bits, to integers.
 
     python3 tests/compare_products.py PORT [--all] [--emulator COMMAND]
 
 PORT is the program made from tests/products.c. A digit d is the entry d - 1, whatever d is; a product is (RS, Ru + t modulo 12), or none where an entry of RS
-is outside -1..1. Without --all 20,000 products are made, with it a million. Prints how many were inside, and 'N passed, M failed'.
+is outside -1..1. A number has a row in each 21 bits: three digits of two bits, five bits apart, then four bits of twelfths; its highest bit is the flag. Without
+--all 20,000 products of each kind are made, with it a million. Prints how many were inside, and 'N passed, M failed'.
 """
 
 import argparse
+import functools
 import itertools
 import random
+import struct
 import subprocess
 import sys
 
 GATE, ALL = 20000, 1000000
 BATCH = 100000
 ZERO = [1] * 9
+OUTSIDE = 2 ** 62
 
 
 def product(f, g):
@@ -54,6 +58,26 @@ def pairs(chance):
         yield some(chance, 9, 16) + some(chance, 3, 256) + ZERO + some(chance, 3, 14)
 
 
+def number(operation, flag):
+    rows = sum((operation[3 * i] | operation[3 * i + 1] << 5 | operation[3 * i + 2] << 10 | operation[9 + i] << 15) << 21 * i for i in range(3))
+    return rows | flag << 63
+
+
+def said_by(n):
+    """The operation and the flag that a number says."""
+    return [n >> 21 * i + 5 * j & 3 for i in range(3) for j in range(3)] + [n >> 21 * i + 15 & 15 for i in range(3)], n >> 63
+
+
+def pairs_of_numbers(chance):
+    flag = functools.partial(chance.randrange, 2)
+    while True:
+        yield chance.randrange(2 ** 64), chance.randrange(2 ** 64)
+        yield chance.randrange(2 ** 64), number(ZERO + some(chance, 3, 16), flag())
+        yield number(some(chance, 9, 4) + some(chance, 3, 16), flag()), number(turn(chance) + some(chance, 3, 16), flag())
+        yield tuple(number(some(chance, 9, 3) + some(chance, 3, 12), flag()) for _ in range(2))
+        yield tuple(number(turn(chance) + some(chance, 3, 12), flag()) for _ in range(2))
+
+
 def answers(command, batch):
     said = subprocess.run(command, input=b"".join(map(bytes, batch)), stdout=subprocess.PIPE, check=True).stdout
     assert len(said) == 13 * len(batch)
@@ -80,6 +104,18 @@ def main():
                 failed += 1
                 if failed < 10:
                     print("%s: %s, and integers say %s" % (bytes(pair).hex(), said and said.hex(), right and right.hex()))
+    made = itertools.islice(pairs_of_numbers(random.Random(21)), ALL if given.all else GATE)
+    while batch := list(itertools.islice(made, BATCH)):
+        told = subprocess.run(command + ["numbers"], input=b"".join(struct.pack("<QQ", *pair) for pair in batch), stdout=subprocess.PIPE, check=True).stdout
+        for (f, g), (n,) in zip(batch, struct.iter_unpack("<Q", told), strict=True):
+            (left, one), (right, other) = said_by(f), said_by(g)
+            operation = product(left, right)
+            wanted = OUTSIDE if operation is None else number(operation, one ^ other)
+            inside += operation is not None
+            passed += n == wanted
+            failed += n != wanted
+            if n != wanted and failed < 10:
+                print("%016x %016x: %016x, and integers say %016x" % (f, g, n, wanted))
     print("%d inside" % inside)
     print("%d passed, %d failed" % (passed, failed))
     return failed != 0

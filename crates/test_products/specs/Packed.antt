@@ -3,6 +3,8 @@ use Prim.Native.Nat.{ℕ, _+_, _*_, _/_, _%_}
 use Rattle.operation.specs.declared.Operation.{Operation}
 use Rattle.operation.specs.declared.product.Product.{Product}
 use Rattle.operation.specs.declared.product.Product.the-variants.{Inside, Outside}
+use Rattle.packed_operation.specs.declared.Numbered.{Numbered}
+use Rattle.packed_operation.specs.declared.Numbered.the-variants as answer
 
 abbrev pub operationIn : ℕ → ℕ → Operation
 operationIn rows rest =
@@ -39,3 +41,8 @@ productRows Outside = 0
 abbrev pub productRest : Product → ℕ
 productRest (Inside o) = restOf o
 productRest Outside = 4294967296
+
+-- Bit 62 belongs to no field of a number.
+abbrev pub numberTold : Numbered → ℕ
+numberTold (answer.Inside n) = n
+numberTold answer.Outside = 4611686018427387904

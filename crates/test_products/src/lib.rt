@@ -1,12 +1,16 @@
-// Products of operations with any bytes, in numbers for C: a test library, so that tests/products.c can hold the product to integers, and count what it executes.
+// Products of operations with any bytes, and of operations as numbers, in numbers for C: a test library, so that tests/products.c can hold the product to integers, and count what it executes.
 ghost use mathlib.Core.Path.{_≡_};
+ghost use Prim.Native.Nat.{_+_, _%_};
 ghost use Rattle.operation.specs.Product.{productOf};
-ghost use Rattle.test_products.specs.Packed.{operationIn, rowsOf, restOf, productRows, productRest};
+ghost use Rattle.packed_operation.specs.Number.{saidBy, flagOf, numbered};
+ghost use Rattle.test_products.specs.Packed.{operationIn, rowsOf, restOf, productRows, productRest, numberTold};
 use operation::Operation;
 use operation::Rotation;
 use operation::Translation;
 use operation::product::Product;
 use operation::product::mul;
+use packed_operation::Numbered;
+use packed_operation::product;
 
 // Of the operations in f and p, and in g and q: the first eight entries of the product, a byte each, the first lowest; 0 where an entry has left −1..1.
 #[no_mangle]
@@ -27,6 +31,17 @@ pub extern "C" fn product_rest(f: u64, p: u64, g: u64, q: u64) -> u64
     match mul(operation_in(f, p), operation_in(g, q)) {
         Product::Inside(o) => rest(o),
         Product::Outside => 4294967296,
+    }
+}
+
+// The number of the product of two numbers; 4611686018427387904 where an entry has left −1..1.
+#[no_mangle]
+pub extern "C" fn number_product(f: u64, g: u64) -> u64
+    ensures { λ r. ⌜ r ≡ numberTold (numbered (productOf (saidBy f) (saidBy g)) ((flagOf f + flagOf g) % 2)) ⌝ }
+{
+    match product(f, g) {
+        Numbered::Inside(n) => n,
+        Numbered::Outside => 4611686018427387904,
     }
 }
 
