@@ -10,7 +10,7 @@ use Rattle.operation.specs.Meaning.{digitOf, digitAbove, motionOf, allInside}
 use Rattle.operation.specs.Product.{productOf, operationOf}
 use Rattle.operation.specs.declared.Operation.{Operation}
 use Rattle.operation.specs.declared.product.Product.the-variants.{Inside, Outside}
-use Rattle.packed_operation.specs.Number.{saidBy, flagOf, numberOf, numbered}
+use Rattle.packed_operation.specs.Number.{saidBy, flagOf, packedOf, numbered}
 use Rattle.packed_operation.specs.Rows.{Narrow}
 use Rattle.packed_operation.specs.Moved.{Short}
 use Rattle.packed_operation.specs.RoundTrip.{number-says, flag-said}
@@ -55,7 +55,7 @@ told : (b : Bool) (o : Operation) (flag n : ℕ) → Narrow (o .rotation) → Sh
     → (cond b (Inside o) Outside ≡ Inside (saidBy n)) × (flagOf n ≡ flag)
 unfolding numbered
 told true o flag n narrow short small p =
-    let e : numberOf o flag ≡ n = cc in
+    let e : packedOf o flag ≡ n = cc in
     (ap Inside (sym (number-says o flag narrow short) ∙ ap saidBy e), sym (ap flagOf e) ∙ flag-said o flag narrow short small)
 told false o flag n narrow short small p = let h : _≡_ {A = ℕ} 0 1 = cc in absurd (omega arith)
 

@@ -60,8 +60,8 @@ unfoldable pub flagOf : ℕ → ℕ
 flagOf n = n / 9223372036854775808 % 2
 
 -- The number of an operation with digits below 4 and coordinates below 16, and a flag of 0 or 1.
-abbrev pub numberOf : Operation → ℕ → ℕ
-numberOf o flag =
+abbrev pub packedOf : Operation → ℕ → ℕ
+packedOf o flag =
     let r = o .rotation in
     let t = o .translation in
     lanesOf (rowOf (r .xx) (r .xy) (r .xz)) (rowOf (r .yx) (r .yy) (r .yz)) (rowOf (r .zx) (r .zy) (r .zz)) +
@@ -91,7 +91,7 @@ narrowed o =
 
 -- A product's answer as a number with a flag.
 unfoldable pub numbered : Product → ℕ → Numbered
-numbered (Inside o) flag = answer.Inside (numberOf o flag)
+numbered (Inside o) flag = answer.Inside (packedOf o flag)
 numbered Outside flag = answer.Outside
 
 -- Digits can be found by the row first or by the place in the row first.

@@ -8,7 +8,7 @@ use Rattle.operation.specs.Meaning.{rotation≡}
 use Rattle.operation.specs.declared.Rotation.{Rotation}
 use Rattle.operation.specs.declared.Translation.{Translation}
 use Rattle.operation.specs.declared.Operation.{Operation}
-use Rattle.packed_operation.specs.Number.{rowOf, rowDigits, keyOf, rotationSaid, translationSaid, saidBy, flagOf, numberOf, said-second, said-third}
+use Rattle.packed_operation.specs.Number.{rowOf, rowDigits, keyOf, rotationSaid, translationSaid, saidBy, flagOf, packedOf, said-second, said-third}
 use Rattle.packed_operation.specs.Rows.{Narrow, said-narrow}
 use Rattle.packed_operation.specs.Fields.{first-digit, second-digit, third-digit, above-row}
 use Rattle.packed_operation.specs.Moved.{Short}
@@ -93,7 +93,7 @@ module _ (o : Operation) (flag : ℕ) (narrow : Narrow (o .rotation)) (short : S
   hz : rowOf (r .zx) (r .zy) (r .zz) ≤ 3171
   hz = omega (arith, narrow .zx, narrow .zy, narrow .zz)
 
-  rotation-said : rotationSaid (numberOf o flag) ≡ r
+  rotation-said : rotationSaid (packedOf o flag) ≡ r
   rotation-said =
       rows-said _ _ _ _ _ _ _ _ _ _ _ _ _
       (first _ _ _ _ _ _ _)
@@ -111,7 +111,7 @@ module _ (o : Operation) (flag : ℕ) (narrow : Narrow (o .rotation)) (short : S
       refl
       refl
 
-  pub flag-said : flag ≤ 1 → flagOf (numberOf o flag) ≡ flag
+  pub flag-said : flag ≤ 1 → flagOf (packedOf o flag) ≡ flag
   unfolding flagOf
   flag-said h = whole _ _ _ _ _ _ flag hx hy hz (short .x) (short .y) (short .z) h
     where
@@ -129,11 +129,11 @@ module _ (o : Operation) (flag : ℕ) (narrow : Narrow (o .rotation)) (short : S
   twelfths-above-third : (k p : ℕ) → p ≤ 15 → (p + k * 64) % 16 ≡ p
   twelfths-above-third k p h = omega arith
 
-  translation-said : translationSaid (numberOf o flag) ≡ t
+  translation-said : translationSaid (packedOf o flag) ≡ t
   translation-said =
       let x = ap (λ k. k / 32768 % 16) (first _ _ _ _ _ _ flag) ∙ ap (λ k. k % 16) (above-row (r .xx) (r .xy) (r .xz) _ (omega (arith, narrow .xx)) (omega (arith, narrow .xy)) (omega (arith, narrow .xz))) ∙ twelfths-above flag _ _ _ (short .x) in
-      let y = ap (λ k. k % 16) (swap (numberOf o flag)) ∙ ap (λ k. k / 32768 % 16) (second _ _ _ _ _ _ flag hx (short .x)) ∙ ap (λ k. k % 16) (above-row (r .yx) (r .yy) (r .yz) _ (omega (arith, narrow .yx)) (omega (arith, narrow .yy)) (omega (arith, narrow .yz))) ∙ twelfths-above-second flag _ _ (short .y) in
-      let z = ap (λ k. k % 16) (swap-more (numberOf o flag)) ∙ ap (λ k. k / 32768 % 16) (third _ _ _ _ _ _ flag hx (short .x) hy (short .y)) ∙ ap (λ k. k % 16) (above-row (r .zx) (r .zy) (r .zz) _ (omega (arith, narrow .zx)) (omega (arith, narrow .zy)) (omega (arith, narrow .zz))) ∙ twelfths-above-third flag _ (short .z) in
+      let y = ap (λ k. k % 16) (swap (packedOf o flag)) ∙ ap (λ k. k / 32768 % 16) (second _ _ _ _ _ _ flag hx (short .x)) ∙ ap (λ k. k % 16) (above-row (r .yx) (r .yy) (r .yz) _ (omega (arith, narrow .yx)) (omega (arith, narrow .yy)) (omega (arith, narrow .yz))) ∙ twelfths-above-second flag _ _ (short .y) in
+      let z = ap (λ k. k % 16) (swap-more (packedOf o flag)) ∙ ap (λ k. k / 32768 % 16) (third _ _ _ _ _ _ flag hx (short .x) hy (short .y)) ∙ ap (λ k. k % 16) (above-row (r .zx) (r .zy) (r .zz) _ (omega (arith, narrow .zx)) (omega (arith, narrow .zy)) (omega (arith, narrow .zz))) ∙ twelfths-above-third flag _ (short .z) in
       λ i. record { x = x i; y = y i; z = z i }
     where
       swap : (k : ℕ) → k / 32768 / 2097152 ≡ k / 2097152 / 32768
@@ -143,7 +143,7 @@ module _ (o : Operation) (flag : ℕ) (narrow : Narrow (o .rotation)) (short : S
       swap-more k = omega arith
 
   -- What was made a number is said by it.
-  pub number-says : saidBy (numberOf o flag) ≡ o
+  pub number-says : saidBy (packedOf o flag) ≡ o
   number-says = λ i. record { rotation = rotation-said i; translation = translation-said i }
 
 -- ---- keys

@@ -14,7 +14,7 @@ use Rattle.operation.specs.Product.{productOf, operationOf}
 use Rattle.operation.specs.declared.Rotation.{Rotation}
 use Rattle.operation.specs.declared.Operation.{Operation}
 use Rattle.operation.specs.declared.product.Product.the-variants.{Inside, Outside}
-use Rattle.packed_operation.specs.Number.{rowOf, keyOf, numberOf, numbered}
+use Rattle.packed_operation.specs.Number.{rowOf, keyOf, packedOf, numbered}
 use Rattle.packed_operation.specs.Rows.{field, rowTimes, raisedRows, eightsOf, Field, the-field, Narrow}
 use Rattle.packed_operation.specs.Fields.{key-fields, eights-apart, eights-together, fields-small, fields-small-next, row-stands, row-digits}
 use Rattle.packed_operation.specs.declared.Numbered.the-variants as answer
@@ -144,7 +144,7 @@ movedLanes f g =
     lanesOf (residue (v .x)) (residue (v .y)) (residue (v .z))
 
 -- What comes of a choice that is settled.
-settled : (b : Bool) (o : Operation) (flag : ℕ) → b ≡ true → numbered (cond b (Inside o) Outside) flag ≡ answer.Inside (numberOf o flag)
+settled : (b : Bool) (o : Operation) (flag : ℕ) → b ≡ true → numbered (cond b (Inside o) Outside) flag ≡ answer.Inside (packedOf o flag)
 unfolding numbered
 settled true o flag h = refl
 settled false o flag h = absurd (false≢true h)

@@ -4,7 +4,7 @@ ghost use mathlib.Core.Path.{_≡_};
 ghost use Prim.Native.Nat.{_+_, _*_, _/_, _%_, _≤_};
 ghost use Rattle.operation.specs.Lanes.{lanesOf, rowsTimes};
 ghost use Rattle.operation.specs.Twelves.{bytesOf};
-ghost use Rattle.packed_operation.specs.Number.{digitLanes, twelfthLanes, rowDigits, rowOf, keyOf, rotationSaid, saidBy, flagOf, numberOf, narrowed, numbered};
+ghost use Rattle.packed_operation.specs.Number.{digitLanes, twelfthLanes, rowDigits, rowOf, keyOf, rotationSaid, saidBy, flagOf, packedOf, narrowed, numbered};
 ghost use Rattle.operation.specs.Product.{productOf};
 ghost use Rattle.packed_operation.specs.Rows.{raisedRows, eightsOf};
 ghost use Rattle.packed_operation.specs.Times.{movedLanes};
@@ -83,7 +83,7 @@ fn packed_twelfths(t: Translation) -> u64
 
 // The number of an operation, each digit cut down to two bits and each coordinate to four, with the lowest bit of a number as its flag.
 pub fn number(o: Operation, flag: u64) -> u64
-    ensures { λ n. ⌜ n ≡ numberOf (narrowed o) (flag % 2) ⌝ }
+    ensures { λ n. ⌜ n ≡ packedOf (narrowed o) (flag % 2) ⌝ }
 {
     let r = o.rotation;
     let t = o.translation;
