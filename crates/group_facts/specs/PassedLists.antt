@@ -13,6 +13,7 @@ use Rattle.operation.specs.Code.{codeOf, code-injective}
 use Rattle.operation.specs.Entries.{digits-entries}
 use Rattle.operation.specs.Meaning.{Digits, matrixOf, motionOf}
 use Rattle.operation.specs.declared.Operation.{Operation}
+use Rattle.centering.specs.Letters.{byteOf}
 use Rattle.centering.specs.declared.Centering.{Centering}
 use Rattle.space_group_theorems.specs.SetOfMotions as generated
 use Rattle.symbol_group.specs.AcceptedTexts.{AcceptedText, accepted-text}
@@ -23,7 +24,8 @@ use Rattle.list_check.specs.Comparison.{Whole}
 use Rattle.list_check.specs.Entries.{WellFormed, entry-inside, entry-digits}
 use Rattle.list_check.specs.Exactly.{yes-exactly, spells-once, carried}
 use Rattle.list_check.specs.declared.Checked.the-variants.{Yes}
-use Rattle.group_record.specs.Record.{listedForm, written, recordOf}
+use Rattle.group_record.specs.Record.{listedForm, writtenIn, recordIn, recordOf}
+use Rattle.group_record.specs.FirstEdition.{firstEdition}
 use Rattle.group_record.specs.Groups.{Alike, sameCode, Listing}
 use Rattle.group_record.specs.ListedForm.{told-by-rotation, matrix-injective, alike-reflexive, alike-symmetric, alike-transitive, alike-smallest, form-member, member-form, CodeBefore, codeKey, listed-form}
 use Rattle.group_record.specs.SymbolRecords.{textRecord}
@@ -79,9 +81,9 @@ module _ (c : Centering) where
       → ((f : Operation) → Mem f l → (g : Operation) × Mem g k × Alike c (motionOf f) (motionOf g))
       → ((g : Operation) → Mem g k → (f : Operation) × Mem f l × Alike c (motionOf g) (motionOf f))
       → recordOf c l ≡ recordOf c k
-  unfolding recordOf
+  unfolding recordOf recordIn
   one-form L K into back =
-      ap (written c) (unique CodeBefore (key-strict codeKey) (listed-form c L .ascend) (listed-form c K .ascend) (form-within L K into) (form-within K L back))
+      ap (writtenIn firstEdition (byteOf c)) (unique CodeBefore (key-strict codeKey) (listed-form c L .ascend) (listed-form c K .ascend) (form-within L K into) (form-within K L back))
 
 -- ---- a list that passed
 module _ (text list : List ℕ) (A : AcceptedText text) (well : WellFormed list) (W : Whole (A .letter) (A .generators) (entryCount list) (entryAt list)) where

@@ -1,13 +1,13 @@
 -- The nine sums of a product of rotations at once, and what the fields of the result say of its entries.
 use mathlib.Core.Path.{_≡_, refl, _∙_}
-use mathlib.Core.Bool.{true, _&&_}
+use mathlib.Core.Bool.{true, _&&_, and-eq-true-iff}
 use Prim.Native.Nat.{ℕ, _+_, _*_, _-_, _%_, _<_, _≤_}
 use native.Mathlib.Omega.{arith}
 use borrow.Author.Tests.{leb-true}
 use lib.Dec.{leb}
 use lib.IntN.{ℤ}
 use Rattle.laws.specs.Matrix.{dot}
-use Rattle.operation.specs.Below.{allBelow, both, below}
+use Rattle.operation.specs.Below.{allBelow, below}
 use Rattle.operation.specs.Columns.{lane}
 use Rattle.operation.specs.Meaning.{entryOf, digitOf}
 use Rattle.operation.specs.Lanes.{lanesOf, rowsTimes, raised, raised-sum}
@@ -45,7 +45,7 @@ pair-test = refl
 pair-range : (a x : ℕ) → a ≤ 3 → x ≤ 3 → (a + x ≤ a * x + 3) × (a * x ≤ a + x + 3)
 pair-range a x h k =
     let row = below 4 (λ a. allBelow 4 (λ x. leb (a + x) (a * x + 3) && leb (a * x) (a + x + 3))) pair-test a (omega arith) in
-    let t = both (leb (a + x) (a * x + 3)) (leb (a * x) (a + x + 3)) (below 4 (λ x. leb (a + x) (a * x + 3) && leb (a * x) (a + x + 3)) row x (omega arith)) in
+    let t = and-eq-true-iff (leb (a + x) (a * x + 3)) (leb (a * x) (a + x + 3)) .0 (below 4 (λ x. leb (a + x) (a * x + 3) && leb (a * x) (a + x + 3)) row x (omega arith)) in
     (leb-true _ _ (t .0), leb-true _ _ (t .1))
 
 -- A field and the entry that it stands for.
