@@ -51,7 +51,7 @@ module _ (c : Centering) (gens operations : List Operation) (steps : List ℕ) (
       let (h, u, near) = product-member c gens operations steps A o r n t in
       (motionOf h, mem-map motionOf u, rw (p, q) at near)
 
-  -- So 01 allows them in a record.
+  -- So R5.5 allows them in a record.
   pub accepted-allowed : Allowed c (map motionOf operations)
   accepted-allowed =
       let (rest, first) = identity-first c gens operations steps A in

@@ -3,14 +3,13 @@
 use mathlib.Core.Path.{_≡_, refl, sym, _∙_, ap, ap₂, subst}
 use mathlib.Core.Bool.{Bool, true, false, true≢false}
 use mathlib.Core.List.{List, map, List·Memᴰ as Mem, Memᴰ·map as mem-map, Memᴰ·of-map as mem-of-map, Memᴰ·cast as mem-cast}
-use Prim.Native.Nat.{ℕ, _+_, _-_, _<_, _≤_}
-use native.Mathlib.Numerals.{add-one}
+use Prim.Native.Nat.{ℕ, _+_, _<_, _≤_}
 use native.Mathlib.Omega.{arith}
 use native.Mathlib.Decide.{ℕ-discrete}
-use lib.Dec.{eqb, eqb→eq, ltb}
+use lib.Dec.{eqb, eqb→eq}
 use borrow.Author.Tests.{lt-ltb}
-use lib.ListN.{length, getD, take, drop, set, replicate, length-map, length-set, length-append, getD-replicate}
-use lib.Seq.{take-at, drop-cons, drop-length, length-take-le, getD-set-same, getD-set-other}
+use lib.ListN.{length, getD, take, set, replicate, length-map, length-set, getD-replicate}
+use lib.Seq.{length-take-le, getD-set-same, getD-set-other}
 use Rattle.laws.specs.Motion.{SpaceMotion, compose, identity, compose-identity}
 use Rattle.laws.specs.Distinct.{has, Mem→has, eqb-equivalence}
 use Rattle.laws.specs.Growth.{place}
@@ -30,12 +29,12 @@ use Rattle.centering.specs.Letters.{pointsOf}
 use Rattle.centering.specs.declared.Centering.{Centering}
 use Rattle.space_group.specs.Traversal.{turnOf}
 use Rattle.space_group_theorems.specs.Acceptance.{member-at, member-index}
-use Rattle.group_record.specs.Record.{Item, itemOf}
-use Rattle.group_record.specs.Reading.{operationOfItem, slots, areItems, isAllowed}
+use Rattle.group_record.specs.Record.{itemOf}
+use Rattle.group_record.specs.Reading.{isAllowed}
 use Rattle.group_record.specs.Groups.{Alike, Allowed, Listing, Form}
-use Rattle.group_record.specs.ListedForm.{code-matrix, matrix-injective, told-by-rotation, alike-reflexive, alike-symmetric, alike-transitive}
+use Rattle.group_record.specs.ListedForm.{code-matrix, matrix-injective, told-by-rotation, alike-reflexive, alike-symmetric}
 use Rattle.group_record.specs.GroupLaws.{compose-alike}
-use Rattle.group_record.specs.ReadingTests.{identity-entries, congruent-residues, allowed-test, all-true, items-test, good-form, items-of-operations}
+use Rattle.group_record.specs.ReadingTests.{identity-entries, congruent-residues, allowed-test, all-true}
 use Rattle.group_record.specs.Converse.{identity-there}
 use Rattle.group_record.specs.Criterion.{Right, KeepsInto, right-times}
 use Rattle.group_record.specs.Codes.{codesOf, slot-at, image-at, codes-front, codes-count}
@@ -104,23 +103,6 @@ pub record Coded (c : Centering) (n : ℕ) (operations : List Operation) (codes 
   pub there : n ≤ length operations
   pub listing : Listing (take n operations)
   pub coded : codes ≡ codesOf n operations
-
--- ---- a test of every operation
-module _ {A : Type 0} (test : A → Bool) (l : List A) where
-  -- It goes on,
-  pub test-next : (i : ℕ) (d : A) → i < length l → test (getD l i d) ≡ true → all test (drop i l) ≡ all test (drop (i + 1) l)
-  unfolding all
-  test-next i d h e = rw (drop-cons l i d h, e) (ap (λ (k : ℕ). all test (drop k l)) (sym (add-one i)))
-
-  -- fails,
-  pub test-stop : (i : ℕ) (d : A) → i < length l → test (getD l i d) ≡ false → all test (drop i l) ≡ false
-  unfolding all
-  test-stop i d h e = rw (drop-cons l i d h, e)
-
-  -- or is done.
-  pub test-end : (i : ℕ) → length l ≤ i → i ≤ length l → all test (drop i l) ≡ true
-  unfolding all
-  test-end i h k = let end : i ≡ length l = omega arith in rw (end, drop-length l)
 
 -- ---- the search for a motion
 module _ (c : Centering) (n : ℕ) (operations : List Operation) (codes : List ℕ) (C : Coded c n operations codes) (sought : SpaceMotion) where
@@ -426,17 +408,3 @@ module _ (c : Centering) (l : List Operation) (F : Form c l) (some : 1 ≤ lengt
       → r ≡ isAllowed c (map itemOf l)
   decided keep e found h true right lacks = closed keep e found h (right refl)
   decided keep e found h false right lacks = let (g, m, none) = lacks refl in refuted (lacking c l g m none)
-
--- ---- the operations of items
--- Operations laid out in slots stand in front,
-pub laid-front : (l : List Operation) (n : ℕ) → length l ≡ n → take n (slots l) ≡ l
-unfolding slots
-laid-front l n e = take-at l _ n e
-
-pub laid-long : (l : List Operation) (n : ℕ) → length l ≡ n → n ≤ length (slots l)
-unfolding slots
-laid-long l n e = omega (arith, e, length-append l (replicate (48 - length l) identityOperation))
-
--- and items that 34 lets pass are those of operations in the listed form.
-pub items-form : (c : Centering) (items : List Item) → areItems c items ≡ true → Form c (map operationOfItem items) × (map itemOf (map operationOfItem items) ≡ items)
-items-form c items e = let good = items-test c items .0 e in (good-form c items good, items-of-operations items (good .code))

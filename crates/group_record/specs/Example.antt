@@ -1,4 +1,4 @@
--- The example of 01, "Group record": the record of `-P 1`, byte by byte, from its operations and from its text.
+-- The example of R5.6: the record of `-P 1`, byte by byte, from its operations and from its text.
 -- It holds the definitions of code, order and trailer against the paper.
 use mathlib.Core.Path.{_≡_, refl}
 use mathlib.Core.List.{[], _∷_}

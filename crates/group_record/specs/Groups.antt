@@ -1,4 +1,4 @@
--- What a record stands for: motions of space, by 01, "Group record". A list of operations, with L added, as a set of motions; and which lists are allowed.
+-- What a record stands for: motions of space, by R5.5. A list of operations, with L added, as a set of motions; and which lists are allowed.
 use mathlib.Core.Path.{_≡_}
 use mathlib.Core.Bool.{Bool}
 use mathlib.Core.List.{List, List·Memᴰ as Mem}
@@ -27,7 +27,7 @@ Alike c f g = (f .rotation ≡ g .rotation) × Congruent (pointsOf c) (f .transl
 abbrev pub InSet : Centering → List SpaceMotion → SpaceMotion → Type 0
 InSet c l m = (f : SpaceMotion) × Mem f l × Alike c m f
 
--- Which finite lists of motions 01 allows.
+-- Which finite lists of motions R5.5 allows.
 pub record Allowed (c : Centering) (l : List SpaceMotion) : Type 0 where
   pub count : (1 ≤ length l) × (length l ≤ 48)
   pub determinant : (f : SpaceMotion) → Mem f l → Unimodular (f .rotation)

@@ -1,4 +1,4 @@
--- The group record of 01: its bytes, how they are read, and what group they stand for.
+-- The group record: its bytes, how they are read, and what group they stand for.
 -- The definitions: what a record is, how it is read, which groups it may hold.
 pub mod Items
 pub mod Tests

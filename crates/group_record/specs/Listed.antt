@@ -53,7 +53,8 @@ module _ (i : Item) where
   unfolding operationOfItem
   said-is f e = by (ltb (i .code) 19683) refl e
     where
-      by : (b : Bool) → ltb (i .code) 19683 ≡ b → saidBy (cond b (Inside (rotationOf (i .code))) Outside) (i .translation) ≡ Is f → (codeFits i ≡ true) × (f ≡ operationOfItem i)
+      by : (b : Bool) → ltb (i .code) 19683 ≡ b → saidBy (cond b (Inside (rotationOf (i .code))) Outside) (i .translation) ≡ Is f
+          → (codeFits i ≡ true) × (f ≡ operationOfItem i)
       by true t q = let same : record { rotation = rotationOf (i .code); translation = i .translation } ≡ f = cc in (t, rw t (sym same))
       by false t q = let z : _≡_ {A = ℕ} 0 1 = cc in absurd (omega arith)
 
@@ -121,7 +122,8 @@ module _ (c : Centering) (n : ℕ) (bytes : List ℕ) where
   pub code-wrong : all codeFits items ≡ false → readItems c items ≡ refusedGroup WrongItem
   unfolding itemsTold areGood areItems
   code-wrong e =
-      let wrong : areItems c items ≡ false = fails _ (items-test c items) (λ g. true≢false (sym (all-true codeFits items .1 (λ i m. lt-ltb (i .code) 19683 (g .code i m))) ∙ e)) in
+      let wrong : areItems c items ≡ false =
+      fails _ (items-test c items) (λ g. true≢false (sym (all-true codeFits items .1 (λ i m. lt-ltb (i .code) 19683 (g .code i m))) ∙ e)) in
       rw wrong
 
   module _ (operations : List Operation) (fit : all codeFits items ≡ true) (filled : operations ≡ slots (map operationOfItem items)) where
@@ -141,7 +143,8 @@ module _ (c : Centering) (n : ℕ) (bytes : List ℕ) where
 
     pub slots-there : n ≤ length operations
     unfolding slots
-    slots-there = rw filled (omega (arith, count, length-append (map operationOfItem items) (replicate (48 - length (map operationOfItem items)) identityOperation)))
+    slots-there =
+        rw filled (omega (arith, count, length-append (map operationOfItem items) (replicate (48 - length (map operationOfItem items)) identityOperation)))
 
     entries : (f : Operation) → Mem f (map operationOfItem items) → Entries (matrixOf (f .rotation))
     entries f m = let (i, k, e) = mem-of-map operationOfItem items m in rw (← e) (item-entries i (codes i k))
@@ -160,7 +163,8 @@ module _ (c : Centering) (n : ℕ) (bytes : List ℕ) where
     unfolding itemsTold areGood areItems
     items-wrong e = let wrong : areItems c items ≡ false = sym listed-same ∙ e in rw wrong
 
-    pub items-barred : areListed c (take n operations) ≡ true → isAllowed c (map itemOf (take n operations)) ≡ false → readItems c items ≡ refusedGroup NotAllowed
+    pub items-barred : areListed c (take n operations) ≡ true → isAllowed c (map itemOf (take n operations)) ≡ false
+        → readItems c items ≡ refusedGroup NotAllowed
     unfolding itemsTold areGood areItems
     items-barred e h =
         let right : areItems c items ≡ true = sym listed-same ∙ e in

@@ -69,13 +69,15 @@ module _ (n : ℕ) (bytes : List ℕ) where
   pub filled-next : (i : ℕ) → i < n → n ≤ 48 → set (filledTo i) i (operationOfItem (itemAt bytes i)) ≡ filledTo (i + 1)
   unfolding filledTo itemAt
   filled-next i h few =
-      let long : length (map operationOfItem (take i (itemsOf n bytes))) ≡ i = length-map (take i (itemsOf n bytes)) operationOfItem ∙ length-take-le i (itemsOf n bytes) (omega (arith, items-count)) in
+      let long : length (map operationOfItem (take i (itemsOf n bytes))) ≡ i =
+      length-map (take i (itemsOf n bytes)) operationOfItem ∙ length-take-le i (itemsOf n bytes) (omega (arith, items-count)) in
       let room : 48 - i ≡ suc (48 - (i + 1)) = omega arith in
       let more : take (i + 1) (itemsOf n bytes) ≡ take i (itemsOf n bytes) ++ (itemAt bytes i ∷ []) =
       ap (λ (k : ℕ). take k (itemsOf n bytes)) (add-one i) ∙ take-suc (itemsOf n bytes) i emptyItem (omega (arith, items-count))
       ∙ ap (λ (a : Item). take i (itemsOf n bytes) ++ (a ∷ [])) (item-at itemWidth itemIn n bytes i emptyItem h) in
       ap (λ (k : ℕ). set (map operationOfItem (take i (itemsOf n bytes)) ++ replicate k identityOperation) i (operationOfItem (itemAt bytes i))) room
-      ∙ set-at (map operationOfItem (take i (itemsOf n bytes))) identityOperation (replicate (48 - (i + 1)) identityOperation) (operationOfItem (itemAt bytes i)) i long
+      ∙ set-at (map operationOfItem (take i (itemsOf n bytes))) identityOperation (replicate (48 - (i + 1)) identityOperation)
+      (operationOfItem (itemAt bytes i)) i long
       ∙ sym (ap (λ (l : List Item). map operationOfItem l ++ replicate (48 - (i + 1)) identityOperation) more ∙ ap (λ (l : List Operation). l ++ replicate (48 - (i + 1)) identityOperation) (map-append operationOfItem (take i (itemsOf n bytes)) (itemAt bytes i ∷ [])) ∙ append-assoc (map operationOfItem (take i (itemsOf n bytes))) (operationOfItem (itemAt bytes i) ∷ []) (replicate (48 - (i + 1)) identityOperation))
 
   pub filled-start : filledTo 0 ≡ replicate 48 identityOperation
@@ -87,7 +89,8 @@ module _ (n : ℕ) (bytes : List ℕ) where
   unfolding filledTo slots
   filled-end i h k =
       let end : i ≡ n = omega arith in
-      let all-taken : take i (itemsOf n bytes) ≡ itemsOf n bytes = ap (λ (j : ℕ). take j (itemsOf n bytes)) (end ∙ sym items-count) ∙ take-length (itemsOf n bytes) in
+      let all-taken : take i (itemsOf n bytes) ≡ itemsOf n bytes =
+      ap (λ (j : ℕ). take j (itemsOf n bytes)) (end ∙ sym items-count) ∙ take-length (itemsOf n bytes) in
       let count : i ≡ length (map operationOfItem (itemsOf n bytes)) = end ∙ sym items-count ∙ sym (length-map (itemsOf n bytes) operationOfItem) in
       ap₂ (λ (l : List Item) (j : ℕ). map operationOfItem l ++ replicate (48 - j) identityOperation) all-taken count
 
@@ -101,7 +104,9 @@ item-code-bytes bytes i =
     let first : itemWidth * i + 0 ≡ itemWidth * i = omega arith in
     ap₂ (λ (a b : ℕ). a * 256 + b) (ap (λ (k : ℕ). getD bytes k 0) (sym first) ∙ sym (byte-at bytes i 0)) (sym (byte-at bytes i 1))
 
-pub item-translation-bytes : (bytes : List ℕ) (i : ℕ) → record { x = getD bytes (itemWidth * i + 2) 0; y = getD bytes (itemWidth * i + 3) 0; z = getD bytes (itemWidth * i + 4) 0 } ≡ itemAt bytes i .translation
+pub item-translation-bytes : (bytes : List ℕ) (i : ℕ)
+    → record { x = getD bytes (itemWidth * i + 2) 0; y = getD bytes (itemWidth * i + 3) 0; z = getD bytes (itemWidth * i + 4) 0 }
+    ≡ itemAt bytes i .translation
 unfolding itemAt itemIn
 item-translation-bytes bytes i = rw (byte-at bytes i 2, byte-at bytes i 3, byte-at bytes i 4)
 

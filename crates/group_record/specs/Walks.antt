@@ -1,4 +1,5 @@
--- How code goes through a list, one member after the other: what a test of every member, or of neighbours, has settled after each step, and what is left at the end.
+-- How code goes through a list, one member after the other: what a test of every member, or of neighbours, has settled after each step,
+-- and what is left at the end.
 use mathlib.Core.Path.{_≡_, _∙_, ap, sym}
 use mathlib.Core.Bool.{Bool, true, false}
 use mathlib.Core.List.{List, [], _∷_}

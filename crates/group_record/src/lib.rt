@@ -24,7 +24,7 @@ pub enum Refusal {
 }
 
 impl Refusal {
-    // The number of 01; the place is 0.
+    // The number (R8); the place is 0.
     pub fn number(self) -> u8
         ensures { λ r. ⌜ r ≡ refusalNumber self ⌝ }
     {

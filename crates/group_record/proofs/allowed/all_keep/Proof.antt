@@ -9,7 +9,8 @@ use lib.Seq.{length-take-le}
 use Rattle.laws.specs.Lattice.{all}
 use Rattle.operation.specs.Product.{identityOperation}
 use Rattle.group_record.specs.Codes.{slot-at}
-use Rattle.group_record.specs.Closing.{keepsOperation, test-next, test-stop, test-end}
+use Rattle.group_record.specs.Walks.{every-next, every-stop, every-end}
+use Rattle.group_record.specs.Closing.{keepsOperation}
 use Rattle.group_record.proofs.allowed.all_keep.Statement.{statement}
 use Rattle.group_record.proofs.allowed.all_keep.Tie as tie
 use Rattle.group_record.proofs.allowed.all_keep.Reads as reads
@@ -42,7 +43,7 @@ returns c =
     let listed = take (a .n) (a .t2) in
     let slot = slot-at (a .n) (a .t2) (l .i) _ identityOperation (omega arith) (s .pre .1) in
     let kept = ap (keepsOperation (a .c)) (sym slot) ∙ sym (c .before .keeps .ensures) in
-    sym (l .inv .1 ∙ test-stop (keepsOperation (a .c)) listed (l .i) identityOperation (omega (arith, length-take-le (a .n) (a .t2) (s .pre .1))) (kept ∙ not-true (c .before .keeps .result) (c .if1 .taken)))
+    sym (l .inv .1 ∙ every-stop listed identityOperation (keepsOperation (a .c)) (l .i) (omega (arith, length-take-le (a .n) (a .t2) (s .pre .1))) (kept ∙ not-true (c .before .keeps .result) (c .if1 .taken)))
 
 add-i : tie.Need-add-i Inv-loop μ-loop
 add-i c = omega arith
@@ -59,7 +60,7 @@ loop-again c =
     let slot = slot-at (a .n) (a .t2) (l .i) _ identityOperation (omega arith) (s .pre .1) in
     let kept = ap (keepsOperation (a .c)) (sym slot) ∙ sym (c .before .keeps .ensures) in (
       omega arith,
-      l .inv .1 ∙ test-next (keepsOperation (a .c)) listed (l .i) identityOperation (omega (arith, length-take-le (a .n) (a .t2) (s .pre .1))) (kept ∙ not-false (c .before .keeps .result) (c .if1 .left)),
+      l .inv .1 ∙ every-next listed identityOperation (keepsOperation (a .c)) (l .i) (omega (arith, length-take-le (a .n) (a .t2) (s .pre .1))) (kept ∙ not-false (c .before .keeps .result) (c .if1 .left)),
     )
 
 returns-2 : tie.Need-returns-2 Inv-loop μ-loop
@@ -68,7 +69,7 @@ returns-2 c =
     let a = s .args in
     let l = c .before .loop in
     let count = length-take-le (a .n) (a .t2) (s .pre .1) in
-    sym (l .inv .1 ∙ test-end (keepsOperation (a .c)) (take (a .n) (a .t2)) (l .i) (omega (arith, count)) (omega (arith, count)))
+    sym (l .inv .1 ∙ every-end (take (a .n) (a .t2)) identityOperation (keepsOperation (a .c)) (l .i) (omega (arith, count)) (omega (arith, count)))
 
 pub all-keep-spec : {M : Type 1} → statement M
 all-keep-spec =
