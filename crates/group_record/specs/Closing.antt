@@ -6,9 +6,9 @@ use mathlib.Core.List.{List, map, List·Memᴰ as Mem, Memᴰ·map as mem-map, M
 use Prim.Native.Nat.{ℕ, _+_, _<_, _≤_}
 use native.Mathlib.Omega.{arith}
 use native.Mathlib.Decide.{ℕ-discrete}
-use lib.Dec.{eqb, eqb→eq}
+use lib.Dec.{eqb, eqb→eq, ltb}
 use borrow.Author.Tests.{lt-ltb}
-use lib.ListN.{length, getD, take, set, replicate, length-map, length-set, getD-replicate}
+use lib.ListN.{length, getD, take, drop, set, replicate, length-map, length-set, getD-replicate}
 use lib.Seq.{length-take-le, getD-set-same, getD-set-other}
 use Rattle.laws.specs.Motion.{SpaceMotion, compose, identity, compose-identity}
 use Rattle.laws.specs.Distinct.{has, Mem→has, eqb-equivalence}
@@ -32,7 +32,7 @@ use Rattle.space_group_theorems.specs.Acceptance.{member-at, member-index}
 use Rattle.group_record.specs.Record.{itemOf}
 use Rattle.group_record.specs.Reading.{isAllowed}
 use Rattle.group_record.specs.Groups.{Alike, Allowed, Listing, Form}
-use Rattle.group_record.specs.ListedForm.{code-matrix, matrix-injective, told-by-rotation, alike-reflexive, alike-symmetric}
+use Rattle.group_record.specs.ListedForm.{code-matrix, matrix-injective, told-by-rotation, alike-reflexive, alike-symmetric, alike-transitive}
 use Rattle.group_record.specs.GroupLaws.{compose-alike}
 use Rattle.group_record.specs.ReadingTests.{identity-entries, congruent-residues, allowed-test, all-true}
 use Rattle.group_record.specs.Converse.{identity-there}

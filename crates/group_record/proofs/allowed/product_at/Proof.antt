@@ -1,5 +1,5 @@
 -- The product's code is sought, and the translation of the operation that has it compared; each end is one law of what is found.
-use mathlib.Core.Path.{sym, _∙_, ap}
+use mathlib.Core.Path.{_≡_, sym, _∙_, ap}
 use Prim.Native.Nat.{ℕ}
 use native.Mathlib.Omega.{arith}
 use lib.Dec.{eqb}

@@ -1,7 +1,7 @@
 -- The invariant: what was reached is right factor to listed products only, whichever operations are listed; a column leads from such a one to such a one.
 use mathlib.Core.Bool.{false}
 use mathlib.Core.List.{List, []}
-use Prim.Native.Nat.{_-_, _+_, _*_, _≤_, _<_}
+use Prim.Native.Nat.{ℕ, _-_, _+_, _*_, _≤_, _<_}
 use native.Mathlib.Omega.{arith}
 use lib.ListN.{length, getD}
 use Rattle.operation.specs.declared.Operation.{Operation}
