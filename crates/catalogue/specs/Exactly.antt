@@ -3,7 +3,7 @@ use mathlib.Core.Path.{_≡_, refl, sym, _∙_, ap, subst}
 use mathlib.Core.Logic.{_↔_, _⊎_, inl, inr}
 use mathlib.Core.Bool.{Bool, true, false, cond}
 use mathlib.Core.List.{List, [], _∷_, _++_}
-use Prim.Native.Nat.{ℕ, zero, suc, _+_, _<_, _≤_}
+use Prim.Native.Nat.{ℕ, zero, suc, _+_, _*_, _<_, _≤_}
 use native.Mathlib.Omega.{arith}
 use lib.Dec.{leb, ltb}
 use lib.ListN.{length, drop, length-append, length-drop}
@@ -14,7 +14,7 @@ use Rattle.symbol_group.specs.declared.Answer as symbol-answer
 use Rattle.symbol_group.specs.declared.Answer.the-variants.{Group, Refused}
 use Rattle.symbol_group.specs.declared.refusal.Refusal.the-variants.{Text}
 use Rattle.group_record.specs.AcceptedSymbols.{symbol-writable}
-use Rattle.group_record.specs.Copying.{room-there}
+use Rattle.group_record.specs.Places.{room-there}
 use Rattle.group_record.specs.SymbolRecords.{symbolRecordOf}
 use Rattle.group_record.specs.declared.SymbolRecord.{SymbolRecord}
 use Rattle.group_record.specs.declared.SymbolRecord.the-variants.{NoRoom, Refused as NotWritten}
@@ -161,7 +161,7 @@ room-suffices line room enough e = by-answer (symbolAnswer line .answer) refl
     by-answer : (a : symbol-answer.Answer) → symbolAnswer line .answer ≡ a → ⊥
     by-answer Group g =
         let (few, there, listing) = symbol-writable line (symbolAnswer line) refl g in
-        let fits = room-there 0 (symbolAnswer line .count) (length room) (omega arith) (omega arith) in
+        let fits = room-there 0 (5 * symbolAnswer line .count + 5) (length room) (omega arith) (omega arith) in
         let said = rw (g, fits) at e in
         let z : _≡_ {A = ℕ} 0 1 = cc in absurd (omega arith)
     by-answer (Refused r) g =
