@@ -5,9 +5,9 @@ use mathlib.Core.Bool.{Bool, true, false, cond}
 use mathlib.Core.List.{List, [], _∷_, _++_}
 use Prim.Native.Nat.{ℕ, zero, suc, _+_, _*_, _<_, _≤_}
 use native.Mathlib.Omega.{arith}
-use lib.Dec.{leb, ltb}
+use lib.Dec.{ltb}
 use lib.ListN.{length, drop, length-append, length-drop}
-use borrow.Author.Tests.{leb-true, leb-false, ltb-true, ltb-false}
+use borrow.Author.Tests.{ltb-true, ltb-false}
 use Rattle.hall_symbol.specs.declared.refusal.Refusal.the-variants.{TooLong}
 use Rattle.symbol_group.specs.Answers.{symbolAnswer}
 use Rattle.symbol_group.specs.declared.Answer as symbol-answer
@@ -22,11 +22,11 @@ use Rattle.lines.specs.Lines.{linesOf, inARow, Unended, next, lines-spelled, sp
 use Rattle.lines.specs.Feeding.{takenOf, handedOver, taken-some}
 use Rattle.catalogue.specs.Answers.{mostAtOnce, endedStatus, lineSoFar, fresh, toldBy, refusing, partOf, pieceStep, pieceRoom, endStep, endRoom}
 use Rattle.catalogue.specs.Steps.{long-piece, piece-after, piece-open, end-after, end-open}
-use Rattle.catalogue.specs.Calls.{takenBy, heard, stillToCome, AllFit, Calls, ending, handing, answersFrom, long-answer, Open, next-open, taken-told, still-fit, piece-takes, piece-next, cut-anywhere}
+use Rattle.catalogue.specs.Calls.{takenBy, heard, stillToCome, AllFit, Calls, ending, handing, answersFrom, long-answer, Open, next-open, taken-told, still-fit, piece-next, cut-anywhere}
 use Rattle.catalogue.specs.declared.Catalogue.{Catalogue}
 use Rattle.catalogue.specs.declared.Step.{Step}
 use Rattle.catalogue.specs.declared.Answer.{Answer}
-use Rattle.catalogue.specs.declared.Answer.the-variants.{NoLine, Told, LongPiece, AfterEnd}
+use Rattle.catalogue.specs.declared.Answer.the-variants.{LongPiece, AfterEnd}
 
 -- ---- refusals
 -- What was taken is no refusal.
