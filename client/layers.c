@@ -282,17 +282,6 @@ static void print_picture(const char *name)
 
 /* ---- what is asked ---- */
 
-static const char use[] =
-    "usage: ./layers [--svg] SYMBOL\n"
-    "       ./layers [--svg] --record HEX\n"
-    "\n"
-    "The subgroups of the group of a Hall symbol, or of a group record given as hexadecimal digits: for each the number of its layer, its order, the number\n"
-    "of its class, how many conjugates it has, its normalizer's order and generators as lines; then the counts that must fit. With --svg a picture: a row an\n"
-    "order, a node a subgroup with its layer's number, conjugate subgroups side by side in one frame and one colour, a line for each maximal inclusion.\n"
-    "Every number is the answer of a proved entry. What is refused is said in words, with a caret under the byte at fault.\n"
-    "\n"
-    "The status is 0 if there was an answer, 1 if it was refused or could not be written, 2 for a wrong use.\n";
-
 static int misused(const char *why)
 {
     fprintf(stderr, "layers: %s (./layers --help says how it is used)\n", why);
@@ -327,8 +316,6 @@ int main(int argc, char **argv)
     int picture = 0, at = 1;
     uint64_t answer;
 
-    if (argc == 2 && (strcmp(argv[1], "--help") == 0 || strcmp(argv[1], "-h") == 0))
-        return fputs(use, stdout) < 0;
     if (at < argc && strcmp(argv[at], "--svg") == 0) {
         picture = 1;
         at++;
