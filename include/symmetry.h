@@ -2,8 +2,8 @@
  * Groups of crystal symmetry, from C or C++: what a Hall symbol, a group record or a table of products says, and the subgroups of such a group.
  * Link with libcalls.a, which `rt staticlib calls` makes for x86-64.
  *
- * Every function is a pure one: the same arguments get the same answer, on every day and every machine. Nothing is kept between calls, there is no
- * heap, and calls from several threads do not meet unless they lend the same memory.
+ * Every function is a pure one: the same arguments get the same answer, on every day and every machine. Nothing is kept between calls but what the
+ * caller lends, there is no heap, and calls from several threads do not meet unless they lend the same memory.
  *
  * Slices. A slice is two arguments, a pointer and a length in bytes. The pointer must be good for reading (and where it is not const, for writing)
  * as many bytes as the length says; NULL with length 0 is an empty slice. A slice that is lent for writing overlaps no other slice of the call.
@@ -18,6 +18,8 @@
  *                                 order, by ascending rotation code. Refusals 30 to 35.
  *   symmetry_table_...    order and table   n and n * n bytes by rows, the byte at i * n + j being the product of i and j. Refusals 21 to 25.
  * A source is checked in every call, before anything else that is asked; no function takes a group on trust.
+ *
+ * Lines. symmetry_line_operation and symmetry_operation_line are about one operation and no group.
  *
  * Sets. A set of elements is a 64-bit number: bit i is set if i is a member. A list of sets is lent as bytes, eight bytes a slot, high byte first;
  * bytes left over behind the last whole slot are no slot and are never written. symmetry_set reads a slot. In a list of conjugators or positions a
@@ -47,17 +49,23 @@ extern "C" {
 /*
  * The version of this header: the first number changes when something that stands here changes, the second when something is added.
  */
-enum symmetry_version { SYMMETRY_VERSION_MAJOR = 1, SYMMETRY_VERSION_MINOR = 0 };
+enum symmetry_version { SYMMETRY_VERSION_MAJOR = 1, SYMMETRY_VERSION_MINOR = 1 };
 
 /* Sizes that are always enough, and that something needs. */
 enum symmetry_most {
     SYMMETRY_MOST_TEXT = 80,              /* bytes of a symbol's text */
     SYMMETRY_MOST_ORDER = 48,             /* elements of a group */
     SYMMETRY_MOST_RECORD = 245,           /* bytes of a record: 5 * 48 + 5 */
+    SYMMETRY_MOST_LIST = 240,             /* bytes of another program's list: 5 * 48 */
     SYMMETRY_MOST_TABLE = 2304,           /* bytes of a table: 48 * 48 */
+    SYMMETRY_MOST_LINE = 64,              /* bytes of an operation line that is read */
+    SYMMETRY_MOST_LINE_WRITTEN = 34,      /* bytes of an operation line that is written */
+    SYMMETRY_OPERATION = 5,               /* bytes of one operation: the code, high byte first, then x, y, z */
     SYMMETRY_MOST_SYMBOL_SUBGROUPS = 98,  /* subgroups of a symbol's group or a record's: those of the cube's */
     SYMMETRY_MOST_SUBGROUPS = 374,        /* subgroups of any group up to order 48: those of five independent elements of order 2 */
-    SYMMETRY_SLOT = 8                     /* bytes of a slot in a list of sets */
+    SYMMETRY_SLOT = 8,                    /* bytes of a slot in a list of sets */
+    SYMMETRY_CATALOGUE_STATE = 81,        /* bytes that a catalogue needs between two calls */
+    SYMMETRY_MOST_PIECE = 4096            /* bytes of a catalogue that may be handed in at once */
 };
 
 /*
@@ -84,7 +92,8 @@ enum symmetry_refusal {
     SYMMETRY_TOO_MANY_ROTATIONS = 13, /* over 48 rotations, or one with an entry outside -1..1; at 0 */
     SYMMETRY_TWO_TRANSLATIONS = 14, /* one rotation with two translations that differ by no vector of the lattice; at 0 */
     /* A place in lent memory; at 0. */
-    SYMMETRY_NO_ROOM = 20,          /* the start is beyond the buffer, or fewer bytes than the record needs are left from it */
+    SYMMETRY_NO_ROOM = 20,          /* the start is beyond the buffer, or fewer bytes than the record or the line needs are left from it; or a
+                                       catalogue's state has under 81 bytes */
     /* A table of products; at 0. */
     SYMMETRY_ORDER = 21,            /* the order is 0 or over 48 */
     SYMMETRY_CELLS = 22,            /* not as many bytes as the square of the order, or a byte that is no element */
@@ -101,8 +110,19 @@ enum symmetry_refusal {
     SYMMETRY_RECORD_EDITION = 31,   /* the edition is not 1 */
     SYMMETRY_RECORD_LETTER = 32,    /* the letter is not one of P A B C I R F H */
     SYMMETRY_RECORD_LENGTH = 33,    /* not 1 to 48 operations, or a stated length that is wrong or beyond the buffer */
-    SYMMETRY_RECORD_ITEM = 34,      /* a code over 19682, a coordinate over 11, a translation not the smallest of its class, or codes not ascending */
-    SYMMETRY_RECORD_NO_GROUP = 35   /* what is listed is no group that a record may hold */
+    SYMMETRY_RECORD_ITEM = 34,      /* a code over 19682, a coordinate over 11, a translation not the smallest of its class, or codes not ascending;
+                                       of a single operation: not five bytes, or such a code or coordinate */
+    SYMMETRY_RECORD_NO_GROUP = 35,  /* what is listed is no group that a record may hold */
+    /* An operation line. */
+    SYMMETRY_LINE_TOO_LONG = 40,    /* over 64 bytes; at 0 */
+    SYMMETRY_LINE_MISSPELT = 41,    /* at the first byte that no line has after the bytes before it, or at the line's length if it breaks off */
+    SYMMETRY_LINE_DETERMINANT = 42, /* the determinant is not 1 or -1; at 0 */
+    /* Another program's list of operations. */
+    SYMMETRY_LIST_LENGTH = 43,      /* the length is no multiple of five, or over 240 bytes; at 0 */
+    SYMMETRY_LIST_ENTRY = 44,       /* a code over 19682 or a coordinate over 11; at the index of the first such entry */
+    /* A catalogue; at 0. */
+    SYMMETRY_PIECE_TOO_LONG = 45,   /* a piece over 4,096 bytes */
+    SYMMETRY_CATALOGUE_ENDED = 46   /* a piece or an end after the end was announced */
 };
 
 /* ---- an answer, taken apart ---- */
@@ -133,7 +153,7 @@ static inline const char *symmetry_reason(unsigned number)
     case SYMMETRY_LATTICE_NOT_KEPT: return "a generator does not keep the lattice";
     case SYMMETRY_TOO_MANY_ROTATIONS: return "too many rotations, or too large an entry";
     case SYMMETRY_TWO_TRANSLATIONS: return "one rotation with two translations";
-    case SYMMETRY_NO_ROOM: return "no room for the record";
+    case SYMMETRY_NO_ROOM: return "no room for the record or the line";
     case SYMMETRY_ORDER: return "an order of 0 or over 48";
     case SYMMETRY_CELLS: return "a table of another size, or a cell that is no element";
     case SYMMETRY_NO_IDENTITY: return "no identity";
@@ -149,6 +169,13 @@ static inline const char *symmetry_reason(unsigned number)
     case SYMMETRY_RECORD_LENGTH: return "a wrong count or length in the record";
     case SYMMETRY_RECORD_ITEM: return "a wrong operation in the record";
     case SYMMETRY_RECORD_NO_GROUP: return "a record that holds no group";
+    case SYMMETRY_LINE_TOO_LONG: return "a line of over 64 bytes";
+    case SYMMETRY_LINE_MISSPELT: return "a misspelt line";
+    case SYMMETRY_LINE_DETERMINANT: return "a determinant other than 1 and -1";
+    case SYMMETRY_LIST_LENGTH: return "a list of another length";
+    case SYMMETRY_LIST_ENTRY: return "a wrong operation in the list";
+    case SYMMETRY_PIECE_TOO_LONG: return "a piece of over 4,096 bytes";
+    case SYMMETRY_CATALOGUE_ENDED: return "the catalogue has ended";
     default: return "no refusal of these functions";
     }
 }
@@ -187,6 +214,20 @@ static inline unsigned symmetry_twelfths(uint64_t value, unsigned axis)
     return (unsigned)(axis == 0 ? value / 144 % 12 : axis == 1 ? value / 12 % 12 : value % 12);
 }
 
+/*
+ * The value that symmetry_catalogue_piece and symmetry_catalogue_end answer, taken apart: how many bytes of the piece were taken; 1 if they finished a
+ * line, else 0; and the answer for that line, in the form of all answers: how many operations the record in the room holds, or the refusal of the line.
+ */
+static inline uint64_t symmetry_catalogue_taken(uint64_t value) { return value % 65536; }
+
+static inline int symmetry_catalogue_finished(uint64_t value) { return value / 65536 != 0; }
+
+static inline uint64_t symmetry_catalogue_answer(uint64_t value)
+{
+    uint64_t said = value / 65536 - 1;
+    return said < 256 ? said : (said / 256) << 56 | said % 256;
+}
+
 /* ---- the group itself ---- */
 
 /* The order: how many operations modulo the lattice, or how many elements. 1 to 48. */
@@ -209,6 +250,27 @@ uint64_t symmetry_record_letter(const uint8_t *record, size_t record_length);
  */
 uint64_t symmetry_symbol_operation(const uint8_t *text, size_t text_length, uint64_t index);
 
+/* ---- lists of another program ---- */
+
+/* What symmetry_symbol_check says of a list that is compared, and what the number beside it is. */
+enum symmetry_check {
+    SYMMETRY_CHECK_YES = 0,      /* the list is the group's; nothing beside it */
+    SYMMETRY_CHECK_ENTRY = 1,    /* an entry is foreign or repeated; its index */
+    SYMMETRY_CHECK_MISSING = 2   /* an operation is missing; its rotation code */
+};
+
+/*
+ * Whether a list of five-byte operations, as a record has them but in any order and with any translations 0 to 11, holds every operation of the
+ * symbol's group modulo the lattice, each once, and nothing else. The value is 0 if it does. Else it is 65536 + i, i being the index of the first entry
+ * that is foreign (no operation of the group, modulo the lattice) or repeated (an entry further left is the same operation, modulo the lattice); or, if
+ * no entry is, 131072 + the lowest code of a rotation of the group that no entry has. 43, then 44, after the symbol's own refusals; an empty list is
+ * compared. symmetry_check_kind and symmetry_check_detail take the value apart.
+ */
+uint64_t symmetry_symbol_check(const uint8_t *text, size_t text_length, const uint8_t *list, size_t list_length);
+
+static inline enum symmetry_check symmetry_check_kind(uint64_t value) { return (enum symmetry_check)(value / 65536); }
+static inline unsigned symmetry_check_detail(uint64_t value) { return (unsigned)(value % 65536); }
+
 /* ---- group records ---- */
 
 /*
@@ -226,6 +288,49 @@ uint64_t symmetry_symbol_record(const uint8_t *text, size_t text_length, uint8_t
 
 /* The same for the group that a record holds: reads it, and writes it from out + start on. */
 uint64_t symmetry_record_copy(const uint8_t *record, size_t record_length, uint8_t *out, size_t out_length, uint64_t start);
+
+/* ---- operation lines ---- */
+
+/*
+ * Reads an operation line, as -x,-y+1/2,z, and answers the operation's number, as symmetry_symbol_operation does. Three parts stand between commas,
+ * each of one or more terms in any order: a letter x y z, each at most once, and at most one fraction p/q with q one of 2 3 4 6 12 and p from 1 to
+ * q - 1. Every term has a sign, but that a part's first plus may be missing. Spaces may stand anywhere but inside a fraction. 40, then 41, then 42.
+ */
+uint64_t symmetry_line_operation(const uint8_t *line, size_t line_length);
+
+/*
+ * Writes the line of an operation, given by its five bytes, from out on, and answers how many bytes it has: in each part the letters in the order
+ * x y z, no leading plus, then +p/q in lowest terms if the translation is not 0; no spaces. The bytes behind it are as they were. What was written is
+ * read as the same operation. 34, then 42, then 20.
+ */
+uint64_t symmetry_operation_line(const uint8_t *operation, size_t operation_length, uint8_t *out, size_t out_length);
+/* ---- catalogues ---- */
+
+/*
+ * A catalogue of symbols, one a line, that comes in pieces cut anywhere. Lines end with byte 10; a last line without it counts when the end is
+ * announced, unless it holds no byte. What is known between two calls stands in 81 bytes that the caller lends: a status, and the bytes of the line that
+ * goes on. Any 81 bytes are a state, so there is nothing to be wrong in them; bytes behind the 81 are never written.
+ *
+ *   symmetry_catalogue_start(state, 81);
+ *   for each piece:
+ *       until it is taken whole: answer = symmetry_catalogue_piece(state, 81, rest of the piece, its length, out, 245), and if it finished a line, use it
+ *   symmetry_catalogue_end(state, 81, out, 245), and if it finished a line, use it
+ *
+ * However the catalogue is cut, the answers and their order are those for the uncut text.
+ */
+
+/* Makes the state that of a fresh catalogue, and answers 0. 20 if it has under 81 bytes, here and below before everything else. */
+uint64_t symmetry_catalogue_start(uint8_t *state, size_t state_length);
+
+/*
+ * Takes the bytes of the piece up to its first byte 10, with it, or all. If they finish a line, the record of its symbol is written from the start of out
+ * and the answer holds what symmetry_symbol_record answers for the line, 20 if the record has no room there; else out stays as it was. A line over 80
+ * bytes is refused 1 once, at its end. 45 if the piece has over 4,096 bytes, then 46 if the end was announced; the state stays then.
+ */
+uint64_t symmetry_catalogue_piece(uint8_t *state, size_t state_length, const uint8_t *piece, size_t piece_length, uint8_t *out, size_t out_length);
+
+/* Announces the end: no bytes are taken, and a last line is answered as above. 46 if it was announced before. */
+uint64_t symmetry_catalogue_end(uint8_t *state, size_t state_length, uint8_t *out, size_t out_length);
 
 /* ---- subgroups ---- */
 

@@ -15,6 +15,8 @@ A section below has the name of the section of 01 that it states.
 import re
 import struct
 import sys
+from fractions import Fraction
+from functools import lru_cache
 from itertools import product as pairs
 
 
@@ -400,6 +402,115 @@ def class_of(letter, operation):
     return rotation, smallest(letter, translation)
 
 
+# Lines from structure files, R10 ------------------------------------------------------------------------------------
+
+MOST_LINE = 64
+TERM = rb"(?:[xyz]|1/2|[12]/3|[1-3]/4|[1-5]/6|(?:[1-9]|10|11)/12)"
+PART = re.compile(rb" *[+-]? *" + TERM + rb"(?: *[+-] *" + TERM + rb")* *")
+SIGNED_TERM = re.compile(rb"([+-]?) *(" + TERM + rb")")
+# Behind a beginning of a line one of these makes it whole, if anything does: a term's missing end or a term, and the missing parts.
+MISSING_ENDS = (b"", b"x", b"y", b"z", b"1/2", b"/12", b"12", b"2")
+MISSING_PARTS = (b"", b",x", b",x,x")
+
+
+def terms_of_part(part):
+    """The terms of one part, each a sign and a letter or a fraction, or None if the part is misspelt."""
+    if not PART.fullmatch(part):
+        return None
+    terms = [(-1 if sign == b"-" else 1, body) for sign, body in SIGNED_TERM.findall(part)]
+    kinds = [body if body.isalpha() else b"fraction" for _, body in terms]
+    return terms if len(set(kinds)) == len(kinds) else None
+
+
+def terms_of_line(line):
+    """The terms of the three parts, or None if the line is misspelt; its length does not matter here."""
+    parts = [terms_of_part(part) for part in line.split(b",")]
+    return parts if len(parts) == 3 and None not in parts else None
+
+
+@lru_cache(maxsize=None)
+def begins_line(text):
+    """Whether a line begins with these bytes."""
+    return any(terms_of_line(text + end + parts) for end in MISSING_ENDS for parts in MISSING_PARTS)
+
+
+def read_line(line):
+    """The operation of a line; refusals 40 to 42."""
+    if len(line) > MOST_LINE:
+        raise Refusal(40, 0)
+    parts = terms_of_line(line)
+    if parts is None:
+        raise Refusal(41, next((at for at in range(len(line)) if not begins_line(line[:at + 1])), len(line)))
+    rotation = tuple(sum(sign for sign, body in terms if body == letter) for terms in parts for letter in (b"x", b"y", b"z"))
+    fractions = [[(sign, body.split(b"/")) for sign, body in terms if b"/" in body] for terms in parts]
+    translation = tuple(sum(sign * 12 * int(p) // int(q) for sign, (p, q) in some) % 12 for some in fractions)
+    if abs(determinant(rotation)) != 1:
+        raise Refusal(42, 0)
+    return rotation, translation
+
+
+def written_part(row, twelfths_of_edge):
+    terms = "".join(("+" if entry > 0 else "-") + letter for entry, letter in zip(row, "xyz") if entry)
+    fraction = Fraction(twelfths_of_edge, 12)
+    return (terms + ("+%d/%d" % (fraction.numerator, fraction.denominator) if fraction else "")).removeprefix("+")
+
+
+def five_bytes(rotation, translation):
+    return code(rotation).to_bytes(2, "big") + bytes(translation)
+
+
+def written_line(operation):
+    """The line of an operation's five bytes; refusals 34 and 42."""
+    if len(operation) != 5 or int.from_bytes(operation[:2], "big") > 19682 or max(operation[2:]) > 11:
+        raise Refusal(34, 0)
+    rotation = rotation_of(int.from_bytes(operation[:2], "big"))
+    if abs(determinant(rotation)) != 1:
+        raise Refusal(42, 0)
+    return ",".join(written_part(rotation[3 * i:3 * i + 3], operation[2 + i]) for i in range(3)).encode()
+
+
+def write_line(operation, buffer):
+    """Writes the line at the start of the buffer and answers its length; refusals 34, 42, 20."""
+    line = written_line(operation)
+    if len(buffer) < len(line):
+        raise Refusal(20, 0)
+    buffer[:len(line)] = line
+    return len(line)
+
+
+# Lists of another program, R11 -------------------------------------------------------------------------------------
+
+MOST_LIST = ITEM * MOST_OPERATIONS
+
+
+def list_entries(data):
+    """The operations of a list, code and triple each, as they are written; refusals 43 and 44."""
+    if len(data) % ITEM or len(data) > MOST_LIST:
+        raise Refusal(43, 0)
+    entries = [struct.unpack(">HBBB", data[i:i + ITEM]) for i in range(0, len(data), ITEM)]
+    for index, (number, *triple) in enumerate(entries):
+        if number > MOST_CODE or max(triple) > 11:
+            raise Refusal(44, index)
+    return [(rotation_of(number), tuple(triple)) for number, *triple in entries]
+
+
+def compare_list(letter, operations, data):
+    """What is said of a list: yes, the first entry that is foreign or repeated, or the lowest missing code."""
+    entries = [class_of(letter, operation) for operation in list_entries(data)]
+    group = {class_of(letter, operation) for operation in operations}
+    for index, entry in enumerate(entries):
+        if entry not in group or entry in entries[:index]:
+            return "entry", index
+    missing = [code(rotation) for rotation, _ in group.difference(entries)]
+    return ("missing", min(missing)) if missing else ("yes",)
+
+
+def check_list(text, data):
+    """The symbol's own refusals go first."""
+    letter, operations = group_of_symbol(text)
+    return compare_list(letter, operations, data)
+
+
 # Tables and subgroups ---------------------------------------------------------------------------------------------
 
 class Table:
@@ -614,6 +725,79 @@ def program(data):
     return b"".join(map(program_answer, program_lines(data)))
 
 
+# Catalogues -------------------------------------------------------------------------------------------------------
+
+MOST_PIECE = 4096
+STATE = 1 + MOST_BYTES
+OVER, ENDED = MOST_BYTES + 1, MOST_BYTES + 2
+
+
+def line_so_far(state):
+    """The bytes of the line that goes on; a line of over 80 bytes has one more than the 80 that are kept, whatever it was."""
+    return state[1:1 + state[0]] if state[0] <= MOST_BYTES else state[1:STATE] + b"?"
+
+
+def keeping(state, line):
+    """The state that keeps a line: its length, or 81, and its first 80 bytes; the bytes behind them as they were."""
+    kept = line[:MOST_BYTES]
+    return bytes([min(len(line), OVER)]) + kept + state[1 + len(kept):]
+
+
+def line_answer(line, room):
+    """What the writing of the line's record from the start of the room answers, and the room afterwards."""
+    lent = bytearray(room)
+    try:
+        return write_record(*group_of_symbol(line), lent, 0), bytes(lent)
+    except Refusal as refusal:
+        return (refusal.number, refusal.place), bytes(room)
+
+
+def catalogue_start(state):
+    """A fresh start: the state; refusal 20."""
+    if len(state) < STATE:
+        raise Refusal(20, 0)
+    return b"\0" + state[1:]
+
+
+def catalogue_piece(state, piece, room):
+    """The bytes taken, what is answered for a finished line (or None), the state and the room; refusals 20, 45, 46."""
+    if len(state) < STATE:
+        raise Refusal(20, 0)
+    if len(piece) > MOST_PIECE:
+        raise Refusal(45, 0)
+    if state[0] >= ENDED:
+        raise Refusal(46, 0)
+    before, end, _ = piece.partition(b"\n")
+    line = line_so_far(state) + before
+    if not end:
+        return len(piece), None, keeping(state, line), room
+    said, left = line_answer(line, room)
+    return len(before) + 1, said, keeping(state, b""), left
+
+
+def catalogue_end(state, room):
+    """What is answered for a last line (or None), the state and the room; refusals 20, 46."""
+    if len(state) < STATE:
+        raise Refusal(20, 0)
+    if state[0] >= ENDED:
+        raise Refusal(46, 0)
+    said, left = line_answer(line_so_far(state), room) if line_so_far(state) else (None, room)
+    return said, bytes([ENDED]) + state[1:], left
+
+
+def catalogue(pieces, room):
+    """The answers for a catalogue in pieces, each with the room that it leaves: a piece until it is taken whole, then the end."""
+    state, answers = catalogue_start(bytes(STATE)), []
+    for piece in pieces:
+        taken = None
+        while taken is None or piece:
+            taken, said, state, left = catalogue_piece(state, piece, room)
+            piece = piece[taken:]
+            answers += [] if said is None else [(said, left)]
+    said, state, left = catalogue_end(state, room)
+    return answers + ([] if said is None else [(said, left)])
+
+
 # Answers by lines -------------------------------------------------------------------------------------------------
 
 def text_of_hex(word):
@@ -718,6 +902,12 @@ def example_rest():
         ("length", outcome(read_record, inverse_record[:-5] + b"P\x01\x03\x00\x14"), (33, 0)),
         ("code order", outcome(read_record, inverse_record[5:10] + inverse_record[:5] + inverse_record[10:]), (34, 0)),
         ("no identity", outcome(read_record, inverse_record[:5] + b"P\x01\x01\x00\x0a"), (35, 0)),
+        ("P 1, its list", check_list(b"P 1", bytes.fromhex("4064000000")), ("yes",)),
+        ("P 1, an empty list", check_list(b"P 1", b""), ("missing", 16484)),
+        ("P 1, an entry twice", check_list(b"P 1", bytes.fromhex("40640000004064000000")), ("entry", 1)),
+        ("P 1, another translation", check_list(b"P 1", bytes.fromhex("4064060000")), ("entry", 0)),
+        ("a list of four bytes", outcome(check_list, b"P 1", bytes(4)), (43, 0)),
+        ("a list with a coordinate of 12", outcome(check_list, b"-P 1", bytes.fromhex("40640600000C7E00000C")), (44, 1)),
         ("-P 4 2 3, subgroups", len(all_subgroups), 98),
         ("-P 4 2 3, classes", len(classes(cubic)), 33),
         ("98 slots", (fill_subgroups(cubic, just_fits), just_fits), (98, all_subgroups)),
@@ -744,9 +934,45 @@ def example_rest():
         ("program, blank line", program(b"\n"), b"\nrefused 3 0\n"),
         ("program, no byte", program(b""), b""),
         ("program, 81 bytes", program(b"P" * 81), b"P" * 80 + b"\nrefused 1 80\n"),
+        ("catalogue, cut", catalogue([b"-P", b"", b" 1\nP 1a", b"\n\nP 1"], bytes(15)),
+         [(2, inverse_record), ((14, 0), bytes(15)), ((3, 0), bytes(15)), (1, bytes.fromhex("4064000000500101000A") + bytes(5))]),
+        ("catalogue, a line of 81 bytes", [said for said, _ in catalogue([b"P" * 70, b"P" * 11 + b"\nP 1\n"], bytes(245))], [(1, 80), 1]),
+        ("catalogue, no room", catalogue([b"-P 1\n"], bytes(14)), [((20, 0), bytes(14))]),
+        ("catalogue, no byte", catalogue([b""], b""), []),
+        ("a piece of 4,097 bytes, after the end", outcome(catalogue_piece, bytes([ENDED]) * STATE, bytes(4097), b""), (45, 0)),
+        ("a piece after the end", outcome(catalogue_piece, bytes([255]) * STATE, b"", b""), (46, 0)),
+        ("an end after the end", outcome(catalogue_end, bytes([ENDED]) * STATE, b""), (46, 0)),
+        ("a state of 80 bytes", outcome(catalogue_piece, bytes(80), bytes(4097), b""), (20, 0)),
         ("C 1ab is plain C", count_of(b"C 1ab"), 1),
         ("I 1n is plain I", count_of(b"I 1n"), 1),
         ("F 1bc is plain F", count_of(b"F 1bc"), 1),
+    ]
+
+
+# Lines that are refused 41, with the place.
+MISSPELT_LINES = [
+    (b"", 0), (b"x,y", 3), (b"x,y,z,", 5), (b"x,,z", 2), (b"xx,y,z", 1), (b"x+x,y,z", 2), (b"x,y,z+1/ 2", 8), (b"x,y,z+1 1/12", 7),
+    (b"x+1/2+1/3,y,z", 6), (b"x,y,z+0/2", 6), (b"x,y,z+1/5", 8), (b"x,y,z+7/6", 8), (b"x,y,z+12/12", 7), (b"x,y,z+3/", 8), (b"X,y,z", 0),
+    (b"x,\ty,z", 2), (b"x y,y,z", 2), (b"1/2x,y,z", 3), (b"x+y+z+1/2+,y,z", 9), (b"x,y,z+5/1", 9), (b"x,y,z+", 6), (b"x,y,z+01/2", 6),
+]
+
+
+def example_lines():
+    lent = bytearray(b"*" * 9)
+    same = [(b" x , y , z ", b"x,y,z"), (b"-  x,y,z", b"-x,y,z"), (b"1/2+x,y,z", b"x+1/2,y,z"), (b"-1/4-z+y,x,z+2/4", b"y-z+3/4,x,z+1/2")]
+    return [("misspelt %s" % line, outcome(read_line, line), (41, place)) for line, place in MISSPELT_LINES] + [
+        ("%s read" % line, written_line(five_bytes(*read_line(line))), written) for line, written in same] + [
+        ("-x,-y+1/2,z", read_line(b"-x,-y+1/2,z"), ((-1, 0, 0, 0, -1, 0, 0, 0, 1), (0, 6, 0))),
+        ("64 bytes", outcome(read_line, b"x,y,z" + b" " * 59), (IDENTITY, NO_TRANSLATION)),
+        ("65 bytes", outcome(read_line, b"x,y,z" + b" " * 60), (40, 0)),
+        ("a row twice", outcome(read_line, b"x,x,z"), (42, 0)),
+        ("no letter", outcome(read_line, b"x,y,1/2"), (42, 0)),
+        ("four bytes", outcome(written_line, bytes(4)), (34, 0)),
+        ("code 19683", outcome(written_line, b"\x4c\xe3\x00\x00\x00"), (34, 0)),
+        ("a coordinate of 12", outcome(written_line, b"\x40\x64\x00\x0c\x00"), (34, 0)),
+        ("code 0", outcome(written_line, bytes(5)), (42, 0)),
+        ("no room for a line", outcome(write_line, b"\x40\x64\x00\x06\x00", bytearray(8)), (20, 0)),
+        ("just room for a line", (write_line(b"\x40\x64\x00\x06\x00", lent), bytes(lent)), (9, b"x,y+1/2,z")),
     ]
 
 
@@ -757,7 +983,7 @@ def outside_normalizer(table):
 
 
 def run_examples():
-    examples = example_symbols() + example_rest()
+    examples = example_symbols() + example_rest() + example_lines()
     failed = [each for each in examples if each[1] != each[2]]
     for name, said, expected in failed:
         print("failed: %s: %s, not %s" % (name, said, expected))

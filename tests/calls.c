@@ -268,6 +268,134 @@ static void records(void) {
     expect(memcmp(out, marks, ROOM) == 0, "untouched buffers", 0);
 }
 
+/* ---- lines ----
+   -x,-y+1/2,z has the digits 0 1 1 / 1 0 1 / 1 1 2 of base 3, 2187 + 729 + 243 + 27 + 9 + 3 + 2 = 3200, and six twelfths along y. */
+static void lines(void) {
+    static const uint8_t screw[5] = { 3200 / 256, 3200 % 256, 0, 6, 0 }, identity[5] = { 0x40, 0x64, 0, 0, 0 }, outside[5] = { 0x4C, 0xE3, 0, 0, 0 };
+    static const uint8_t beyond[5] = { 0x40, 0x64, 0, 12, 0 }, none[5] = { 0, 0, 0, 0, 0 };
+    static const struct { const char *line; unsigned place; } misspelt[] = {
+        { "x,y", 3 }, { "x,y,z,", 5 }, { "x,,z", 2 }, { "xx,y,z", 1 }, { "x+x,y,z", 2 }, { "x,y,z+1/ 2", 8 }, { "x,y,z+1 1/12", 7 },
+        { "x+1/2+1/3,y,z", 6 }, { "x,y,z+0/2", 6 }, { "x,y,z+1/5", 8 }, { "x,y,z+7/6", 8 }, { "x,y,z+12/12", 7 }, { "x,y,z+3/", 8 },
+        { "X,y,z", 0 }, { "x,\ty,z", 2 }, { "x y,y,z", 2 }, { "x+y+z+1/2+,y,z", 9 }, { "x,y,z+5/1", 9 },
+    };
+    uint8_t out[ROOM], after[ROOM], spaces[65];
+    /* 16484 is 1 0 0 / 0 1 0 / 0 0 1 */
+    answers(symmetry_line_operation(TEXT("x,y,z")), UINT64_C(16484) * 1728, "the identity's line");
+    answers(symmetry_line_operation(TEXT(" x , y , z ")), UINT64_C(16484) * 1728, "with spaces");
+    answers(symmetry_line_operation(TEXT("z*0")), refusal(41, 1), "a byte that no line has");
+    answers(symmetry_line_operation(TEXT("-  x,-y+6/12,z")), UINT64_C(3200) * 1728 + 6 * 12, "a screw's line");
+    answers(symmetry_line_operation(TEXT("1/3+x,y,z-1/3")), UINT64_C(16484) * 1728 + 4 * 144 + 8, "thirds");
+    answers(symmetry_line_operation(TEXT("x,x,z")), refusal(42, 0), "a row twice");
+    answers(symmetry_line_operation(TEXT("x,y,1/2")), refusal(42, 0), "a row without a letter");
+    answers(symmetry_line_operation(TEXT("")), refusal(41, 0), "no line");
+    for (size_t i = 0; i < sizeof misspelt / sizeof *misspelt; i++)
+        answers(symmetry_line_operation((const uint8_t *)misspelt[i].line, strlen(misspelt[i].line)), refusal(41, misspelt[i].place), misspelt[i].line);
+    memset(spaces, ' ', 65);
+    memcpy(spaces + 30, "x,y,z", 5);
+    answers(symmetry_line_operation(spaces, 64), UINT64_C(16484) * 1728, "64 bytes");
+    answers(symmetry_line_operation(spaces, 65), refusal(40, 0), "65 bytes");
+    for (size_t length = 0; length <= 14; length++) {
+        memset(out, MARK, ROOM);
+        memset(after, MARK, ROOM);
+        if (length >= 11) memcpy(after, "-x,-y+1/2,z", 11);
+        uint64_t got = symmetry_operation_line(screw, 5, length ? out : NULL, length);
+        expect(got == (length >= 11 ? 11 : refusal(20, 0)) && memcmp(out, after, ROOM) == 0, "a screw's line written", got);
+    }
+    memset(out, MARK, ROOM);
+    memset(after, MARK, ROOM);
+    answers(symmetry_operation_line(identity, 4, out, ROOM), refusal(34, 0), "four bytes");
+    answers(symmetry_operation_line(NULL, 0, out, ROOM), refusal(34, 0), "no bytes");
+    answers(symmetry_operation_line(outside, 5, out, ROOM), refusal(34, 0), "a code of 19683");
+    answers(symmetry_operation_line(beyond, 5, NULL, 0), refusal(34, 0), "a coordinate of 12");
+    answers(symmetry_operation_line(none, 5, NULL, 0), refusal(42, 0), "nine entries of -1");
+    expect(memcmp(out, after, ROOM) == 0, "an untouched buffer", 0);
+}
+
+/* ---- lists of another program ----
+   Codes by hand: the identity is 2 1 1 1 2 1 1 1 2 in base 3, 16484 or 40 64 in hex; the inversion 0 1 1 1 0 1 1 1 0, 3198 or 0C 7E; the turn by a half about
+   z 0 1 1 1 0 1 1 1 2, 3200 or 0C 80. */
+#define LIST(...) (const uint8_t[]){ __VA_ARGS__ }, sizeof((const uint8_t[]){ __VA_ARGS__ })
+#define ONE 0x40, 0x64
+#define INVERTED 0x0C, 0x7E
+#define HALF 0x0C, 0x80
+
+static void checked(void) {
+    uint8_t many[245];
+    for (unsigned i = 0; i < 49; i++) memcpy(many + 5 * i, (const uint8_t[]){ ONE, 0, 0, 0 }, 5);
+    answers(symmetry_symbol_check(TEXT("P 1"), LIST(ONE, 0, 0, 0)), 0, "the list of P 1");
+    answers(symmetry_symbol_check(TEXT("P 1"), NULL, 0), 131072 + 16484, "an empty list");
+    answers(symmetry_symbol_check(TEXT("P 1"), LIST(ONE, 0, 0, 0, ONE, 0, 0, 0)), 65536 + 1, "the same entry twice");
+    answers(symmetry_symbol_check(TEXT("P 1"), LIST(ONE, 6, 0, 0)), 65536, "a known rotation with a wrong translation");
+    answers(symmetry_symbol_check(TEXT("I 1"), LIST(ONE, 6, 6, 6)), 0, "another translation of the class");
+    answers(symmetry_symbol_check(TEXT("I 1"), LIST(ONE, 0, 0, 0, ONE, 6, 6, 6)), 65536 + 1, "repeated with other bytes");
+    answers(symmetry_symbol_check(TEXT("-P 1"), LIST(ONE, 0, 0, 0, INVERTED, 0, 0, 0)), 0, "another order");
+    answers(symmetry_symbol_check(TEXT("-P 1"), LIST(INVERTED, 0, 0, 0)), 131072 + 16484, "the identity is missing");
+    answers(symmetry_symbol_check(TEXT("-P 2"), LIST(ONE, 0, 0, 0)), 131072 + 3198, "the lowest of three that are missing");
+    answers(symmetry_symbol_check(TEXT("P 2"), LIST(INVERTED, 0, 0, 0, HALF, 6, 0, 0)), 65536, "the first of two that are foreign");
+    answers(symmetry_symbol_check(TEXT("P 2"), LIST(INVERTED, 0, 0, 0, HALF, 12, 0, 0)), refusal(44, 1), "a coordinate out of range, after a foreign entry");
+    answers(symmetry_symbol_check(TEXT("P 2"), LIST(HALF, 0, 0, 0, 0x4C, 0xE3, 0, 0, 0)), refusal(44, 1), "a code out of range");
+    answers(symmetry_symbol_check(TEXT("P 2"), LIST(0x4C, 0xE2, 0, 0, 0)), 65536, "the last code");
+    answers(symmetry_symbol_check(TEXT("P 2"), LIST(HALF, 0, 0)), refusal(43, 0), "four bytes");
+    answers(symmetry_symbol_check(TEXT("P 1"), many, 245), refusal(43, 0), "over 240 bytes");
+    answers(symmetry_symbol_check(TEXT("P 1"), many, 240), 65536 + 1, "240 bytes");
+    answers(symmetry_symbol_check(TEXT("P 1a"), LIST(0)), refusal(14, 0), "the symbol's refusal first");
+    answers(symmetry_symbol_check(TEXT("P 2aa"), LIST(0)), refusal(17, 4), "the symbol's refusal first");
+    answers(symmetry_symbol_check(TEXT(""), NULL, 0), refusal(3, 0), "no text and no list");
+}
+
+/* ---- catalogues ---- */
+
+/* A call on a catalogue, and the room and the bytes behind the state as it left them. */
+static uint8_t state[ROOM], room[SYMMETRY_MOST_RECORD];
+
+static uint64_t piece(const char *bytes, size_t length) { return symmetry_catalogue_piece(state, 81, (const uint8_t *)bytes, length, room, sizeof room); }
+static uint64_t line_of(uint64_t said) { return 65536 * (1 + said); }
+
+static void catalogues(void) {
+    static char long_line[SYMMETRY_MOST_PIECE + 1];
+    memset(long_line, 'x', sizeof long_line);
+    memset(state, MARK, ROOM);
+    memset(room, MARK, sizeof room);
+    /* 20 for the state goes first */
+    answers(symmetry_catalogue_start(state, 80), refusal(20, 0), "a start with 80 bytes");
+    answers(symmetry_catalogue_piece(state, 80, (const uint8_t *)long_line, 4097, room, 0), refusal(20, 0), "a piece with 80 bytes");
+    answers(symmetry_catalogue_end(NULL, 0, room, 0), refusal(20, 0), "an end with no state");
+    /* any bytes are a state: here one that has ended */
+    answers(piece(long_line, 4097), refusal(45, 0), "a long piece after the end");
+    answers(piece(long_line, 4096), refusal(46, 0), "a piece after the end");
+    answers(symmetry_catalogue_end(state, 81, room, sizeof room), refusal(46, 0), "an end after the end");
+    expect(state[0] == MARK && state[80] == MARK && room[0] == MARK, "what they left", state[0]);
+    answers(symmetry_catalogue_start(state, 81), 0, "a start");
+    expect(state[0] == 0 && state[1] == MARK && state[81] == MARK, "what it left", state[0]);
+    answers(piece(NULL, 0), 0, "a piece of no bytes");
+    answers(piece("-P", 2), 2, "the beginning of a line");
+    expect(state[0] == 2 && state[1] == '-' && state[2] == 'P' && state[3] == MARK, "what is kept", state[0]);
+    answers(piece(" 1\nP 1a\n", 8), 3 + line_of(2), "the end of a line");
+    expect(memcmp(room, inversion, 15) == 0 && room[15] == MARK, "its record", room[15]);
+    expect(state[0] == 0, "nothing is kept", state[0]);
+    answers(piece("P 1a\n", 5), 5 + line_of(256 * 14), "a refused line");
+    answers(piece("\n", 1), 1 + line_of(256 * 3), "a blank line");
+    answers(symmetry_catalogue_piece(state, 81, (const uint8_t *)"-P 1\n", 5, room, 14), 5 + line_of(256 * 20), "a line with no room for its record");
+    expect(memcmp(room, inversion, 15) == 0, "what they left in the room", room[0]);
+    /* 80 bytes, and 81 */
+    answers(piece("P 1", 3), 3, "the beginning of a line of 80 bytes");
+    answers(piece("                                                                             \n", 78), 78 + line_of(1), "its end");
+    answers(piece(long_line, 4096), 4096, "a line over 80 bytes");
+    expect(state[0] == 81 && state[80] == 'x' && state[81] == MARK, "80 of them are kept", state[0]);
+    answers(piece(long_line, 4097), refusal(45, 0), "4,097 more");
+    expect(state[0] == 81, "nothing changed", state[0]);
+    answers(piece(long_line, 9), 9, "nine more");
+    answers(piece("\nP 1", 4), 1 + line_of(256 * 1 + 80), "its end");
+    answers(piece("P 1", 3), 3, "a last line");
+    answers(symmetry_catalogue_end(state, 81, room, sizeof room), line_of(1), "the end");
+    expect(state[0] == 82, "the catalogue has ended", state[0]);
+    answers(symmetry_catalogue_end(state, 81, room, sizeof room), refusal(46, 0), "an end after the end");
+    answers(piece("\n", 1), refusal(46, 0), "a piece after the end");
+    answers(symmetry_catalogue_start(state, 81), 0, "a fresh start");
+    answers(symmetry_catalogue_end(state, 81, NULL, 0), 0, "the end of nothing");
+    expect(state[81] == MARK && state[ROOM - 1] == MARK, "bytes behind the state", state[81]);
+}
+
 int main(void) {
     static const uint8_t flip_conjugates[] = { 9, 17, 33 }, flip_conjugators[] = { 0, 2, 1 };
     static const uint8_t other_conjugates[] = { 17, 9, 33 }, other_conjugators[] = { 0, 1, 2 };
@@ -281,6 +409,9 @@ int main(void) {
     pointed();
     written();
     records();
+    lines();
+    checked();
+    catalogues();
     printf("%d passed, %d failed\n", passed, failed);
     return failed != 0;
 }

@@ -54,7 +54,13 @@ struct entry {
     ENTRY(record_letter, "s", INPUT) \
     ENTRY(symbol_operation, "sn", INPUT, call->number[0]) \
     ENTRY(symbol_record, "sln", INPUT, LENT(0), call->number[0]) \
-    ENTRY(record_copy, "sln", INPUT, LENT(0), call->number[0])
+    ENTRY(record_copy, "sln", INPUT, LENT(0), call->number[0]) \
+    ENTRY(line_operation, "s", INPUT) \
+    ENTRY(operation_line, "sl", INPUT, LENT(0)) \
+    ENTRY(symbol_check, "sl", INPUT, LENT(0)) \
+    ENTRY(catalogue_start, "l", LENT(0)) \
+    ENTRY(catalogue_piece, "lsl", LENT(0), INPUT, LENT(1)) \
+    ENTRY(catalogue_end, "ll", LENT(0), LENT(1))
 
 #define RUN(NAME, FORM, ...) \
     static uint64_t run_##NAME(const struct call *call) { return symmetry_##NAME(__VA_ARGS__); }

@@ -64,14 +64,16 @@ def shown(line):
 
 def line_of(entry, arguments, before=None):
     """A call as tests/entries.c reads it; `before` is the text, record or table of the line before."""
-    words, source = list(map(word_of, arguments)), source_of(arguments)
+    words, source = list(map(word_of, arguments)), source_of(entry, arguments)
     if source is not None and source == before:
         words[arguments.index(source)] = "="
     return " ".join([entry] + words)
 
 
-def source_of(arguments):
-    """The text, record or table of a call: the first slice among its arguments."""
+def source_of(entry, arguments):
+    """The text, record or table of a call: the first slice among its arguments. A catalogue's calls have none: their first slice is lent."""
+    if entry.startswith("catalogue_"):
+        return None
     return next(value for value in arguments if not isinstance(value, int))
 
 
@@ -80,7 +82,7 @@ def ask(command, calls):
     lines, before = [], None
     for entry, arguments in calls:
         lines.append(line_of(entry, arguments, before))
-        before = source_of(arguments)
+        before = source_of(entry, arguments)
     done = subprocess.run(command, input="".join(line + "\n" for line in lines), text=True, stdout=subprocess.PIPE)
     answers = done.stdout.splitlines()
     if done.returncode or len(answers) != len(lines):

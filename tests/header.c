@@ -28,6 +28,9 @@ static const struct { unsigned constant, number; } refusals[] = {
     { SYMMETRY_NOT_A_SUBGROUP, 27 }, { SYMMETRY_NOT_AN_ELEMENT, 28 }, { SYMMETRY_NOT_NORMALIZING, 29 },
     { SYMMETRY_RECORD_SHORT, 30 }, { SYMMETRY_RECORD_EDITION, 31 }, { SYMMETRY_RECORD_LETTER, 32 },
     { SYMMETRY_RECORD_LENGTH, 33 }, { SYMMETRY_RECORD_ITEM, 34 }, { SYMMETRY_RECORD_NO_GROUP, 35 },
+    { SYMMETRY_LINE_TOO_LONG, 40 }, { SYMMETRY_LINE_MISSPELT, 41 }, { SYMMETRY_LINE_DETERMINANT, 42 },
+    { SYMMETRY_LIST_LENGTH, 43 }, { SYMMETRY_LIST_ENTRY, 44 },
+    { SYMMETRY_PIECE_TOO_LONG, 45 }, { SYMMETRY_CATALOGUE_ENDED, 46 },
 };
 enum { REFUSALS = sizeof refusals / sizeof *refusals, ABOVE = 256 };
 
@@ -58,12 +61,19 @@ static void check_sizes(void)
     check("the longest text", SYMMETRY_MOST_TEXT, 80);
     check("the largest order", SYMMETRY_MOST_ORDER, 48);
     check("the longest record", SYMMETRY_MOST_RECORD, 5 * 48 + 5);
+    check("the longest list", SYMMETRY_MOST_LIST, 5 * 48);
     check("the largest table", SYMMETRY_MOST_TABLE, 48 * 48);
     check("the subgroups of a symbol's group", SYMMETRY_MOST_SYMBOL_SUBGROUPS, 98);
     /* of the 32 vectors over two elements: 1 space of no dimension, 31 of one, 155 of two and of three, 31 of four, 1 of five */
     check("the subgroups of a group", SYMMETRY_MOST_SUBGROUPS, 1 + 31 + 155 + 155 + 31 + 1);
+    check("the longest line", SYMMETRY_MOST_LINE, 64);
+    /* a row of three letters and two of two, each with a sign and eleven twelfths: -x-y-z+11/12 and twice -x-y+11/12, and two commas */
+    check("the longest line written", SYMMETRY_MOST_LINE_WRITTEN, 12 + 10 + 10 + 2);
+    check("the bytes of an operation", SYMMETRY_OPERATION, 5);
     check("the bytes of a slot", SYMMETRY_SLOT, 8);
-    check("the version", SYMMETRY_VERSION_MAJOR * 100 + SYMMETRY_VERSION_MINOR, 100);
+    check("the state of a catalogue", SYMMETRY_CATALOGUE_STATE, 1 + 80);
+    check("the longest piece", SYMMETRY_MOST_PIECE, 4096);
+    check("the version", SYMMETRY_VERSION_MAJOR * 100 + SYMMETRY_VERSION_MINOR, 101);
 }
 
 int main(void)
@@ -74,10 +84,17 @@ int main(void)
     const uint64_t code = 6561 + 729 + 2 * 243 + 27 + 9 + 3 + 2, operation = code * 1728 + 11 * 144 + 0 * 12 + 4;
     const int entries[9] = { 0, -1, 0, 1, -1, 0, 0, 0, 1 };
     const uint8_t sets[16] = { 0, 0, 255, 255, 255, 255, 255, 255, 128, 7, 6, 5, 4, 3, 2, 1 };
+    /* of a catalogue: 7 bytes taken and no line; 4,096 taken and a line with 48 operations; none taken and a line refused 1 at 80 */
+    const uint64_t none = 7, many = 4096 + UINT64_C(65536) * (1 + 48), over = UINT64_C(65536) * (1 + 256 * 1 + 80);
     unsigned i;
 
     check_refusals();
     check_sizes();
+    check("a list that passes", symmetry_check_kind(0), SYMMETRY_CHECK_YES);
+    check("entry 47 of a list", symmetry_check_kind(65536 + 47), SYMMETRY_CHECK_ENTRY);
+    check("its index", symmetry_check_detail(65536 + 47), 47);
+    check("a missing code", symmetry_check_kind(131072 + 19682), SYMMETRY_CHECK_MISSING);
+    check("the code", symmetry_check_detail(131072 + 19682), 19682);
     check("number of a refusal", symmetry_number(digit), 7);
     check("place of a refusal", symmetry_place(digit), 2);
     check("a refusal is refused", (uint64_t)symmetry_refused(digit), 1);
@@ -96,6 +113,14 @@ int main(void)
     check("z", symmetry_twelfths(operation, 2), 4);
     check("the first set", symmetry_set(sets, 0), UINT64_C(0x0000FFFFFFFFFFFF));
     check("the second set", symmetry_set(sets, 1), UINT64_C(0x8007060504030201));
+    check("bytes taken", symmetry_catalogue_taken(none), 7);
+    check("no line", (uint64_t)symmetry_catalogue_finished(none), 0);
+    check("all bytes taken", symmetry_catalogue_taken(many), 4096);
+    check("a line", (uint64_t)symmetry_catalogue_finished(many), 1);
+    check("its operations", symmetry_catalogue_answer(many), 48);
+    check("no bytes taken", symmetry_catalogue_taken(over), 0);
+    check("a last line", (uint64_t)symmetry_catalogue_finished(over), 1);
+    check("its refusal", symmetry_catalogue_answer(over), UINT64_C(0x0100000000000050));
     printf("%d passed, %d failed\n", passed, failed);
     return failed != 0;
 }

@@ -18,11 +18,12 @@ use Rattle.symbol_group.specs.declared.refusal.Refusal.{Refusal}
 use Rattle.symbol_group.specs.declared.Answer.{Answer}
 use Rattle.symbol_group.specs.declared.Answer.the-variants.{Group, Refused}
 use Rattle.group_record.specs.Items.{bytesOf, bytes-length, read-written, item-at}
-use Rattle.group_record.specs.Record.{itemWidth, editionNumber, totalLength, trailer, listedForm, written, recordOf}
+use Rattle.group_record.specs.Record.{itemWidth, editionNumber, totalLength, trailer, listedForm, writtenIn, recordIn, recordOf}
 use Rattle.group_record.specs.Groups.{Form, Listing}
 use Rattle.group_record.specs.ListedForm.{form-length, listed-form}
-use Rattle.group_record.specs.OneRecord.{operationBytes, operationIn, operation-wide, operation-again}
-use Rattle.group_record.specs.Copying.{roomFor, room-there, all-placed}
+use Rattle.group_record.specs.OneRecord.{operationBytes, operationIn, operation-wide, operation-again, record-length}
+use Rattle.group_record.specs.Places.{room-there, all-placed}
+use Rattle.group_record.specs.Copying.{roomFor}
 use Rattle.group_record.specs.AcceptedSymbols.{symbol-writable}
 use Rattle.group_record.specs.SymbolRecords.{textRecord, symbolRecordOf, symbolBufferOf}
 use Rattle.group_record.specs.declared.SymbolRecord.{SymbolRecord}
@@ -32,7 +33,7 @@ use Rattle.answer_text.specs.Text.{operationLine, groupText, refusalText
 use Rattle.answer_text.specs.Lines.{Plain, refusal-parts, lines-short}
 use Rattle.answer_text.specs.RecordLines.{operationsIn, AllPlain}
 use Rattle.answer_text.specs.Places.{place-small, number-small}
-use Rattle.answer_text.specs.Placing.{Put, put-front, put-named}
+use Rattle.placed_text.specs.Placing.{Put, put-front, put-named}
 use Rattle.answer_text.specs.declared.AnswerText.{AnswerText}
 
 -- Operations in the listed form have short words.
@@ -83,7 +84,7 @@ module _ (line : List ℕ) where
   enough-room : symbolAnswer line .answer ≡ Group → roomFor 0 (symbolAnswer line .count) 245 ≡ true
   enough-room a =
       let (few, there, listing) = symbol-writable line (symbolAnswer line) refl a in
-      room-there 0 (symbolAnswer line .count) 245 (omega arith) (omega arith)
+      room-there 0 (totalLength itemWidth (symbolAnswer line .count)) 245 (omega arith) (omega arith)
 
   -- What is answered, by the symbol's answer.
   told-by : (a : Answer) → symbolAnswer line .answer ≡ a → symbolRecordOf line zeros 0 ≡ toldBy a (symbolAnswer line .count)
@@ -152,10 +153,14 @@ module _ (line : List ℕ) where
     form : Form letter (listedForm letter listed)
     form = listed-form letter (writable .2)
 
-    -- The form has as many.
-    form-count : length (listedForm letter listed) ≡ symbolAnswer line .count
+    -- There are as many as counted,
+    listed-count : length listed ≡ symbolAnswer line .count
     unfolding listed
-    form-count = form-length letter listed ∙ length-take-le (symbolAnswer line .count) (symbolAnswer line .operations) (writable .1)
+    listed-count = length-take-le (symbolAnswer line .count) (symbolAnswer line .operations) (writable .1)
+
+    -- and the form has as many.
+    form-count : length (listedForm letter listed) ≡ symbolAnswer line .count
+    form-count = form-length letter listed ∙ listed-count
 
     -- The text is that of the letter and the form.
     group-answer : groupText letter (listedForm letter listed) ≡ answerOf line
@@ -179,10 +184,10 @@ module _ (line : List ℕ) where
 
       placed : symbolBufferOf line zeros 0 ≡ recordOf letter listed ++ drop (0 + totalLength itemWidth (symbolAnswer line .count)) zeros
       unfolding symbolBufferOf textRecord letter listed
-      placed = rw a (all-placed zeros 0 (symbolAnswer line .count) (recordOf (symbolAnswer line .centering) (take (symbolAnswer line .count) (symbolAnswer line .operations))) (enough-room a))
+      placed = rw a (all-placed zeros 0 (totalLength itemWidth (symbolAnswer line .count)) (recordOf letter listed) (record-length letter listed ∙ ap (totalLength itemWidth) listed-count) (enough-room a))
 
       split : bytes ≡ bytesOf operationBytes (listedForm letter listed) ++ (byteOf letter ∷ behind)
-      unfolding recordOf written trailer behind
+      unfolding recordOf recordIn writtenIn trailer behind
       split = p ∙ placed ∙ append-assoc (bytesOf operationBytes (listedForm letter listed)) (trailer itemWidth editionNumber letter (length (listedForm letter listed))) (drop (0 + totalLength itemWidth (symbolAnswer line .count)) zeros)
 
       pub group-few : n ≤ 48

@@ -10,4 +10,3 @@ pub mod Lines
 pub mod RecordLines
 pub mod Places
 pub mod Answering
-pub mod Placing

@@ -11,10 +11,10 @@ use Rattle.operation.specs.declared.Operation.{Operation}
 use Rattle.group_record.specs.Items.{itemsIn, items-length, item-at, bytesOf, bytes-append}
 use Rattle.group_record.specs.Record.{itemWidth}
 use Rattle.group_record.specs.OneRecord.{operationIn}
-use Rattle.group_record.specs.Parts.{tail-part}
+use Rattle.laws.specs.LentParts.{tail-part}
 use Rattle.answer_text.specs.Text.{operationLine}
 use Rattle.answer_text.specs.Lines.{Plain}
-use Rattle.answer_text.specs.Placing.{Put, put-nothing, put-then, put-named}
+use Rattle.placed_text.specs.Placing.{Put, put-nothing, put-then, put-named}
 
 -- The first n operations of a record.
 abbrev pub operationsIn : ℕ → List ℕ → List Operation

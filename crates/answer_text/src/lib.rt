@@ -11,7 +11,7 @@ ghost use Rattle.group_record.specs.Items.{bytesOf};
 ghost use Rattle.answer_text.specs.Words.{newline, decimal, lineOf};
 ghost use Rattle.answer_text.specs.Text.{operationLine, refusalText, answerOf, textAnswer};
 ghost use Rattle.answer_text.specs.RecordLines.{AllPlain, operationsIn};
-ghost use Rattle.answer_text.specs.Placing.{Put};
+ghost use Rattle.placed_text.specs.Placing.{Put};
 use group_record::SymbolRecord;
 use group_record::symbol::write_record;
 use operations::put_operations;

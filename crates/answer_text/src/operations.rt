@@ -7,7 +7,7 @@ ghost use Rattle.group_record.specs.OneRecord.{operationIn};
 ghost use Rattle.answer_text.specs.Text.{operationLine};
 ghost use Rattle.answer_text.specs.Lines.{Plain, rowWords};
 ghost use Rattle.answer_text.specs.RecordLines.{AllPlain, operationsIn};
-ghost use Rattle.answer_text.specs.Placing.{Put};
+ghost use Rattle.placed_text.specs.Placing.{Put};
 use super::placing::put_entry;
 use super::placing::put_number;
 use operation::Operation;

@@ -4,7 +4,7 @@ ghost use Prim.Native.Nat.{_+_, _≤_, _<_};
 ghost use lib.ListN.{length};
 ghost use Rattle.operation.specs.Meaning.{entryOf};
 ghost use Rattle.answer_text.specs.Words.{space, decimal, signed};
-ghost use Rattle.answer_text.specs.Placing.{Put};
+ghost use Rattle.placed_text.specs.Placing.{Put};
 
 pub(crate) fn put_bytes(out: &mut [u8], at: usize, bytes: &[u8]) -> usize
     requires { ⌜ at + length (now bytes) ≤ length (now out) ⌝ }

@@ -3,5 +3,10 @@ pub mod Packing
 pub mod Answers
 pub mod SymbolBounds
 pub mod RecordBounds
+pub mod ListBounds
 pub mod TableBounds
 pub mod MotionBounds
+pub mod LineBounds
+pub mod Catalogues
+pub mod CatalogueState
+pub mod CatalogueBounds

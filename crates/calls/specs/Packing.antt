@@ -36,6 +36,12 @@ pub record Told (number place : ℕ) : Type 0 where
   pub one-byte : number ≤ 255
   pub low : place < topByte
 
+-- A symbol's refusal: its number is one byte, and its place at most 80.
+pub record Close (number place : ℕ) : Type 0 where
+  pub some : 1 ≤ number
+  pub one-byte : number ≤ 255
+  pub at-most : place ≤ 80
+
 -- The places of R8 are at most 80.
 pub near : {number place : ℕ} → 1 ≤ number → number ≤ 255 → place ≤ 80 → Told number place
 near some one-byte low = record { some = some; one-byte = one-byte; low = omega arith }

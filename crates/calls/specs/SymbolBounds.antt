@@ -37,25 +37,29 @@ use Rattle.group_record.specs.Copying.{roomFor}
 use Rattle.group_record.specs.SymbolRecords.{writtenBy, symbolRecordOf, symbolRecordAnswer}
 use Rattle.group_record.specs.declared.SymbolRecord.the-variants.{Written, NoRoom}
 use Rattle.calls.specs.Answers.{letterBy, letterAnswer}
-use Rattle.calls.specs.Packing.{Told, near, Within, Low, AnyLetter}
+use Rattle.calls.specs.Packing.{Told, Close, near, Within, Low, AnyLetter}
 
 -- ---- places
--- 1 to 11: numbers and places of a text are small.
-text-told : (bytes : List ℕ) (r : text-refusal.Refusal) → Refuses bytes r → Told (text.numberOf r) (text.placeOf r)
-text-told bytes r h =
+-- 1 to 11 and 17: numbers and places of a text are small.
+text-close : (bytes : List ℕ) (r : text-refusal.Refusal) → Refuses bytes r → Close (text.numberOf r) (text.placeOf r)
+text-close bytes r h =
     let (some, few) = number-range r in
-    near (omega arith) (omega arith) (place-within bytes r h)
+    record { some = omega arith; one-byte = omega arith; at-most = place-within bytes r h }
 
 -- 12 at a generator's index, of which there are at most nine; 13 and 14 at 0.
-pub symbol-told : (bytes : List ℕ) (r : Refusal) → symbolAnswer bytes .answer ≡ Refused r → Told (numberOf r) (placeOf r)
-symbol-told bytes (Text r) e = text-told bytes r (text-exactly bytes r .0 e)
-symbol-told bytes (NoGroup (Lattice i)) e =
+pub symbol-close : (bytes : List ℕ) (r : Refusal) → symbolAnswer bytes .answer ≡ Refused r → Close (numberOf r) (placeOf r)
+symbol-close bytes (Text r) e = text-close bytes r (text-exactly bytes r .0 e)
+symbol-close bytes (NoGroup (Lattice i)) e =
     let (c, gens, spells, off) = lattice-exactly bytes i .0 e in
     let (low, high) = symbol-count bytes c gens spells in
     let within = off .within in
-    near (omega arith) (omega arith) (omega arith)
-symbol-told bytes (NoGroup Rotations) e = near (omega arith) (omega arith) (omega arith)
-symbol-told bytes (NoGroup Translations) e = near (omega arith) (omega arith) (omega arith)
+    record { some = omega arith; one-byte = omega arith; at-most = omega arith }
+symbol-close bytes (NoGroup Rotations) e = record { some = omega arith; one-byte = omega arith; at-most = omega arith }
+symbol-close bytes (NoGroup Translations) e = record { some = omega arith; one-byte = omega arith; at-most = omega arith }
+
+-- So they can be told.
+pub symbol-told : (bytes : List ℕ) (r : Refusal) → symbolAnswer bytes .answer ≡ Refused r → Told (numberOf r) (placeOf r)
+symbol-told bytes r e = let h = symbol-close bytes r e in near (h .some) (h .one-byte) (h .at-most)
 
 -- ---- the order
 -- By the answer of the symbol's group: at most 48, or its refusal.

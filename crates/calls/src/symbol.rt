@@ -7,11 +7,10 @@ ghost use Rattle.symbol_group.specs.Refusals.{numberOf, placeOf};
 ghost use Rattle.group_record.specs.SymbolRecords.{symbolRecordAnswer, symbolRecordOf, symbolBufferOf};
 ghost use Rattle.calls.specs.Answers.{letterAnswer};
 ghost use Rattle.calls.specs.Packing.{topByte, packed, mapped, operationNumber, Told};
+use super::packing::operation_number;
 use super::packing::refused;
 use group_record::SymbolRecord;
 use group_record::symbol::write_record;
-use operation::Operation;
-use operation::code::rotation_code;
 use symbol_group::Answer;
 use symbol_group::SymbolGroup;
 use symbol_group::SymbolOperation;
@@ -69,12 +68,4 @@ fn refused_symbol(refusal: Refusal) -> u64
     ensures { λ r. ⌜ r ≡ numberOf refusal * topByte + placeOf refusal ⌝ }
 {
     refused(refusal.number(), refusal.place())
-}
-
-fn operation_number(o: Operation) -> u64
-    ensures { λ r. ⌜ r ≡ operationNumber o ⌝ }
-{
-    let r = o.rotation;
-    let t = o.translation;
-    (rotation_code(r) as u64) * 1728 + (t.x as u64) * 144 + (t.y as u64) * 12 + t.z as u64
 }

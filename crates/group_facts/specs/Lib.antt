@@ -5,3 +5,5 @@ pub mod Asked
 pub mod Composition
 -- Counts that fit.
 pub mod Counts
+-- Lists that passed are one record.
+pub mod PassedLists

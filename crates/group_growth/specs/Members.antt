@@ -1,12 +1,13 @@
 -- The list that is answered, member by member: the unit first, each generated key once and nothing else; by their forms, any product and an inverse of
--- each member are listed, up to what is alike. The idea of the inverse: a multiplication of the finitely many keys that cancels is onto.
+-- each member are listed, up to what is alike.
 use mathlib.Core.Path.{subst}
 use mathlib.Core.List.{List, map, List·Memᴰ as Mem, Memᴰ·map as mem-map, Memᴰ·of-map as mem-of-map}
 use Prim.Native.Nat.{ℕ, _≤_}
 use lib.Dec.{T}
 use lib.ListN.{length}
-use Rattle.laws.specs.Distinct.{has, Distinct, has-member, Injective, injection-onto}
+use Rattle.laws.specs.Distinct.{Distinct, has-member}
 use Rattle.laws.specs.Closure.{start, closure-length, ListsReached, reached-product, reached-ok}
+use Rattle.laws.specs.Keyed.{key-inverse-left, key-inverse-right}
 use Rattle.group_growth.specs.Growing.{Growing, OkGenerators, Generated}
 use Rattle.group_growth.specs.Acceptance.{Whole, key-kept, lists, one-to-key}
 use Rattle.group_growth.specs.Forms.{Forms, distinct-forms}
@@ -44,33 +45,13 @@ module _ (S : Growing) (gens : List (S .Element)) (ok : OkGenerators S gens) whe
     pub one-class : (x y : Element) → Generated S gens x → Generated S gens y → T (same x y) → Alike x y
     one-class = one-to-key S gens ok limit l (W .is-listing) (W .one)
 
-    -- Each generated element has a generated left inverse,
+    -- Each generated element has a generated left inverse, by key,
     left-inverse : (y : Element) → Generated S gens y → (x : Element) × Generated S gens x × T (same (product x y) unit)
-    left-inverse y r =
-        let (z, m, s) = has-member same unit (map (λ x. product x y) l) onto in
-        let (x, k, p) = mem-of-map (λ x. product x y) l m in
-        (x, reached .sound x k, keyed .key-equivalence .symmetric unit (product x y) (rw p s))
-      where
-        injective : Injective same (λ x. product x y) l
-        injective x z m k s = keyed .key-cancel x z y (generated-ok x (reached .sound x m)) (generated-ok z (reached .sound z k)) (generated-ok y r) s
+    left-inverse = key-inverse-left same Alike Ok product unit keyed gens ok reached
 
-        into : (x : Element) → Mem x l → T (has same (product x y) l)
-        into x m = reached .complete (product x y) (generated-product x y (reached .sound x m) r)
-
-        onto : T (has same unit (map (λ x. product x y) l))
-        onto = injection-onto same (keyed .key-equivalence) (λ x. product x y) l injective (reached .distinct) into unit (reached .complete unit start)
-
-    -- which is a right inverse: (y · x) · y is y · (x · y), that is y · 1, that is 1 · y, and y cancels.
+    -- which is a right inverse.
     other-side : (y x : Element) → Generated S gens y → Generated S gens x → T (same (product x y) unit) → T (same (product y x) unit)
-    other-side y x r t p =
-        let M = keyed in
-        let ok-y = generated-ok y r in
-        let ok-x = generated-ok x t in
-        let ok-yx = generated-ok (product y x) (generated-product y x r t) in
-        let ok-xy = generated-ok (product x y) (generated-product x y t r) in
-        let around = M .key-left y (product x y) unit ok-y ok-xy (M .monoid .ok-unit) p in
-        M .key-cancel (product y x) unit y ok-yx (M .monoid .ok-unit) ok-y
-        (rw (M .monoid .associative y x y ok-y ok-x ok-y, M .monoid .left-unit y ok-y) (rw (M .monoid .right-unit y ok-y) at around))
+    other-side = key-inverse-right same Alike Ok product unit keyed gens ok
 
     -- ---- their forms
     module _ (F : Forms S) where

@@ -5,7 +5,15 @@ use Prim.Native.Nat.{ℕ, zero, suc, _+_, _*_, _≤_, _<_}
 use native.Mathlib.Omega.{arith}
 use native.Mathlib.Nat.{mul-zero}
 use lib.ListN.{length, getD, take, drop, length-append, length-drop}
-use lib.Seq.{drop-drop, drop-at, take-add}
+use lib.Seq.{drop-drop, drop-at, take-add, getD-drop}
+
+-- Every number of a buffer is a byte.
+abbrev pub Bytes : List ℕ → Type 0
+Bytes bytes = (i : ℕ) → getD bytes i 0 < 256
+
+-- What is left of bytes is bytes.
+pub bytes-left : (k : ℕ) (bytes : List ℕ) → Bytes bytes → Bytes (drop k bytes)
+bytes-left k bytes g i = rw (getD-drop k bytes i 0) (g (k + i))
 
 -- ---- reading
 module _ {A : Type 0} (width : ℕ) (read : List ℕ → A) where
@@ -52,7 +60,8 @@ module _ {A : Type 0} (width : ℕ) (write : A → List ℕ) (wide : (a : A) →
 
   module _ (read : List ℕ → A) where
     -- What was written is read, whatever follows it.
-    pub read-written : (l : List A) (rest : List ℕ) → ((a : A) (more : List ℕ) → Mem a l → read (write a ++ more) ≡ a) → itemsIn width read (length l) (bytesOf write l ++ rest) ≡ l
+    pub read-written : (l : List A) (rest : List ℕ) → ((a : A) (more : List ℕ) → Mem a l → read (write a ++ more) ≡ a)
+        → itemsIn width read (length l) (bytesOf write l ++ rest) ≡ l
     unfolding itemsIn bytesOf
     read-written [] rest back = refl
     read-written (a ∷ l) rest back =
@@ -60,13 +69,16 @@ module _ {A : Type 0} (width : ℕ) (write : A → List ℕ) (wide : (a : A) →
         (ap₂ (λ (b : A) (r : List A). b ∷ r) (back a (bytesOf write l ++ rest) (here refl))
         (ap (itemsIn width read (length l)) (drop-at (write a) (bytesOf write l ++ rest) width (wide a)) ∙ read-written l rest (λ b more m. back b more (there m))))
 
-    -- What was read is written as the bytes it was read from.
-    pub written-read : (Good : List ℕ → Type 0) → ((bytes : List ℕ) → Good bytes → Good (drop width bytes)) → (n : ℕ) (bytes : List ℕ) → Good bytes → ((b : List ℕ) → Good b → width ≤ length b → write (read b) ≡ take width b) → width * n ≤ length bytes → bytesOf write (itemsIn width read n bytes) ≡ take (width * n) bytes
+    -- What was read is written as the bytes it was read from, where each item fits.
+    pub written-read : (Fits : A → Type 0) → ((b : List ℕ) → Bytes b → width ≤ length b → Fits (read b) → write (read b) ≡ take width b)
+        → (n : ℕ) (bytes : List ℕ) → Bytes bytes → width * n ≤ length bytes → ((a : A) → Mem a (itemsIn width read n bytes) → Fits a)
+        → bytesOf write (itemsIn width read n bytes) ≡ take (width * n) bytes
     unfolding itemsIn bytesOf
-    written-read Good on zero bytes g forth h = rw (mul-zero width) refl
-    written-read Good on (suc n) bytes g forth h =
+    written-read Fits forth zero bytes g h fit = rw (mul-zero width) refl
+    written-read Fits forth (suc n) bytes g h fit =
         let first : width ≤ length bytes = omega arith in
         let after : width * n ≤ length (drop width bytes) = rw (length-drop width bytes) (omega arith) in
         let whole : width + width * n ≡ width * suc n = omega arith in
-        ap₂ _++_ (forth bytes g first) (written-read Good on n (drop width bytes) (on bytes g) forth after)
+        ap₂ _++_ (forth bytes g first (fit (read bytes) (here refl)))
+        (written-read Fits forth n (drop width bytes) (bytes-left width bytes g) after (λ a m. fit a (there m)))
         ∙ sym (take-add width (width * n) bytes) ∙ ap (λ (k : ℕ). take k bytes) whole

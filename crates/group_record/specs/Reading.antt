@@ -1,30 +1,38 @@
--- How a buffer is read, by R5 and R8: the record that ends where the buffer ends, or the first refusal of 30 to 35 that applies.
-use mathlib.Core.Bool.{Bool, false, cond, _&&_}
-use mathlib.Core.List.{List, _++_, map}
-use Prim.Native.Nat.{ℕ, _+_, _*_, _-_}
-use lib.Dec.{ltb, leb, eqb}
-use lib.ListN.{length, getD, drop, replicate, take}
+-- How a buffer is read: which items are those of a record and which groups it may hold, the readings that ask this for any editions and letters,
+-- and the reading of edition 1 with the letters of the lattices. Its answers, by refusal and in numbers.
+use mathlib.Core.Path.{_≡_, refl, _∙_, ap}
+use mathlib.Core.Logic.{_↔_}
+use mathlib.Core.Bool.{Bool, true, false, cond, _&&_}
+use mathlib.Core.List.{List, [], _++_, map}
+use mathlib.Core.Option.{Option, none, some}
+use Prim.Native.Nat.{ℕ, _-_, _≤_}
+use native.Mathlib.Omega.{arith}
+use lib.Dec.{ltb, eqb}
+use borrow.Author.Tests.{eqb-true}
+use lib.ListN.{length, replicate, take}
 use Rattle.laws.specs.Distinct.{has}
 use Rattle.laws.specs.Lattice.{all, sameTriple, belowTwelve}
 use Rattle.laws.specs.Sorted.{ascending}
 use Rattle.operation.specs.Answer.{Answer, given, refused, Nothing}
-use Rattle.operation.specs.Code.{decodedOf}
 use Rattle.operation.specs.Product.{identityOperation, productOf}
 use Rattle.operation.specs.declared.Operation.{Operation}
-use Rattle.operation.specs.declared.Rotation.{Rotation}
-use Rattle.operation.specs.declared.code.Decoded.{Decoded}
-use Rattle.operation.specs.declared.code.Decoded.the-variants.{Inside as CodeInside, Outside as CodeOutside}
 use Rattle.operation.specs.declared.product.Product.{Product}
 use Rattle.operation.specs.declared.product.Product.the-variants.{Inside, Outside}
-use Rattle.centering.specs.Letters.{letterOf}
+use Rattle.centering.specs.Letters.{letters, byteOf, letterOf}
+use Rattle.centering.specs.LatticeLaws.{letter-by-byte, letter-byte}
 use Rattle.centering.specs.Lattices.{tripleOf, smallestOf, congruentOf}
 use Rattle.centering.specs.Keeps.{keepsOf}
 use Rattle.centering.specs.declared.Centering.{Centering}
 use Rattle.centering.specs.declared.Centering.the-variants.{P}
 use Rattle.centering.specs.declared.Letter.{Letter}
 use Rattle.centering.specs.declared.Letter.the-variants.{Is, None}
-use Rattle.group_record.specs.Items.{itemsIn}
-use Rattle.group_record.specs.Record.{Item, itemOf, itemWidth, editionNumber, totalLength}
+use Rattle.group_record.specs.Editions.{Edition, totalLength}
+use Rattle.group_record.specs.Rules.{Spelled, Rules, Told, holds, toldBy}
+use Rattle.group_record.specs.Rules.{refused as not-held}
+use Rattle.group_record.specs.OperationItems.{Item, itemOf, InRange}
+unfoldable pub use Rattle.group_record.specs.OperationItems.{operationOfItem, rotationOfDecoded}
+unfoldable pub use Rattle.group_record.specs.FirstEdition.{itemIn}
+use Rattle.group_record.specs.FirstEdition.{firstEdition}
 use Rattle.group_record.specs.declared.Refusal.{Refusal}
 use Rattle.group_record.specs.declared.Refusal.the-variants.{NoRoom, Short, WrongEdition, WrongLetter, WrongLength, WrongItem, NotAllowed}
 use Rattle.group_record.specs.declared.Reading.{Reading}
@@ -79,23 +87,6 @@ unfoldable pub refusedGroup : Refusal → RecordGroup
 refusedGroup r = record { answer = Refused r; centering = P; count = 0; operations = replicate 48 identityOperation }
 
 -- ---- items
--- The item of the first five bytes.
-unfoldable pub itemIn : List ℕ → Item
-itemIn bytes =
-    record {
-      code = getD bytes 0 0 * 256 + getD bytes 1 0;
-      translation = record { x = getD bytes 2 0; y = getD bytes 3 0; z = getD bytes 4 0 };
-    }
-
--- The rotation of a code; a code over 19682 has none, and gives the identity.
-abbrev pub rotationOfDecoded : Decoded → Rotation
-rotationOfDecoded (CodeInside r) = r
-rotationOfDecoded CodeOutside = identityOperation .rotation
-
--- The operation that an item stands for.
-unfoldable pub operationOfItem : Item → Operation
-operationOfItem i = record { rotation = rotationOfDecoded (decodedOf (i .code)); translation = i .translation }
-
 -- Refusal 34 is given unless each code is at most 19682, each coordinate at most 11, each triple the smallest of its class, and codes ascend.
 unfoldable pub isItem : Centering → Item → Bool
 isItem c i =
@@ -135,37 +126,90 @@ memberAllowed c items i = keepsItem c i && all (pairListed c items i) items
 unfoldable pub isAllowed : Centering → List Item → Bool
 isAllowed c items = has (alikeItems c) (itemOf identityOperation) items && all (memberAllowed c items) items
 
--- ---- the reading, refusal by refusal
--- 34, then 35.
-unfoldable pub readItems : Centering → List Item → RecordGroup
-readItems c items =
-    cond (areItems c items)
-    (cond (isAllowed c items) (acceptedGroup c (map operationOfItem items)) (refusedGroup NotAllowed))
-    (refusedGroup WrongItem)
+-- ---- readings
+-- A reading of groups of operations: the least length, the editions, the letters with their bytes and lattices, and a further rule for the operations
+-- under a letter (behind 35). Every edition can say what is in range, and items ascend by code.
+pub record GroupReading (Sign Kind : Type 0) : Type 1 where
+  pub least : ℕ
+  pub edition : Kind → Edition Item
+  pub editions : Spelled (λ (k : Kind). edition k .number)
+  pub byte : Sign → ℕ
+  pub signs : Spelled byte
+  pub lattice : Sign → Centering
+  pub further : Sign → List Operation → Bool
+  pub Further : Sign → List Operation → Type 0
+  pub further-test : (c : Sign) (l : List Operation) → (further c l ≡ true) ↔ Further c l
+  pub in-range : (k : Kind) (i : Item) → InRange i → edition k .Fits i
+  pub by-code : (k : Kind) (i : Item) → edition k .key i ≡ i .code
+  pub trailer-there : 5 ≤ least
+  pub long-enough : (k : Kind) → least ≤ totalLength (edition k .width) 1
 
--- The byte that stands k places before the end.
-unfoldable pub fromEnd : List ℕ → ℕ → ℕ
-fromEnd bytes k = getD bytes (length bytes - k) 0
+-- Its rules: 1 to 48 operations, 34 and 35 as above, and the further rule.
+abbrev pub rulesOf : {Sign Kind : Type 0} → GroupReading Sign Kind → Rules Item Sign Kind
+rulesOf G =
+    record {
+      least = G .least;
+      edition = G .edition;
+      editions = G .editions;
+      byte = G .byte;
+      letters = G .signs;
+      limit = 48;
+      isItem = λ c. isItem (G .lattice c);
+      isAllowed = λ c items. isAllowed (G .lattice c) items && G .further c (map operationOfItem items);
+    }
 
--- 1 to 48 operations, and the stated length right and within the buffer.
-unfoldable pub lengthFits : ℕ → ℕ → ℕ → Bool
-lengthFits n stated size =
-    leb 1 n && (leb n 48 && (eqb stated (totalLength itemWidth n) && leb (totalLength itemWidth n) size))
+-- ---- the reading of edition 1
+-- The letter that a byte spells.
+abbrev pub letterIn : Letter → Option Centering
+letterIn (Is c) = some c
+letterIn None = none
 
--- 33, then the items.
-unfoldable pub readCounted : Centering → ℕ → List ℕ → RecordGroup
-readCounted c n bytes =
-    cond (lengthFits n (fromEnd bytes 2 * 256 + fromEnd bytes 1) (length bytes))
-    (readItems c (itemsIn itemWidth itemIn n (drop (length bytes - totalLength itemWidth n) bytes)))
-    (refusedGroup WrongLength)
+-- A byte that spells a letter is its byte.
+pub spelled-letter : (b : ℕ) (c : Centering) (a : Letter) → letterOf b ≡ a → letterIn a ≡ some c → b ≡ byteOf c
+spelled-letter b c (Is d) e q = let same : d ≡ c = cc in letter-byte b d e ∙ ap byteOf same
+spelled-letter b c None e q = let z : _≡_ {A = ℕ} 0 1 = cc in absurd (omega arith)
 
--- 32, then count and length.
-unfoldable pub readLettered : Letter → List ℕ → RecordGroup
-readLettered (Is c) bytes = readCounted c (fromEnd bytes 3) bytes
-readLettered None bytes = refusedGroup WrongLetter
+-- The letters of the lattices.
+abbrev pub latticeLetters : Spelled byteOf
+latticeLetters =
+    record { from = λ b. letterIn (letterOf b); there = λ c. ap letterIn (letter-by-byte c); back = λ b c e. spelled-letter b c (letterOf b) refl e }
 
--- 30, then 31, then the letter.
+-- One edition.
+abbrev pub oneNumber : ℕ → ℕ → Option (Unit {0})
+oneNumber number b = cond (eqb b number) (some tt) none
+
+pub one-number : (number b : ℕ) (k : Unit {0}) → oneNumber number b ≡ some k → b ≡ number
+one-number number b k e = go (eqb b number) refl e
+  where
+    go : (t : Bool) → eqb b number ≡ t → cond t (some tt) none ≡ some k → b ≡ number
+    go true q p = eqb-true b number q
+    go false q p = let z : _≡_ {A = ℕ} 0 1 = cc in absurd (omega arith)
+
+abbrev pub firstReading : GroupReading Centering (Unit {0})
+firstReading =
+    record {
+      least = 10;
+      edition = λ k. firstEdition;
+      editions = record { from = oneNumber 1; there = λ k. refl; back = one-number 1 };
+      byte = byteOf;
+      signs = latticeLetters;
+      lattice = λ c. c;
+      further = λ c l. true;
+      Further = λ c l. Unit {0};
+      further-test = λ c l. ((λ e. tt), λ u. refl);
+      in-range = λ k i h. tt;
+      by-code = λ k i. refl;
+      trailer-there = omega arith;
+      long-enough = λ k. omega arith;
+    }
+
+abbrev pub firstRules : Rules Item Centering (Unit {0})
+firstRules = rulesOf firstReading
+
+-- What is told, as the reader hands it back.
+abbrev pub groupOf : Told Item Centering (Unit {0}) → RecordGroup
+groupOf (not-held r) = refusedGroup r
+groupOf (holds k c items) = acceptedGroup c (map operationOfItem items)
+
 unfoldable pub readOf : List ℕ → RecordGroup
-readOf bytes =
-    cond (ltb (length bytes) 10) (refusedGroup Short)
-    (cond (eqb (fromEnd bytes 4) editionNumber) (readLettered (letterOf (fromEnd bytes 5)) bytes) (refusedGroup WrongEdition))
+readOf bytes = groupOf (toldBy firstRules bytes)

@@ -1,56 +1,37 @@
--- The bytes of a record, by R5: five bytes an operation, ascending by code, each translation the smallest of its class; then the trailer.
-use mathlib.Core.Path.{_≡_}
+-- The bytes of a record: each operation by its item, ascending by code, each translation the smallest of its class; then the trailer.
+-- In any edition and under any letter's byte; the record itself is edition 1 under its lattice's letter.
 use mathlib.Core.Bool.{Bool}
-use mathlib.Core.List.{List, [], _∷_, _++_, map}
-use Prim.Native.Nat.{ℕ, _+_, _*_, _/_, _%_}
+use mathlib.Core.List.{List, _++_, map}
+use Prim.Native.Nat.{ℕ}
 use lib.Dec.{ltb}
 use lib.ListN.{length}
 use Rattle.laws.specs.Sorted.{sort}
 use Rattle.operation.specs.Code.{codeOf}
 use Rattle.operation.specs.declared.Operation.{Operation}
-use Rattle.operation.specs.declared.Translation.{Translation}
 use Rattle.centering.specs.Letters.{byteOf}
 use Rattle.centering.specs.Lattices.{smallestOf}
 use Rattle.centering.specs.declared.Centering.{Centering}
 use Rattle.group_record.specs.Items.{bytesOf}
+pub use Rattle.group_record.specs.Editions.{totalLength}
+use Rattle.group_record.specs.Editions.{Edition, trailerBytes}
+pub use Rattle.group_record.specs.OperationItems.{Item, item≡, itemOf}
+unfoldable pub use Rattle.group_record.specs.FirstEdition.{itemWidth, editionNumber, itemBytes}
+use Rattle.group_record.specs.FirstEdition.{firstEdition}
 
--- What a record says of one operation: the code of its rotation, and a translation.
-pub record Item : Type 0 where
-  pub code : ℕ
-  pub translation : Translation
-
--- Items are equal where their parts are.
-pub item≡ : {i j : Item} → i .code ≡ j .code → i .translation ≡ j .translation → i ≡ j
-item≡ p q = λ k. record { code = p k; translation = q k }
-
--- The item of an operation.
-abbrev pub itemOf : Operation → Item
-itemOf f = record { code = codeOf (f .rotation); translation = f .translation }
-
--- Five bytes an operation, in edition 1.
-abbrev pub itemWidth : ℕ
-itemWidth = 5
-
--- The edition.
-abbrev pub editionNumber : ℕ
-editionNumber = 1
-
--- The code, high byte first, then x y z.
-unfoldable pub itemBytes : Item → List ℕ
-itemBytes i = i .code / 256 ∷ i .code % 256 ∷ i .translation .x ∷ i .translation .y ∷ i .translation .z ∷ []
-
--- The trailer: letter, edition, count, total length (high byte first), itself included.
-abbrev pub totalLength : ℕ → ℕ → ℕ
-totalLength width n = width * n + 5
-
--- The trailer's five bytes.
+-- ---- the bytes
+-- The trailer of n operations under a lattice's letter.
 unfoldable pub trailer : ℕ → ℕ → Centering → ℕ → List ℕ
-trailer width edition c n = byteOf c ∷ edition ∷ n ∷ totalLength width n / 256 ∷ totalLength width n % 256 ∷ []
+trailer width edition c n = trailerBytes width edition (byteOf c) n
 
 -- The bytes of operations as they stand, and of the trailer after them.
-unfoldable pub written : Centering → List Operation → List ℕ
-written c l = bytesOf (λ f. itemBytes (itemOf f)) l ++ trailer itemWidth editionNumber c (length l)
+unfoldable pub writtenIn : Edition Item → ℕ → List Operation → List ℕ
+writtenIn E letter l = bytesOf (λ f. E .write (itemOf f)) l ++ trailerBytes (E .width) (E .number) letter (length l)
 
+-- In edition 1.
+unfoldable pub written : Centering → List Operation → List ℕ
+written c l = writtenIn firstEdition (byteOf c) l
+
+-- ---- the operations
 -- An operation with the smallest triple of its translation's class.
 unfoldable pub smallestOperation : Centering → Operation → Operation
 smallestOperation c f = record { rotation = f .rotation; translation = smallestOf c (f .translation) }
@@ -63,6 +44,11 @@ beforeByCode f g = ltb (codeOf (f .rotation)) (codeOf (g .rotation))
 unfoldable pub listedForm : Centering → List Operation → List Operation
 listedForm c l = sort beforeByCode (map (smallestOperation c) l)
 
--- The record of a group: of its letter and its operations in any order, with any translations modulo L.
+-- ---- the record
+-- The record of a group: of its operations in any order, with any translations modulo L.
+unfoldable pub recordIn : Edition Item → ℕ → Centering → List Operation → List ℕ
+recordIn E letter c l = writtenIn E letter (listedForm c l)
+
+-- In edition 1, under its lattice's letter.
 unfoldable pub recordOf : Centering → List Operation → List ℕ
-recordOf c l = written c (listedForm c l)
+recordOf c l = recordIn firstEdition (byteOf c) c l

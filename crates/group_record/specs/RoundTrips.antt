@@ -1,12 +1,12 @@
--- What was written reads back as the same group, and what was read is written as the same bytes. Both follow from the rules of the reading and from the listed form.
-use mathlib.Core.Path.{_≡_, refl, sym, _∙_, ap, subst, ap₂}
+-- What was written reads back as the same group, and what was read is written as the same bytes.
+-- Both follow from the rules of the reading and from the listed form.
+use mathlib.Core.Path.{_≡_, refl, sym, _∙_, ap, subst}
 use mathlib.Core.Logic.{_↔_}
 use mathlib.Core.List.{List, _++_, map, List·Memᴰ as Mem, Memᴰ·map as mem-map, Memᴰ·of-map as mem-of-map, Memᴰ·cast as mem-cast}
 use Prim.Native.Nat.{ℕ, _-_, _≤_}
 use native.Mathlib.Omega.{arith}
 use lib.ListN.{length, take, length-map, length-append, replicate, drop}
 use lib.Seq.{take-at, drop-at, length-take-le}
-use Rattle.group_record.specs.OneRecord.{written-length}
 use Rattle.laws.specs.Motion.{SpaceMotion, compose}
 use Rattle.operation.specs.Answer.{given}
 use Rattle.operation.specs.Composed.{identity-motion}
@@ -14,23 +14,30 @@ use Rattle.operation.specs.Meaning.{motionOf}
 use Rattle.operation.specs.Product.{identityOperation}
 use Rattle.operation.specs.declared.Operation.{Operation}
 use Rattle.centering.specs.declared.Centering.{Centering}
-use Rattle.group_record.specs.Record.{smallestOperation, listedForm, written, recordOf, itemWidth, totalLength}
-use Rattle.group_record.specs.Reading.{readOf, acceptedGroup, refusedGroup, slots, groupAnswer}
+use Rattle.group_record.specs.Items.{Bytes}
+use Rattle.group_record.specs.OperationItems.{Item, itemOf, operationOfItem}
+use Rattle.group_record.specs.FirstEdition.{itemWidth}
+use Rattle.group_record.specs.Record.{totalLength, smallestOperation, listedForm, writtenIn, written, recordIn, recordOf}
+use Rattle.group_record.specs.Rules.{Told, holds, toldBy}
+use Rattle.group_record.specs.Rules.{refused as not-held}
+use Rattle.group_record.specs.Reading.{GroupReading, rulesOf, firstReading, firstRules, groupOf, readOf, acceptedGroup, refusedGroup, slots, groupAnswer}
 use Rattle.group_record.specs.Groups.{Alike, InSet, Allowed, Listing, Form}
 use Rattle.group_record.specs.ListedForm.{form-member, member-form, form-length, listed-form, form-listing, form-again, alike-symmetric, alike-transitive, smallest-alike}
+use Rattle.group_record.specs.OneRecord.{operations-of-items, record-length}
 use Rattle.group_record.specs.GroupLaws.{SpaceGroup, allowed-group, compose-alike, identity-listed}
 use Rattle.group_record.specs.ReadingTests.{origin-smallest}
-use Rattle.group_record.specs.Acceptance.{Bytes, Outcome, too-short, wrong-edition, wrong-letter, wrong-length, wrong-item, not-allowed, accepted, read-outcome, outcome-read}
-use Rattle.group_record.specs.declared.Reading.the-variants.{Accepted}
-use Rattle.group_record.specs.declared.Reading.the-variants.{Refused}
-use Rattle.group_record.specs.declared.Refusal.{Refusal}
-use Rattle.group_record.specs.declared.Refusal.the-variants.{Short, WrongEdition, WrongLetter, WrongLength, WrongItem, NotAllowed}
+use Rattle.group_record.specs.Acceptance.{Holds, Tells, tells-exactly, holds-told}
+use Rattle.group_record.specs.declared.Reading.the-variants.{Accepted, Refused}
 use Rattle.group_record.specs.declared.RecordGroup.{RecordGroup}
 
 -- ---- the answer says the letter and the operations
 pub accepted-answer : (c : Centering) (l : List Operation) → groupAnswer (acceptedGroup c l) ≡ given (c, l)
 unfolding acceptedGroup slots
 accepted-answer c l = ap (λ (k : List Operation). given (c, k)) (take-at l (replicate (48 - length l) identityOperation) (length l) refl)
+
+accepted-says : (c : Centering) (l : List Operation) → acceptedGroup c l .answer ≡ Accepted
+unfolding acceptedGroup
+accepted-says c l = refl
 
 -- ---- allowed operations stay allowed in the listed form
 module _ (c : Centering) {l : List Operation} (L : Listing l) (A : Allowed c (map motionOf l)) where
@@ -60,7 +67,8 @@ module _ (c : Centering) {l : List Operation} (L : Listing l) (A : Allowed c (ma
       unchanged : smallestOperation c identityOperation ≡ identityOperation
       unchanged = ap (λ t. record { rotation = identityOperation .rotation; translation = t }) (origin-smallest c)
 
-      products : (f g : SpaceMotion) → Mem f (map motionOf (listedForm c l)) → Mem g (map motionOf (listedForm c l)) → (h : SpaceMotion) × Mem h (map motionOf (listedForm c l)) × Alike c (compose f g) h
+      products : (f g : SpaceMotion) → Mem f (map motionOf (listedForm c l)) → Mem g (map motionOf (listedForm c l))
+          → (h : SpaceMotion) × Mem h (map motionOf (listedForm c l)) × Alike c (compose f g) h
       products f g m k =
           let (a, n, p) = out-of-form f m in
           let (b, o, q) = out-of-form g k in
@@ -68,15 +76,64 @@ module _ (c : Centering) {l : List Operation} (L : Listing l) (A : Allowed c (ma
           let (j, t, u) = into-form h r in
           (j, t, alike-transitive c (compose f g) h j (alike-transitive c (compose f g) (compose a b) h (compose-alike c f a g b (rw (p .0) (A .keeps a n .0)) p q) s) u)
 
-  -- What was written reads back, wherever it stands at the end of a buffer; and it is the same group.
-  pub reads-back : (front : List ℕ) → readOf (front ++ recordOf c l) ≡ acceptedGroup c (listedForm c l)
-  unfolding recordOf
-  reads-back front = outcome-read (front ++ written c (listedForm c l)) _ (accepted front c (listedForm c l) refl (listed-form c L) form-allowed)
+-- ---- there and back, for any reading of groups
+module _ {Sign Kind : Type 0} (G : GroupReading Sign Kind) where
+  -- What was written is told, wherever it stands at the end of a buffer of bytes; and it is the same group.
+  pub tells-back : (k : Kind) (c : Sign) {l : List Operation} → Listing l → Allowed (G .lattice c) (map motionOf l) → G .Further c (listedForm (G .lattice c) l)
+      → (front : List ℕ)
+      → toldBy (rulesOf G) (front ++ recordIn (G .edition k) (G .byte c) (G .lattice c) l) ≡ holds k c (map itemOf (listedForm (G .lattice c) l))
+  unfolding recordIn
+  tells-back k c {l} L A further front =
+      holds-told G _ k c (listedForm (G .lattice c) l) (record {
+        front = front;
+        same-bytes = refl;
+        form = listed-form (G .lattice c) L;
+        allowed = form-allowed (G .lattice c) L A;
+        further = further;
+      })
 
--- A record's length.
-pub record-length : (c : Centering) (l : List Operation) → length (recordOf c l) ≡ totalLength itemWidth (length l)
-unfolding recordOf
-record-length c l = written-length c (listedForm c l) ∙ ap (totalLength itemWidth) (form-length c l)
+  -- What is told is written as the bytes that it was read from: those of a record, and of a group.
+  pub record Again (bytes : List ℕ) (k : Kind) (c : Sign) (l : List Operation) : Type 0 where
+    pub front : List ℕ
+    pub same-bytes : bytes ≡ front ++ recordIn (G .edition k) (G .byte c) (G .lattice c) l
+    pub form : Form (G .lattice c) l
+    pub allowed : Allowed (G .lattice c) (map motionOf l)
+    pub further : G .Further c l
+    pub group : SpaceGroup (G .lattice c) (InSet (G .lattice c) (map motionOf l))
+
+  pub holds-again : (bytes : List ℕ) (k : Kind) (c : Sign) (l : List Operation) → Holds G bytes k c l → Again bytes k c l
+  unfolding recordIn
+  holds-again bytes k c l h =
+      record {
+        front = h .front;
+        same-bytes =
+            h .same-bytes ∙ ap (λ (m : List Operation). h .front ++ writtenIn (G .edition k) (G .byte c) m) (sym (form-again (G .lattice c) (h .form)));
+        form = h .form;
+        allowed = h .allowed;
+        further = h .further;
+        group = allowed-group (G .lattice c) (form-listing (G .lattice c) (h .form)) (h .allowed);
+      }
+
+-- ---- edition 1
+-- What was written reads back, wherever it stands at the end of a buffer; and it is the same group.
+pub reads-back : (c : Centering) {l : List Operation} → Listing l → Allowed c (map motionOf l) → (front : List ℕ)
+    → readOf (front ++ recordOf c l) ≡ acceptedGroup c (listedForm c l)
+unfolding readOf recordOf
+reads-back c {l} L A front =
+    ap groupOf (tells-back firstReading tt c L A tt front) ∙ ap (acceptedGroup c) (operations-of-items (listedForm c l) (listed-form c L .entries))
+
+-- What is read as a group holds it: its operations are those of the items that are told.
+pub accepted-holds : (bytes : List ℕ) → Bytes bytes → readOf bytes .answer ≡ Accepted
+    → Holds firstReading bytes tt (readOf bytes .centering) (take (readOf bytes .count) (readOf bytes .operations))
+unfolding readOf refusedGroup acceptedGroup slots
+accepted-holds bytes g e = by (toldBy firstRules bytes) refl e
+  where
+    by : (t : Told Item Centering (Unit {0})) → toldBy firstRules bytes ≡ t → groupOf t .answer ≡ Accepted
+        → Holds firstReading bytes tt (groupOf t .centering) (take (groupOf t .count) (groupOf t .operations))
+    by (not-held r) p a = let z : _≡_ {A = ℕ} 0 1 = cc in absurd (omega arith)
+    by (holds k c items) p a =
+        let l = map operationOfItem items in
+        rw (take-at l (replicate (48 - length l) identityOperation) (length l) refl) (tells-exactly firstReading bytes g tt c l .0 (items, p, refl))
 
 -- ---- what was read
 -- What is read is the record of a group, and is written as the bytes it was read from.
@@ -87,25 +144,12 @@ pub record Reads (bytes : List ℕ) (c : Centering) (l : List Operation) : Type 
   pub allowed : Allowed c (map motionOf l)
   pub group : SpaceGroup c (InSet c (map motionOf l))
 
-reads-accepted : (bytes : List ℕ) (g : RecordGroup) → Outcome bytes g → g .answer ≡ Accepted → Reads bytes (g .centering) (take (g .count) (g .operations))
-unfolding refusedGroup acceptedGroup recordOf slots
-reads-accepted bytes g (too-short h) e = let z : _≡_ {A = ℕ} 0 1 = cc in absurd (omega arith)
-reads-accepted bytes g (wrong-edition front letter edition n high low h p q) e = let z : _≡_ {A = ℕ} 0 1 = cc in absurd (omega arith)
-reads-accepted bytes g (wrong-letter front letter n high low h p q) e = let z : _≡_ {A = ℕ} 0 1 = cc in absurd (omega arith)
-reads-accepted bytes g (wrong-length front c n high low h p q) e = let z : _≡_ {A = ℕ} 0 1 = cc in absurd (omega arith)
-reads-accepted bytes g (wrong-item front c items some few p q) e = let z : _≡_ {A = ℕ} 0 1 = cc in absurd (omega arith)
-reads-accepted bytes g (not-allowed front c l some few p F q) e = let z : _≡_ {A = ℕ} 0 1 = cc in absurd (omega arith)
-reads-accepted bytes g (accepted front c l p F A) e =
-    rw (take-at l (replicate (48 - length l) identityOperation) (length l) refl) (record {
-      front = front;
-      same-bytes = p ∙ ap (λ (k : List Operation). front ++ written c k) (sym (form-again c F));
-      form = F;
-      allowed = A;
-      group = allowed-group c (form-listing c F) A;
-    })
-
-pub written-again : (bytes : List ℕ) → Bytes bytes → readOf bytes .answer ≡ Accepted → Reads bytes (readOf bytes .centering) (take (readOf bytes .count) (readOf bytes .operations))
-written-again bytes g e = reads-accepted bytes (readOf bytes) (read-outcome bytes g) e
+pub written-again : (bytes : List ℕ) → Bytes bytes → readOf bytes .answer ≡ Accepted
+    → Reads bytes (readOf bytes .centering) (take (readOf bytes .count) (readOf bytes .operations))
+unfolding recordOf
+written-again bytes g e =
+    let again = holds-again firstReading bytes tt _ _ (accepted-holds bytes g e) in
+    record { front = again .front; same-bytes = again .same-bytes; form = again .form; allowed = again .allowed; group = again .group }
 
 -- ---- what the writer is asked
 -- Operations that may be written: at most 48, there, and a listing.
@@ -115,24 +159,21 @@ pub record Writable (g : RecordGroup) : Type 0 where
   pub listing : Listing (take (g .count) (g .operations))
 
 -- What was read may be written.
-outcome-writable : (bytes : List ℕ) (g : RecordGroup) → Outcome bytes g → g .answer ≡ Accepted → Writable g
-unfolding refusedGroup acceptedGroup slots
-outcome-writable bytes g (too-short h) e = let z : _≡_ {A = ℕ} 0 1 = cc in absurd (omega arith)
-outcome-writable bytes g (wrong-edition front letter edition n high low h p q) e = let z : _≡_ {A = ℕ} 0 1 = cc in absurd (omega arith)
-outcome-writable bytes g (wrong-letter front letter n high low h p q) e = let z : _≡_ {A = ℕ} 0 1 = cc in absurd (omega arith)
-outcome-writable bytes g (wrong-length front c n high low h p q) e = let z : _≡_ {A = ℕ} 0 1 = cc in absurd (omega arith)
-outcome-writable bytes g (wrong-item front c items some few p q) e = let z : _≡_ {A = ℕ} 0 1 = cc in absurd (omega arith)
-outcome-writable bytes g (not-allowed front c l some few p F q) e = let z : _≡_ {A = ℕ} 0 1 = cc in absurd (omega arith)
-outcome-writable bytes g (accepted front c l p F A) e =
-    let size = length-append l (replicate (48 - length l) identityOperation) in
-    record {
-      few = rw (length-map l motionOf) at (A .count .1);
-      there = omega (arith, size);
-      listing = rw (take-at l (replicate (48 - length l) identityOperation) (length l) refl) (form-listing c F);
-    }
-
 pub read-writable : (bytes : List ℕ) (g : RecordGroup) → Bytes bytes → g ≡ readOf bytes → g .answer ≡ Accepted → Writable g
-read-writable bytes g b e a = outcome-writable bytes g (subst (Outcome bytes) (sym e) (read-outcome bytes b)) a
+unfolding readOf refusedGroup acceptedGroup slots
+read-writable bytes g b e a = subst Writable (sym e) (by (toldBy firstRules bytes) refl (ap (λ (h : RecordGroup). h .answer) (sym e) ∙ a))
+  where
+    by : (t : Told Item Centering (Unit {0})) → toldBy firstRules bytes ≡ t → groupOf t .answer ≡ Accepted → Writable (groupOf t)
+    by (not-held r) p q = let z : _≡_ {A = ℕ} 0 1 = cc in absurd (omega arith)
+    by (holds k c items) p q =
+        let l = map operationOfItem items in
+        let h = tells-exactly firstReading bytes b tt c l .0 (items, p, refl) in
+        let size = length-append l (replicate (48 - length l) identityOperation) in
+        record {
+          few = rw (length-map l motionOf) at (h .allowed .count .1);
+          there = omega (arith, size);
+          listing = rw (take-at l (replicate (48 - length l) identityOperation) (length l) refl) (form-listing c (h .form));
+        }
 
 -- ---- acceptance
 -- The answer says its letter and its list: two accepted answers that are equal hold the same.
@@ -145,34 +186,35 @@ accepted-injective c d l k e = (
       ∙ take-at k (replicate (48 - length k) identityOperation) (length k) refl,
 )
 
-refused-accepted : (r : Refusal) (c : Centering) (l : List Operation) → refusedGroup r ≡ acceptedGroup c l → ⊥
-unfolding acceptedGroup refusedGroup
-refused-accepted r c l e =
-    let clash : Refused r ≡ Accepted = ap (λ (g : RecordGroup). g .answer) e in
-    let z : _≡_ {A = ℕ} 0 1 = cc in
-    absurd (omega arith)
-
-accepted-outcome : (bytes : List ℕ) (g : RecordGroup) (c : Centering) (l : List Operation) → Outcome bytes g → g ≡ acceptedGroup c l → (front : List ℕ) × (bytes ≡ front ++ written c l) × Form c l × Allowed c (map motionOf l)
-unfolding acceptedGroup refusedGroup
-accepted-outcome bytes g c l (too-short h) e = absurd (refused-accepted Short c l e)
-accepted-outcome bytes g c l (wrong-edition front letter edition n high low h p q) e = absurd (refused-accepted WrongEdition c l e)
-accepted-outcome bytes g c l (wrong-letter front letter n high low h p q) e = absurd (refused-accepted WrongLetter c l e)
-accepted-outcome bytes g c l (wrong-length front d n high low h p q) e = absurd (refused-accepted WrongLength c l e)
-accepted-outcome bytes g c l (wrong-item front d items some few p q) e = absurd (refused-accepted WrongItem c l e)
-accepted-outcome bytes g c l (not-allowed front d k some few p F q) e = absurd (refused-accepted NotAllowed c l e)
-accepted-outcome bytes g c l (accepted front d k p F A) e =
-    let (same-letter, same-list) = accepted-injective d c k l e in
-    (front, p ∙ ap₂ (λ (a : Centering) (m : List Operation). front ++ written a m) same-letter same-list, subst (λ (a : Centering). Form a l) same-letter (subst (Form d) same-list F), subst (λ (a : Centering). Allowed a (map motionOf l)) same-letter (subst (λ (m : List Operation). Allowed d (map motionOf m)) same-list A))
+-- What is read as a group are the operations that are told.
+accepted-tells : (bytes : List ℕ) (c : Centering) (l : List Operation) → readOf bytes ≡ acceptedGroup c l → Tells firstReading bytes tt c l
+unfolding readOf refusedGroup
+accepted-tells bytes c l e = by (toldBy firstRules bytes) refl e
+  where
+    by : (t : Told Item Centering (Unit {0})) → toldBy firstRules bytes ≡ t → groupOf t ≡ acceptedGroup c l → Tells firstReading bytes tt c l
+    by (not-held r) p q =
+        let clash : Refused r ≡ Accepted = ap (λ (g : RecordGroup). g .answer) q ∙ accepted-says c l in
+        let z : _≡_ {A = ℕ} 0 1 = cc in
+        absurd (omega arith)
+    by (holds k d items) p q =
+        let (same-letter, same-list) = accepted-injective d c (map operationOfItem items) l q in
+        (items, p ∙ ap (λ (a : Centering). holds tt a items) same-letter, same-list)
 
 -- A buffer is read as a group exactly if it ends with the record of allowed operations in the listed form.
-pub accepted-exactly : (bytes : List ℕ) → Bytes bytes → (c : Centering) (l : List Operation) → (readOf bytes ≡ acceptedGroup c l) ↔ ((front : List ℕ) × (bytes ≡ front ++ written c l) × Form c l × Allowed c (map motionOf l))
+pub accepted-exactly : (bytes : List ℕ) → Bytes bytes → (c : Centering) (l : List Operation)
+    → (readOf bytes ≡ acceptedGroup c l) ↔ ((front : List ℕ) × (bytes ≡ front ++ written c l) × Form c l × Allowed c (map motionOf l))
+unfolding readOf written
 accepted-exactly bytes g c l = (
-  (λ e. accepted-outcome bytes (readOf bytes) c l (read-outcome bytes g) e),
-  λ (front, e, F, A). outcome-read bytes (acceptedGroup c l) (accepted front c l e F A),
+  (λ e. let h = tells-exactly firstReading bytes g tt c l .0 (accepted-tells bytes c l e) in (h .front, h .same-bytes, h .form, h .allowed)),
+  λ (front, e, F, A).
+      let (items, p, q) = tells-exactly firstReading bytes g tt c l .1 (record { front = front; same-bytes = e; form = F; allowed = A; further = tt }) in
+      ap groupOf p ∙ ap (acceptedGroup c) q,
 )
 
 -- A copy's bytes are those that were read: the last ones of the buffer.
-pub copied-bytes : (bytes : List ℕ) → Bytes bytes → readOf bytes .answer ≡ Accepted → recordOf (readOf bytes .centering) (take (readOf bytes .count) (readOf bytes .operations)) ≡ drop (length bytes - totalLength itemWidth (readOf bytes .count)) bytes
+pub copied-bytes : (bytes : List ℕ) → Bytes bytes → readOf bytes .answer ≡ Accepted
+    → recordOf (readOf bytes .centering) (take (readOf bytes .count) (readOf bytes .operations))
+    ≡ drop (length bytes - totalLength itemWidth (readOf bytes .count)) bytes
 copied-bytes bytes g e =
     let c = readOf bytes .centering in
     let n = readOf bytes .count in
@@ -180,5 +222,6 @@ copied-bytes bytes g e =
     let r = written-again bytes g e in
     let few = length-take-le n (readOf bytes .operations) (read-writable bytes (readOf bytes) g refl e .there) in
     let size : length (recordOf c l) ≡ totalLength itemWidth n = record-length c l ∙ ap (totalLength itemWidth) few in
-    let place : length (r .front) ≡ length bytes - totalLength itemWidth n = omega (arith, size, length-append (r .front) (recordOf c l), ap length (r .same-bytes)) in
+    let place : length (r .front) ≡ length bytes - totalLength itemWidth n =
+    omega (arith, size, length-append (r .front) (recordOf c l), ap length (r .same-bytes)) in
     sym (ap (drop (length bytes - totalLength itemWidth n)) (r .same-bytes) ∙ drop-at (r .front) (recordOf c l) (length bytes - totalLength itemWidth n) place)

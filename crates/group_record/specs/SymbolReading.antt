@@ -2,13 +2,11 @@
 use mathlib.Core.Path.{_≡_, refl, sym, _∙_, ap, ap₂, subst}
 use mathlib.Core.Logic.{_↔_}
 use mathlib.Core.Bool.{Bool, true, false, cond}
-use mathlib.Core.List.{List, _++_, map, append-assoc}
-use Prim.Native.Nat.{ℕ, _+_, _-_, _≤_}
+use mathlib.Core.List.{List, _++_, map}
+use Prim.Native.Nat.{ℕ, _+_, _-_}
 use native.Mathlib.Omega.{arith}
-use lib.Dec.{leb}
-use borrow.Author.Tests.{leb-true}
-use lib.ListN.{length, take, drop, replicate, length-append}
-use lib.Seq.{take-at, length-take-le}
+use lib.ListN.{length, take, replicate}
+use lib.Seq.{take-at}
 use Rattle.laws.specs.Motion.{SpaceMotion}
 use Rattle.operation.specs.Meaning.{motionOf}
 use Rattle.operation.specs.Product.{identityOperation}
@@ -21,9 +19,10 @@ use Rattle.group_record.specs.Record.{itemWidth, totalLength, listedForm
 use Rattle.group_record.specs.Reading.{readOf, acceptedGroup, slots}
 use Rattle.group_record.specs.Groups.{InSet}
 use Rattle.group_record.specs.ListedForm.{form-length, form-set}
-use Rattle.group_record.specs.ReadingTests.{both-true}
-use Rattle.group_record.specs.RoundTrips.{reads-back, record-length}
-use Rattle.group_record.specs.Copying.{roomFor, placedIn, all-placed}
+use Rattle.group_record.specs.OneRecord.{record-length}
+use Rattle.group_record.specs.RoundTrips.{reads-back}
+use Rattle.group_record.specs.Places.{placedIn, placed-end}
+use Rattle.group_record.specs.Copying.{roomFor}
 use Rattle.group_record.specs.SymbolRecords.{textRecord, writtenBy, symbolRecordOf, placedBy, symbolBufferOf}
 use Rattle.group_record.specs.AcceptedSymbols.{accepted-listing, accepted-allowed}
 use Rattle.group_record.specs.SymbolSets.{InSetOf, record-of-list, set-of-list}
@@ -72,41 +71,37 @@ module _ (text : List ℕ) (A : AcceptedText text) where
   record-reads : (front : List ℕ) → readOf (front ++ textRecord text) ≡ acceptedGroup (A .letter) form
   record-reads front =
       ap (λ (bytes : List ℕ). readOf (front ++ bytes)) (record-of-list text A)
-      ∙ reads-back (A .letter) (accepted-listing (A .letter) (A .generators) (A .operations) (A .steps) (A .accepted)) (accepted-allowed (A .letter) (A .generators) (A .operations) (A .steps) (A .accepted)) front
+      ∙ reads-back (A .letter) (accepted-listing (A .letter) (A .generators) (A .operations) (A .steps) (A .accepted))
+      (accepted-allowed (A .letter) (A .generators) (A .operations) (A .steps) (A .accepted)) front
 
 -- Every accepted symbol's record is read as the symbol's group, whatever stands before it.
 pub symbol-record-read : (text front : List ℕ) → symbolAnswer text .answer ≡ Group → ReadsAs text (readOf (front ++ textRecord text))
 symbol-record-read text front a = let A = accepted-text text a in subst (ReadsAs text) (sym (record-reads text A front)) (form-reads text A)
 
 -- ---- as the entry left it
--- With room, the buffer up to the record's end is what stood before the start, and the record.
-record-in : (out bytes : List ℕ) (start n : ℕ) → roomFor start n (length out) ≡ true → length bytes ≡ totalLength itemWidth n → take (start + totalLength itemWidth n) (placedIn out start n bytes) ≡ take start out ++ bytes
-unfolding roomFor
-record-in out bytes start n room long =
-    let within : start ≤ length out = leb-true start (length out) (both-true (leb start (length out)) _ .0 room .0) in
-    let rest = drop (start + totalLength itemWidth n) out in
-    let size : length (take start out ++ bytes) ≡ start + totalLength itemWidth n = length-append (take start out) bytes ∙ omega (arith, length-take-le start out within) in
-    ap (take (start + totalLength itemWidth n)) (all-placed out start n bytes room ∙ sym (append-assoc (take start out) bytes rest))
-    ∙ take-at (take start out ++ bytes) rest (start + totalLength itemWidth n) size
-
 module _ (text out : List ℕ) (start n : ℕ) where
   -- An accepted text's count tells the length of its record.
   text-length : AcceptedText text → length (textRecord text) ≡ totalLength itemWidth (symbolAnswer text .count)
   text-length A = ap length (record-of-list text A) ∙ record-length (A .letter) (A .operations) ∙ ap (totalLength itemWidth) (sym (A .same-count))
 
   -- An accepted text is written where there is room,
-  by-room : symbolAnswer text .answer ≡ Group → (b : Bool) → roomFor start (symbolAnswer text .count) (length out) ≡ b → cond b (Written (symbolAnswer text .count)) NoRoom ≡ Written n → ReadsAs text (readOf (take (start + totalLength itemWidth n) (placedIn out start (symbolAnswer text .count) (textRecord text))))
+  by-room : symbolAnswer text .answer ≡ Group → (b : Bool) → roomFor start (symbolAnswer text .count) (length out) ≡ b
+      → cond b (Written (symbolAnswer text .count)) NoRoom ≡ Written n
+      → ReadsAs text (readOf (take (start + totalLength itemWidth n) (placedIn out start (textRecord text))))
   by-room a true room e =
       let count : symbolAnswer text .count ≡ n = cc in
-      rw (← count, record-in out (textRecord text) start (symbolAnswer text .count) room (text-length (accepted-text text a))) (symbol-record-read text (take start out) a)
+      rw (← count, placed-end out start (totalLength itemWidth (symbolAnswer text .count)) (textRecord text) (text-length (accepted-text text a)) room)
+      (symbol-record-read text (take start out) a)
   by-room a false room e = let z : _≡_ {A = ℕ} 0 1 = cc in absurd (omega arith)
 
   -- and a refused one nowhere.
-  by-answer : (a : Answer) → symbolAnswer text .answer ≡ a → writtenBy a (symbolAnswer text .count) start (length out) ≡ Written n → ReadsAs text (readOf (take (start + totalLength itemWidth n) (placedBy a out start (symbolAnswer text .count) (textRecord text))))
+  by-answer : (a : Answer) → symbolAnswer text .answer ≡ a → writtenBy a (symbolAnswer text .count) start (length out) ≡ Written n
+      → ReadsAs text (readOf (take (start + totalLength itemWidth n) (placedBy a out start (textRecord text))))
   by-answer Group a e = by-room a (roomFor start (symbolAnswer text .count) (length out)) refl e
   by-answer (Refused r) a e = let z : _≡_ {A = ℕ} 0 1 = cc in absurd (omega arith)
 
   -- Where n operations were written, the buffer up to the record's end is read as the symbol's group.
-  pub symbol-buffer-read : symbolRecordOf text out start ≡ Written n → ReadsAs text (readOf (take (start + totalLength itemWidth n) (symbolBufferOf text out start)))
+  pub symbol-buffer-read : symbolRecordOf text out start ≡ Written n
+      → ReadsAs text (readOf (take (start + totalLength itemWidth n) (symbolBufferOf text out start)))
   unfolding symbolRecordOf symbolBufferOf
   symbol-buffer-read e = by-answer (symbolAnswer text .answer) refl e

@@ -12,7 +12,8 @@ use Rattle.symbol_group.specs.declared.Answer.{Answer}
 use Rattle.symbol_group.specs.declared.Answer.the-variants.{Group, Refused}
 use Rattle.symbol_group.specs.declared.SymbolGroup.{SymbolGroup}
 use Rattle.group_record.specs.Record.{recordOf}
-use Rattle.group_record.specs.Copying.{roomFor, placedIn}
+use Rattle.group_record.specs.Places.{placedIn}
+use Rattle.group_record.specs.Copying.{roomFor}
 use Rattle.group_record.specs.declared.SymbolRecord.{SymbolRecord}
 use Rattle.group_record.specs.declared.SymbolRecord.the-variants.{Written, NoRoom, Refused as NotWritten}
 
@@ -43,13 +44,13 @@ symbolRecordAnswer (NotWritten r) = answer.refused (numberOf r) (placeOf r) tt
 
 -- ---- the buffer
 -- A symbol's refusal touches nothing.
-abbrev pub placedBy : Answer → List ℕ → ℕ → ℕ → List ℕ → List ℕ
-placedBy Group out start n bytes = placedIn out start n bytes
-placedBy (Refused r) out start n bytes = out
+abbrev pub placedBy : Answer → List ℕ → ℕ → List ℕ → List ℕ
+placedBy Group out start bytes = placedIn out start bytes
+placedBy (Refused r) out start bytes = out
 
 -- What the lent buffer holds afterwards.
 unfoldable pub symbolBufferOf : List ℕ → List ℕ → ℕ → List ℕ
-symbolBufferOf text out start = placedBy (symbolAnswer text .answer) out start (symbolAnswer text .count) (textRecord text)
+symbolBufferOf text out start = placedBy (symbolAnswer text .answer) out start (textRecord text)
 
 -- ---- by the symbol's answer
 module _ (text out : List ℕ) (start : ℕ) (g : SymbolGroup) (e : g ≡ symbolAnswer text) where
@@ -59,6 +60,8 @@ module _ (text out : List ℕ) (start : ℕ) (g : SymbolGroup) (e : g ≡ symbol
   refused-by r a = (rw (← e, a), rw (← e, a))
 
   -- The answer to one that is accepted, by whether there was room, and the buffer.
-  pub accepted-by : g .answer ≡ Group → (b : Bool) → b ≡ roomFor start (g .count) (length out) → (left : List ℕ) → left ≡ placedIn out start (g .count) (groupRecord g) → (cond b (Written (g .count)) NoRoom ≡ symbolRecordOf text out start) × (left ≡ symbolBufferOf text out start)
+  pub accepted-by : g .answer ≡ Group → (b : Bool) → b ≡ roomFor start (g .count) (length out)
+      → (left : List ℕ) → left ≡ placedIn out start (groupRecord g)
+      → (cond b (Written (g .count)) NoRoom ≡ symbolRecordOf text out start) × (left ≡ symbolBufferOf text out start)
   unfolding symbolRecordOf symbolBufferOf textRecord
   accepted-by a b room left placed = (rw (room, ← e, a), rw (placed, ← e, a))

@@ -2,7 +2,8 @@
 ghost use mathlib.Core.Path.{_≡_};
 ghost use lib.ListN.{length, take};
 ghost use Rattle.group_record.specs.Record.{recordOf};
-ghost use Rattle.group_record.specs.Copying.{placedIn, copiedBy, copiedOf, bufferOf};
+ghost use Rattle.group_record.specs.Places.{placedIn};
+ghost use Rattle.group_record.specs.Copying.{copiedBy, copiedOf, bufferOf};
 ghost use Rattle.group_record.specs.RoundTrips.{Writable};
 ghost use Rattle.group_record.specs.declared.Reading.the-variants.{Accepted};
 use super::Copied;
@@ -26,7 +27,7 @@ pub fn copy_record(bytes: &[u8], out: &mut [u8], start: usize) -> Copied
 
 fn place_read(out: &mut [u8], start: usize, group: RecordGroup) -> Copied
     requires { ⌜ Writable group ⌝ }
-    ensures { λ r. ⌜ (r ≡ copiedBy Accepted (group .count) start (length (now (out .entry)))) × (now (out .exit) ≡ placedIn (now (out .entry)) start (group .count) (recordOf (group .centering) (take (group .count) (group .operations)))) ⌝ }
+    ensures { λ r. ⌜ (r ≡ copiedBy Accepted (group .count) start (length (now (out .entry)))) × (now (out .exit) ≡ placedIn (now (out .entry)) start (recordOf (group .centering) (take (group .count) (group .operations)))) ⌝ }
 {
     let n = group.count;
     let c = group.centering;

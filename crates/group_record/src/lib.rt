@@ -1,5 +1,8 @@
 // The group record: the byte form of a group of operations, written and read. New in the port: the Rust has no such form.
+mod allowed;
+pub mod codes;
 pub mod copier;
+mod items;
 pub mod reader;
 pub mod symbol;
 mod writer;
@@ -21,7 +24,7 @@ pub enum Refusal {
 }
 
 impl Refusal {
-    // The number of R8; the place is 0.
+    // The number (R8); the place is 0.
     pub fn number(self) -> u8
         ensures { λ r. ⌜ r ≡ refusalNumber self ⌝ }
     {

@@ -12,3 +12,5 @@ pub mod SymbolSteps
 -- What the tables say of motions.
 pub mod TableMotions
 pub mod TableGroups
+-- A record's table, column by column.
+pub mod Columns

@@ -1,6 +1,4 @@
--- How the program cuts what it reads into lines, and what it writes for them.
-pub mod Lines
-pub mod Feeding
-pub mod Keeping
+-- What the program writes for the lines that it reads.
+pub mod Output
 pub mod Answers
 pub mod Example

@@ -109,7 +109,7 @@ module _ {A : Type 0} (same : A → A → Bool) (_≈_ : A → A → Type 0) (Ok
     key-congruence x y g r t m s = M .key-right x y g (is-ok r) (is-ok t) (ok-gens g m) s
 
     -- an inverse on the left, up to the key, is one on the right
-    key-inverse-right : (y w : A) → Reached _·_ unit gens y → Reached _·_ unit gens w → T (same (w · y) unit) → T (same (y · w) unit)
+    pub key-inverse-right : (y w : A) → Reached _·_ unit gens y → Reached _·_ unit gens w → T (same (w · y) unit) → T (same (y · w) unit)
     key-inverse-right y w r q s = M .key-cancel (y · w) unit y (is-ok (reached-times r q)) (M .monoid .ok-unit) (is-ok r) (rw
         (regroup, M .monoid .left-unit y (is-ok r)) around)
       where
@@ -163,7 +163,7 @@ module _ {A : Type 0} (same : A → A → Bool) (_≈_ : A → A → Type 0) (Ok
       steady-each-key = (steady→one, one→steady)
 
       -- each reached y has a reached w such that w · y has the key of the unit
-      key-inverse-left : (y : A) → Reached _·_ unit gens y → (w : A) × Reached _·_ unit gens w × T (same (w · y) unit)
+      pub key-inverse-left : (y : A) → Reached _·_ unit gens y → (w : A) × Reached _·_ unit gens w × T (same (w · y) unit)
       key-inverse-left y r =
           let (z, m, s) = has-member same unit (map (λ a. a · y) l) onto in
           let (w, k, p) = mem-of-map (λ a. a · y) l m in

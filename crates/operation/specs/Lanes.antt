@@ -44,8 +44,8 @@ pub raised-small : (a b c x y z : ℕ) → a ≤ 255 → b ≤ 255 → c ≤ 255
 raised-small a b c x y z ha hb hc hx hy hz =
     omega (arith, raised-sum a b c x y z ha hb hc hx hy hz, byte-product a x ha hx, byte-product b y hb hy, byte-product c z hc hz)
 
--- What one coordinate of a moved translation sums up to fits a lane.
-pub moved-small : (a b c x y z t : ℕ) → a ≤ 255 → b ≤ 255 → c ≤ 255 → x ≤ 255 → y ≤ 255 → z ≤ 255 → t ≤ 255 → a * x + b * y + c * z + t + 11 * (x + y + z) < 2097152
+-- What one coordinate of a moved translation sums up to leaves room in its lane.
+pub moved-small : (a b c x y z t : ℕ) → a ≤ 255 → b ≤ 255 → c ≤ 255 → x ≤ 255 → y ≤ 255 → z ≤ 255 → t ≤ 255 → a * x + b * y + c * z + t + 11 * (x + y + z) < 261120
 moved-small a b c x y z t ha hb hc hx hy hz ht =
     omega (arith, byte-product a x ha hx, byte-product b y hb hy, byte-product c z hc hz)
 

@@ -3,6 +3,7 @@
 pub mod Meaning
 pub mod Digits
 pub mod Lanes
+pub mod Twelves
 pub mod Entries
 -- The product, the code, the type, doubles.
 pub mod Product

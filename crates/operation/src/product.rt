@@ -3,6 +3,7 @@
 ghost use mathlib.Core.Path.{_≡_};
 ghost use Prim.Native.Nat.{_*_, _≤_};
 ghost use Rattle.operation.specs.Lanes.{lanesOf, rowsTimes, raisedColumn, foursOf};
+ghost use Rattle.operation.specs.Twelves.{bytesOf, reducedOf, SmallLanes};
 ghost use Rattle.operation.specs.Product.{identityOperation, columnTimes, movedOf, rotatedOf, productOf};
 use super::Operation;
 use super::Rotation;
@@ -106,6 +107,28 @@ fn column_times(r: Rotation, a: u8, b: u8, c: u8) -> Column
     )
 }
 
+// Each lane's lowest byte.
+fn bytes(n: u64) -> u64
+    ensures { λ r. ⌜ (r ≡ bytesOf n) × (r ≤ 1121502395105535) ⌝ }
+{
+    n % 256 + n / SECOND % 256 * SECOND + n / THIRD % 256 * THIRD
+}
+
+// Each lane modulo 12, and no remainder taken: 1020, which is 85 times 12, goes off as often as 1024 fits, and then 12 as often as it fits, which below 2040 is
+// 683 / 8192 of what is there. Each step is one for the three lanes.
+fn reduced(sum: u64) -> Translation
+    requires { ⌜ SmallLanes sum ⌝ }
+    ensures { λ v. ⌜ v ≡ reducedOf sum ⌝ }
+{
+    let rest = sum - bytes(sum / 1024) * 1020;
+    let left = rest - bytes(rest * 683 / 8192) * 12;
+    Translation {
+        x: (left % 256) as u8,
+        y: (left / SECOND % 256) as u8,
+        z: (left / THIRD % 256) as u8,
+    }
+}
+
 // Ru + t modulo 12. An entry is a − 1, so modulo 12 it is a + 11.
 fn moved(r: Rotation, u: Translation, t: Translation) -> Translation
     ensures { λ v. ⌜ v ≡ movedOf r u t ⌝ }
@@ -113,11 +136,7 @@ fn moved(r: Rotation, u: Translation, t: Translation) -> Translation
     let sum = rows_times(r, u.x, u.y, u.z)
         + lanes(t.x, t.y, t.z)
         + (wide(u.x) + wide(u.y) + wide(u.z)) * (11 * EACH);
-    Translation {
-        x: (sum % SECOND % 12) as u8,
-        y: (sum / SECOND % SECOND % 12) as u8,
-        z: (sum / THIRD % 12) as u8,
-    }
+    reduced(sum)
 }
 
 // Rt modulo 12.

@@ -179,9 +179,10 @@ operationForms c = record {
   times-form = λ f h t. product-image c f h (small-test f .0 t);
 }
 
-pub identity-operation : (c : Centering) → operationOf identity ≡ identityOperation
-unfolding operationOf digitOf digitAbove unit origin one nought residue
-identity-operation c = refl
+module _ (c : Centering) where
+  pub identity-operation : operationOf identity ≡ identityOperation
+  unfolding operationOf digitOf digitAbove unit origin one nought residue
+  identity-operation = refl
 
 -- Steps keep the rotation.
 pub rotation-congruence : (gens : List SpaceMotion) → Congruence sameRotation compose identity gens

@@ -18,7 +18,7 @@ use Rattle.laws.specs.LatticeMaps.{MapsOnto}
 use Rattle.laws.specs.SameMatrix.{sameMatrix, sameRotation, same-rotation, rotation-same, rotation-equivalence}
 use Rattle.laws.specs.MotionsModulo.{alike-identity}
 use Rattle.laws.specs.GrowthClosure.{stepsFrom}
-use Rattle.group_growth.specs.Verdicts.{imageVerdict}
+use Rattle.group_growth.specs.Verdicts.{overgrown, torn, imageVerdict}
 use Rattle.group_growth.specs.Growing.{OkGenerators, Few, AllFine, OneToUnit}
 use Rattle.group_growth.specs.Acceptance.{Whole, listed-exactly, listed-whole, overgrown-exactly, torn-exactly}
 pub use Rattle.group_growth.specs.Lists.{member-at, member-index}
@@ -152,11 +152,11 @@ module _ (gens : List Operation) where
   pub rotations-generated : (m : List SpaceMotion) → ((f : SpaceMotion) → Mem f m → Generated gens f) → (R : Matrix) → Mem R (map (λ f. f .rotation) m) → GeneratedRotation gens R
   rotations-generated m each R k = let (f, h, p) = mem-of-map (λ f. f .rotation) m k in (f, each f h, p)
 
-module _ (gens : List Operation) (l : List SpaceMotion) (e : listing gens ≡ some l) where
-  -- What the list is.
-  pub lists : ListsReached sameRotation compose identity (motions gens) l
-  unfolding listing
-  lists = closure-lists sameRotation compose identity (motions gens) rotation-equivalence (rotation-congruence (motions gens)) 48 l e
+  module _ (l : List SpaceMotion) (e : listing gens ≡ some l) where
+    -- What the list is.
+    pub lists : ListsReached sameRotation compose identity (motions gens) l
+    unfolding listing
+    lists = closure-lists sameRotation compose identity (motions gens) rotation-equivalence (rotation-congruence (motions gens)) 48 l e
 
 -- ---- what is generated, in the words of growth up to a limit
 module _ (c : Centering) (gens : List Operation) where
@@ -313,3 +313,14 @@ module _ (c : Centering) (gens : List Operation) (small : SmallGenerators gens) 
   -- 14: exactly if all that is well, and not every generated motion with identity rotation has its translation in L.
   pub translations-exactly : (outcomeOf c gens ≡ refused Translations) ↔ (AllKeep c gens × FewRotations gens × SmallRotations gens × (¬ OneTranslation c gens))
   translations-exactly = course-translations (course c gens small)
+
+  -- Where every generator maps L onto L, 13 and 14 are the two refusals of growth.
+  pub rotations-kept : AllKeep c gens → (outcomeOf c gens ≡ refused Rotations) ↔ (verdictOf c gens ≡ overgrown)
+  rotations-kept keep =
+      let answer = outcome-verdict c gens (none-off c gens small .1 keep) in
+      ((λ e. rotations-overgrown (verdictOf c gens) (sym answer ∙ e)), λ e. answer ∙ ap (λ v. ofVerdict (imageVerdict operationOf v)) e)
+
+  pub translations-kept : AllKeep c gens → (outcomeOf c gens ≡ refused Translations) ↔ (verdictOf c gens ≡ torn)
+  translations-kept keep =
+      let answer = outcome-verdict c gens (none-off c gens small .1 keep) in
+      ((λ e. translations-torn (verdictOf c gens) (sym answer ∙ e)), λ e. answer ∙ ap (λ v. ofVerdict (imageVerdict operationOf v)) e)

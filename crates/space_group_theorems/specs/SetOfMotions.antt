@@ -46,7 +46,7 @@ translated f g v p e =
 
 -- ---- what is free
 -- A translation by a vector of L.
-abbrev LatticeTranslation : Centering → SpaceMotion → Type 0
+abbrev pub LatticeTranslation : Centering → SpaceMotion → Type 0
 LatticeTranslation c t = (v : Vector) × InLattice (pointsOf c) v × (t ≡ translationBy v)
 
 module _ (c : Centering) where
@@ -56,7 +56,7 @@ module _ (c : Centering) where
   translated-alike f v keep m = (times-unit (f .rotation), rw (sum-less (act (f .rotation) v) (f .translation)) (keep .0 v m))
 
   -- A motion alike to one that keeps L is that one times a translation by a vector of L.
-  translations-free : Freedom (motionGrowth c) (LatticeTranslation c)
+  pub translations-free : Freedom (motionGrowth c) (LatticeTranslation c)
   translations-free = record {
     free-alike = λ f t keep (v, m, e). rw e (translated-alike f v keep m);
     alike-free = λ f g keep (p, class).

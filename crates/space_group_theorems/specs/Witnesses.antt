@@ -13,7 +13,7 @@ use Rattle.laws.specs.Distinct.{Distinct}
 use Rattle.laws.specs.Lattice.{Congruent}
 use Rattle.laws.specs.SameMatrix.{sameMatrix, same-rotation, rotation-same}
 use Rattle.group_growth.specs.Growing.{Many, Unfit, TwoToKey}
-use Rattle.group_growth.specs.Acceptance.{overgrown-shown, torn-shown}
+use Rattle.group_growth.specs.Acceptance.{overgrown-shown, overgrown-refused, torn-shown, torn-refused}
 use Rattle.operation.specs.Entries.{Entries}
 use Rattle.operation.specs.declared.Operation.{Operation}
 use Rattle.centering.specs.Letters.{pointsOf}
@@ -22,8 +22,7 @@ use Rattle.space_group.specs.Generated.{motions, Generated, GeneratedRotation, 
 use Rattle.space_group.specs.OperationGrowth.{small-test, motionGrowth, rotation-congruence}
 use Rattle.space_group.specs.Slots.{verdictOf, outcome-off, outcome-verdict, rotations-overgrown, translations-torn}
 use Rattle.space_group.specs.declared.refusal.Refusal.the-variants.{Rotations, Translations}
-use Rattle.space_group_theorems.specs.Acceptance.{SmallGenerators, chosen, distinct-rotations, rotations-distinct, rotations-generated, accepted-exactly, accepted-list, rotations-exactly, translations-exactly}
-use Rattle.space_group_theorems.specs.Members.{one-class}
+use Rattle.space_group_theorems.specs.Acceptance.{SmallGenerators, chosen, distinct-rotations, rotations-distinct, rotations-generated, motions-keep, few-keys, fine-rotations, rotations-exactly, rotations-kept, translations-exactly, translations-kept}
 
 -- ---- what is shown
 -- Over 48 rotations, all different, all generated.
@@ -92,13 +91,10 @@ module _ (c : Centering) (gens : List Operation) (small : SmallGenerators gens) 
   pub rotations-refused : (outcomeOf c gens ≡ refused Rotations) ↔ (AllKeep c gens × (ManyRotations gens ⊎ LargeRotation gens))
   rotations-refused = (
     (λ e. (rotations-exactly c gens small .0 e .0, rotations-shown c gens e)),
-    λ (keep, shown). rotations-exactly c gens small .1 (
-      keep,
-      λ (few, entries). elim shown [
-        | inl (l, distinct, each, more) ↦ omega (arith, few l distinct each)
-        | inr (A, r, n) ↦ n (entries A r)
-      ],
-    ),
+    λ (keep, shown). rotations-kept c gens small keep .1 (overgrown-refused (motionGrowth c) (motions gens) (motions-keep c gens keep) 48 .1 (elim shown [
+      | inl many ↦ inl (many-rotations c gens .1 many)
+      | inr large ↦ inr (large-rotation c gens .1 large)
+    ])),
   )
 
   -- 14: exactly if every generator does, at most 48 rotations with entries in −1..1 are generated, and two generated motions with one rotation have
@@ -106,12 +102,7 @@ module _ (c : Centering) (gens : List Operation) (small : SmallGenerators gens) 
   pub translations-refused : (outcomeOf c gens ≡ refused Translations) ↔ (AllKeep c gens × FewRotations gens × SmallRotations gens × TwoTranslations c gens)
   translations-refused = (
     (λ e. let (keep, few, entries, _) = translations-exactly c gens small .0 e in (keep, few, entries, translations-shown c gens e)),
-    λ (keep, few, entries, (f, g, r, s, p, apart)). translations-exactly c gens small .1 (
-      keep,
-      few,
-      entries,
-      λ one.
-          let (operations, steps, e) = accepted-exactly c gens small .1 (keep, few, entries, one) in
-          apart (one-class c gens operations steps (accepted-list c gens small operations steps e) f g r s p .1),
-    ),
+    λ (keep, few, entries, two).
+        let exactly = torn-refused (motionGrowth c) (motions gens) (motions-keep c gens keep) 48 in
+        translations-kept c gens small keep .1 (exactly .1 (few-keys c gens .1 few, fine-rotations c gens .1 entries, two-translations c gens .1 two)),
   )

@@ -4,7 +4,7 @@ use native.Mathlib.Omega.{arith}
 use lib.ListN.{take, length-take, length-append}
 use Rattle.answer_text.specs.Words.{newline}
 use Rattle.answer_text.specs.Answering.{answer-put}
-use Rattle.answer_text.specs.Placing.{put-then}
+use Rattle.placed_text.specs.Placing.{put-then}
 use borrow.Author.Needs.{needs}
 use Rattle.answer_text.proofs.answer_text.Statement.{statement}
 use Rattle.answer_text.proofs.answer_text.Tie as tie

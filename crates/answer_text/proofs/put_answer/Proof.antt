@@ -2,7 +2,7 @@
 use native.Mathlib.Omega.{arith}
 use Rattle.answer_text.specs.Places.{number-small, place-small}
 use Rattle.answer_text.specs.Answering.{told-written, told-refused, told-room, group-few, group-plain, group-text, refused-text}
-use Rattle.answer_text.specs.Placing.{put-named}
+use Rattle.placed_text.specs.Placing.{put-named}
 use borrow.Author.Needs.{needs}
 use Rattle.answer_text.proofs.put_answer.Statement.{statement}
 use Rattle.answer_text.proofs.put_answer.Tie as tie

@@ -3,7 +3,7 @@ use native.Mathlib.Omega.{arith}
 use lib.ListN.{length-set}
 use Rattle.answer_text.specs.Words.{newline, lineOf}
 use Rattle.answer_text.specs.Lines.{number-word-short}
-use Rattle.answer_text.specs.Placing.{put-two, put-then}
+use Rattle.placed_text.specs.Placing.{put-two, put-then}
 use borrow.Author.Needs.{needs}
 use Rattle.answer_text.proofs.put_group.Statement.{statement}
 use Rattle.answer_text.proofs.put_group.Tie as tie

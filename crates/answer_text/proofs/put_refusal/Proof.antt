@@ -4,7 +4,7 @@ use Prim.Native.Nat.{ℕ}
 use native.Mathlib.Omega.{arith}
 use Rattle.answer_text.specs.Words.{space, newline}
 use Rattle.answer_text.specs.Lines.{numberWord, number-word-short, refusal-parts}
-use Rattle.answer_text.specs.Placing.{put-then, put-named}
+use Rattle.placed_text.specs.Placing.{put-then, put-named}
 use borrow.Author.Needs.{needs}
 use Rattle.answer_text.proofs.put_refusal.Statement.{statement}
 use Rattle.answer_text.proofs.put_refusal.Tie as tie

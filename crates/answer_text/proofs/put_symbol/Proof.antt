@@ -2,7 +2,7 @@
 use mathlib.Core.Path.{ap}
 use native.Mathlib.Omega.{arith}
 use lib.ListN.{length, length-take}
-use Rattle.answer_text.specs.Placing.{put-byte, put-then, put-named}
+use Rattle.placed_text.specs.Placing.{put-byte, put-then, put-named}
 use borrow.Author.Needs.{needs}
 use Rattle.answer_text.proofs.put_symbol.Statement.{statement}
 use Rattle.answer_text.proofs.put_symbol.Tie as tie

@@ -4,26 +4,28 @@ use mathlib.Core.Bool.{false≢true}
 use Prim.Native.Nat.{_-_, _≤_}
 use native.Mathlib.Omega.{arith}
 use lib.ListN.{length, drop}
-use Rattle.hall.specs.Feeding.{keptBehind}
-use Rattle.hall.specs.Keeping.{held, Sound}
-use Rattle.hall.specs.Answers.{next-within, next-later, next-kept, kept-whole}
+use Rattle.lines.specs.Feeding.{keptBehind}
+use Rattle.lines.specs.Keeping.{held}
+use Rattle.hall.specs.Answers.{answered-writable, next-places, next-within, next-later, next-kept, kept-whole}
 use borrow.Author.Needs.{needs}
 use Rattle.hall.proofs.answer_piece.Statement.{statement}
 use Rattle.hall.proofs.answer_piece.Tie as tie
 use Rattle.hall.proofs.answer_piece.Reads as reads
 use Rattle.hall.proofs.answer_piece.Lts as lts
 use Rattle.hall.proofs.answers.answer_next.Reads as answer-next-reads
-use Rattle.hall.proofs.lines.empty.Reads as empty-reads
+use Rattle.lines.proofs.fresh.Reads as fresh-reads
 use Rattle.hall.proofs.write_text.Reads as write-text-reads
 
 abbrev Inv-loop : tie.InvT-loop
-Inv-loop piece kept₀ from₀ kept from = (from ≤ length piece) × Sound kept × (keptBehind (held kept) (drop from piece) ≡ keptBehind (held kept₀) piece)
+Inv-loop piece line₀ from₀ line from = (from ≤ length piece) × (length (line .bytes) ≡ 80) × (keptBehind (held line) (drop from piece) ≡ keptBehind (held line₀) piece)
 
 abbrev μ-loop : tie.MeasureT-loop
-μ-loop piece kept₀ from₀ kept from = length piece - from
+μ-loop piece line₀ from₀ line from = length piece - from
 
 loop-holds : tie.Need-loop-holds Inv-loop μ-loop
-loop-holds c = (omega arith, c .before .pre, refl)
+loop-holds c =
+    let whole : length (c .before .args .kept .bytes) ≡ 80 = search needs in
+    (omega arith, whole, refl)
 
 sub-answer-next : tie.Need-sub-answer-next Inv-loop μ-loop
 sub-answer-next c = omega arith
@@ -35,23 +37,23 @@ part-answer-next-end : tie.Need-part-answer-next-end Inv-loop μ-loop
 part-answer-next-end c = omega arith
 
 answer-next-requires : tie.Need-answer-next-requires Inv-loop μ-loop
-answer-next-requires c κs = c .before .before .loop .inv .1
+answer-next-requires c κs = search needs
 
 write-text-requires : tie.Need-write-text-requires Inv-loop μ-loop
-write-text-requires c κs = c .before .before .answer-next .ensures .writable
+write-text-requires c κs = answered-writable _ _ (c .before .before .answer-next .result) (c .before .before .answer-next .ensures)
 
-empty-requires : tie.Need-empty-requires Inv-loop μ-loop
-empty-requires c κs = search needs
+fresh-requires : tie.Need-fresh-requires Inv-loop μ-loop
+fresh-requires c κs = search needs
 
 returns : tie.Need-returns Inv-loop μ-loop
-returns c = (c .empty .ensures .0, λ e. absurd (false≢true e))
+returns c = λ e. absurd (false≢true e)
 
 add-from : tie.Need-add-from Inv-loop μ-loop
 add-from c =
     let s = c .before .before .before .before .before .before .before in
     let piece = s .before .before .args .piece .now in
     let call = c .before .before .before .before .answer-next in
-    let within = next-within piece (s .loop .from) _ (call .result) (call .ensures) (s .loop .inv .0) in
+    let within = next-within piece (s .loop .from) (s .loop .line) (s .loop .inv .1) (call .result) (call .ensures) (s .loop .inv .0) in
     omega arith
 
 loop-less : tie.Need-loop-less Inv-loop μ-loop
@@ -59,7 +61,7 @@ loop-less c =
     let s = c .before .before .before .before .before .before .before in
     let piece = s .before .before .args .piece .now in
     let call = c .before .before .before .before .answer-next in
-    let later = next-later piece (s .loop .from) _ (call .result) (call .ensures) (omega arith) in
+    let later = next-later piece (s .loop .from) (s .loop .line) (s .loop .inv .1) (call .result) (call .ensures) (omega arith) in
     omega arith
 
 loop-again : tie.Need-loop-again Inv-loop μ-loop
@@ -67,16 +69,16 @@ loop-again c =
     let s = c .before .before .before .before .before .before .before in
     let piece = s .before .before .args .piece .now in
     let call = c .before .before .before .before .answer-next in (
-      next-within piece (s .loop .from) _ (call .result) (call .ensures) (s .loop .inv .0),
-      call .ensures .sound,
-      next-kept piece (s .loop .from) _ (call .result) (call .ensures) ∙ s .loop .inv .2,
+      next-within piece (s .loop .from) (s .loop .line) (s .loop .inv .1) (call .result) (call .ensures) (s .loop .inv .0),
+      next-places piece (s .loop .from) (s .loop .line) (s .loop .inv .1) (call .result) (call .ensures),
+      next-kept piece (s .loop .from) (s .loop .line) (s .loop .inv .1) (call .result) (call .ensures) ∙ s .loop .inv .2,
     )
 
 returns-2 : tie.Need-returns-2 Inv-loop μ-loop
 returns-2 c =
     let l = c .before .loop in
     let piece = c .before .before .before .args .piece .now in
-    (l .inv .1, λ e. kept-whole piece (l .from) (held (l .kept)) (omega arith) ∙ l .inv .2)
+    λ e. kept-whole piece (l .from) (held (l .line)) (omega arith) ∙ l .inv .2
 
 pub answer-piece-spec : {M : Type 1} → statement M
 answer-piece-spec =
@@ -90,7 +92,7 @@ answer-piece-spec =
     part-answer-next-end
     answer-next-requires
     write-text-requires
-    empty-requires
+    fresh-requires
     returns
     add-from
     loop-less

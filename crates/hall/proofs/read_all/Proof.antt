@@ -1,25 +1,24 @@
--- The line that is kept stays sound. The measure is the number of turns that are left.
+-- Nothing is said of the line that is kept. The measure is the number of turns that are left.
 use native.Mathlib.Omega.{arith}
 use borrow.Author.Needs.{needs}
-use Rattle.hall.specs.Keeping.{Sound}
 use Rattle.hall.proofs.read_all.Statement.{statement}
 use Rattle.hall.proofs.read_all.Tie as tie
 use Rattle.hall.proofs.read_all.Reads as reads
 use Rattle.hall.proofs.read_all.Lts as lts
-use Rattle.hall.proofs.lines.empty.Reads as empty-reads
 use Rattle.hall.proofs.read_some.Reads as read-some-reads
+use Rattle.lines.proofs.fresh.Reads as fresh-reads
 
 abbrev Inv-loop : tie.InvT-loop
-Inv-loop line₀ turns₀ line turns = Sound line
+Inv-loop kept₀ turns₀ kept turns = Unit {0}
 
 abbrev μ-loop : tie.MeasureT-loop
-μ-loop line₀ turns₀ line turns = turns
+μ-loop kept₀ turns₀ kept turns = turns
 
-empty-requires : tie.Need-empty-requires Inv-loop μ-loop
-empty-requires c κs = search needs
+fresh-requires : tie.Need-fresh-requires Inv-loop μ-loop
+fresh-requires c κs = search needs
 
 loop-holds : tie.Need-loop-holds Inv-loop μ-loop
-loop-holds c = search needs
+loop-holds c = tt
 
 read-some-requires : tie.Need-read-some-requires Inv-loop μ-loop
 read-some-requires c κs = search needs
@@ -34,7 +33,7 @@ loop-less : tie.Need-loop-less Inv-loop μ-loop
 loop-less c = omega arith
 
 loop-again : tie.Need-loop-again Inv-loop μ-loop
-loop-again c = search needs
+loop-again c = tt
 
 returns-2 : tie.Need-returns-2 Inv-loop μ-loop
 returns-2 c = search needs
@@ -45,7 +44,7 @@ read-all-spec =
     (tie.spec
     Inv-loop
     μ-loop
-    empty-requires
+    fresh-requires
     loop-holds
     read-some-requires
     returns

@@ -1,7 +1,7 @@
 -- Three rows and three numbers, one behind the other; none is longer than its part of the line.
 use native.Mathlib.Omega.{arith}
 use Rattle.answer_text.specs.Lines.{lineParts, line-parts, plain-short}
-use Rattle.answer_text.specs.Placing.{put-then, put-named}
+use Rattle.placed_text.specs.Placing.{put-then, put-named}
 use borrow.Author.Needs.{needs}
 use Rattle.answer_text.proofs.operations.put_operation.Statement.{statement}
 use Rattle.answer_text.proofs.operations.put_operation.Tie as tie

@@ -3,10 +3,10 @@ use mathlib.Core.Path.{_≡_, refl, sym, subst}
 use Prim.Native.Nat.{_+_, _*_, _-_, _≤_}
 use native.Mathlib.Omega.{arith}
 use lib.ListN.{length, length-drop}
-use Rattle.group_record.specs.Parts.{tail-part}
+use Rattle.laws.specs.LentParts.{tail-part}
 use Rattle.answer_text.specs.Lines.{Plain, line-short}
 use Rattle.answer_text.specs.RecordLines.{linesTo, lines-start, lines-next, lines-end, part-operation}
-use Rattle.answer_text.specs.Placing.{Put}
+use Rattle.placed_text.specs.Placing.{Put}
 use Rattle.answer_text.proofs.operations.put_operations.Statement.{statement}
 use Rattle.answer_text.proofs.operations.put_operations.Tie as tie
 use Rattle.answer_text.proofs.operations.put_operations.Reads as reads

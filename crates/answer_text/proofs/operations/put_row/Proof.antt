@@ -1,7 +1,7 @@
 -- Three words, one behind the other.
 use native.Mathlib.Omega.{arith}
 use Rattle.answer_text.specs.Lines.{rowWords, entry-word-short}
-use Rattle.answer_text.specs.Placing.{put-then}
+use Rattle.placed_text.specs.Placing.{put-then}
 use borrow.Author.Needs.{needs}
 use Rattle.answer_text.proofs.operations.put_row.Statement.{statement}
 use Rattle.answer_text.proofs.operations.put_row.Tie as tie

@@ -3,7 +3,7 @@ use mathlib.Core.Path.{_≡_, refl}
 use Prim.Native.Nat.{_+_, _-_, _≤_}
 use native.Mathlib.Omega.{arith}
 use lib.ListN.{length, take, length-set}
-use Rattle.answer_text.specs.Placing.{Put, put-start, put-next, put-whole}
+use Rattle.placed_text.specs.Placing.{Put, put-start, put-next, put-whole}
 use Rattle.answer_text.proofs.placing.put_bytes.Statement.{statement}
 use Rattle.answer_text.proofs.placing.put_bytes.Tie as tie
 use Rattle.answer_text.proofs.placing.put_bytes.Reads as reads

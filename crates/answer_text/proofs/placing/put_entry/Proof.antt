@@ -6,7 +6,7 @@ use native.Mathlib.Omega.{arith}
 use lib.ListN.{length-set}
 use Rattle.operation.specs.Meaning.{entryOf}
 use Rattle.answer_text.specs.Words.{space, signed, entry-negative, entry-plain}
-use Rattle.answer_text.specs.Placing.{put-two, put-three, put-named}
+use Rattle.placed_text.specs.Placing.{put-two, put-three, put-named}
 use borrow.Author.Needs.{needs}
 use Rattle.answer_text.proofs.placing.put_entry.Statement.{statement}
 use Rattle.answer_text.proofs.placing.put_entry.Tie as tie

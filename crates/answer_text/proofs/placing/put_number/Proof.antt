@@ -5,7 +5,7 @@ use Prim.Native.Nat.{ℕ}
 use native.Mathlib.Omega.{arith}
 use lib.ListN.{length-set}
 use Rattle.answer_text.specs.Words.{one-digit, two-digits}
-use Rattle.answer_text.specs.Placing.{put-two, put-three, put-named}
+use Rattle.placed_text.specs.Placing.{put-two, put-three, put-named}
 use borrow.Author.Needs.{needs}
 use Rattle.answer_text.proofs.placing.put_number.Statement.{statement}
 use Rattle.answer_text.proofs.placing.put_number.Tie as tie

@@ -1,5 +1,5 @@
 -- The definition, byte for byte.
-use Rattle.group_record.specs.Reading.{fromEnd}
+use Rattle.group_record.specs.Editions.{fromEnd}
 use mathlib.Core.Path.{refl}
 use borrow.Author.Needs.{needs}
 use Rattle.group_record.proofs.reader.from_end.Statement.{statement}

@@ -1,7 +1,7 @@
 -- The four tests in turn.
 use borrow.Author.Tests.{eq-eqb, ne-eqb, le-leb, lt-leb}
 use native.Mathlib.Omega.{arith}
-use Rattle.group_record.specs.Reading.{lengthFits}
+use Rattle.group_record.specs.Rules.{lengthFits}
 use borrow.Author.Needs.{needs}
 use Rattle.group_record.proofs.reader.length_fits.Statement.{statement}
 use Rattle.group_record.proofs.reader.length_fits.Tie as tie

@@ -1,32 +1,32 @@
--- No byte, no text; else the line's.
-use mathlib.Core.Path.{_∙_}
-use Rattle.hall.specs.Keeping.{held}
-use Rattle.hall.specs.Answers.{none-writable, one-writable, last-none, last-one}
+-- The text of the last line, if there is one.
+use mathlib.Core.Path.{_≡_, sym, subst}
+use Prim.Native.Nat.{_≤_}
+use lib.ListN.{length}
+use Rattle.lines.specs.Taking.{last-length}
+use Rattle.lines.specs.declared.Last.{Last}
+use Rattle.hall.specs.Answers.{last-part}
 use borrow.Author.Needs.{needs}
 use Rattle.hall.proofs.answers.last_text.Statement.{statement}
 use Rattle.hall.proofs.answers.last_text.Tie as tie
 use Rattle.hall.proofs.answers.last_text.Reads as reads
 use Rattle.hall.proofs.answers.last_text.Lts as lts
-use Rattle.hall.proofs.answers.line_text.Reads as line-text-reads
-use Rattle.hall.proofs.answers.no_text.Reads as no-text-reads
+use Rattle.hall.proofs.answers.text_of.Reads as text-of-reads
+use Rattle.lines.proofs.last_line.Reads as last-line-reads
 
-no-text-requires : tie.Need-no-text-requires
-no-text-requires c κs = search needs
+last-line-requires : tie.Need-last-line-requires
+last-line-requires c κs = search needs
+
+text-of-requires : tie.Need-text-of-requires
+text-of-requires c κs =
+    let s = c .before .before in
+    let whole : length (s .args .kept .bytes) ≡ 80 = search needs in
+    subst (λ (l : Last). l .line .length ≤ 81) (sym (c .before .last-line .ensures)) (last-length (s .args .kept) whole)
 
 returns : tie.Need-returns
 returns c =
     let s = c .before .before .before in
-    let none = c .no-text .ensures in
-    (none-writable _ none, none ∙ last-none (s .args .line) (s .pre) (c .before .if1 .taken))
-
-line-text-requires : tie.Need-line-text-requires
-line-text-requires c κs = search needs
-
-returns-2 : tie.Need-returns-2
-returns-2 c =
-    let s = c .before .before .before in
-    let one = c .line-text .ensures in
-    (one-writable (held (s .args .line)) _ one, one ∙ last-one (s .args .line) (s .pre) (c .before .if1 .left))
+    let last = c .before .before .last-line in
+    last-part (s .args .kept) (last .result) (last .ensures) (c .text-of .result) (c .text-of .ensures)
 
 pub last-text-spec : {M : Type 1} → statement M
-last-text-spec = tie.close (tie.spec no-text-requires returns line-text-requires returns-2)
+last-text-spec = tie.close (tie.spec last-line-requires text-of-requires returns)

@@ -7,12 +7,14 @@ use Rattle.operation.specs.Digits.{moved-residue}
 use Rattle.operation.specs.Lanes.{moved-small, moved-lanes, first-lane, second-lane, third-lane}
 use Rattle.operation.specs.Meaning.{matrixOf, vectorOf}
 use Rattle.operation.specs.Product.{movedOf}
+use Rattle.operation.specs.Twelves.{reducedOf, lanes-small-lanes}
 use borrow.Author.Needs.{needs}
 use Rattle.operation.proofs.product.moved.Statement.{statement}
 use Rattle.operation.proofs.product.moved.Tie as tie
 use Rattle.operation.proofs.product.moved.Reads as reads
 use Rattle.operation.proofs.product.moved.Lts as lts
 use Rattle.operation.proofs.product.lanes.Reads as lanes-reads
+use Rattle.operation.proofs.product.reduced.Reads as reduced-reads
 use Rattle.operation.proofs.product.rows_times.Reads as rows-times-reads
 use Rattle.operation.proofs.product.wide.Reads as wide-reads
 
@@ -49,32 +51,35 @@ mul-sum-2 c = search needs
 add-sum-4 : tie.Need-add-sum-4
 add-sum-4 c = search needs
 
-cast-t15 : tie.Need-cast-t15
-cast-t15 c = search needs
-
-cast-t16 : tie.Need-cast-t16
-cast-t16 c = search needs
-
-cast-t17 : tie.Need-cast-t17
-cast-t17 c = search needs
+reduced-requires : tie.Need-reduced-requires
+reduced-requires c κs =
+    let a = c .before .before .before .before .before .args in
+    let r = a .r in
+    let u = a .u in
+    let t = a .t in
+    lanes-small-lanes _ _ _ _
+    ((λ i. c .before .before .before .before .rows-times .ensures .0 i + c .before .before .before .lanes .ensures i + (c .before .before .wide .ensures i + c .before .wide2 .ensures i + c .wide3 .ensures i) * 48378534690827) ∙ moved-lanes _ _ _ _ _ _ _)
+    (moved-small (r .xx) (r .xy) (r .xz) (u .x) (u .y) (u .z) (t .x) (omega arith) (omega arith) (omega arith) (omega arith) (omega arith) (omega arith) (omega arith))
+    (moved-small (r .yx) (r .yy) (r .yz) (u .x) (u .y) (u .z) (t .y) (omega arith) (omega arith) (omega arith) (omega arith) (omega arith) (omega arith) (omega arith))
+    (moved-small (r .zx) (r .zy) (r .zz) (u .x) (u .y) (u .z) (t .z) (omega arith) (omega arith) (omega arith) (omega arith) (omega arith) (omega arith) (omega arith))
 
 returns : tie.Need-returns
-unfolding movedOf act plus matrixOf vectorOf
+unfolding reducedOf movedOf act plus matrixOf vectorOf
 returns c =
-    let a = c .before .before .before .before .before .args in
+    let a = c .before .before .before .before .before .before .args in
     let r = a .r in
     let u = a .u in
     let t = a .t in
     let x = r .xx * u .x + r .xy * u .y + r .xz * u .z + t .x + 11 * (u .x + u .y + u .z) in
     let y = r .yx * u .x + r .yy * u .y + r .yz * u .z + t .y + 11 * (u .x + u .y + u .z) in
     let z = r .zx * u .x + r .zy * u .y + r .zz * u .z + t .z + 11 * (u .x + u .y + u .z) in
-    let hx : x < 2097152 = moved-small (r .xx) (r .xy) (r .xz) (u .x) (u .y) (u .z) (t .x) (omega arith) (omega arith) (omega arith) (omega arith) (omega arith) (omega arith) (omega arith) in
-    let hy : y < 2097152 = moved-small (r .yx) (r .yy) (r .yz) (u .x) (u .y) (u .z) (t .y) (omega arith) (omega arith) (omega arith) (omega arith) (omega arith) (omega arith) (omega arith) in
-    let sum = (λ i. c .before .before .before .before .rows-times .ensures .0 i + c .before .before .before .lanes .ensures i + (c .before .before .wide .ensures i + c .before .wide2 .ensures i + c .wide3 .ensures i) * 48378534690827) ∙ moved-lanes _ _ _ _ _ _ _ in
-    let px = ap (λ n. n % 2097152 % 12) sum ∙ ap (λ n. n % 12) (first-lane x y z hx hy) ∙ sym (moved-residue (r .xx) (r .xy) (r .xz) (u .x) (u .y) (u .z) (t .x)) in
-    let py = ap (λ n. n / 2097152 % 2097152 % 12) sum ∙ ap (λ n. n % 12) (second-lane x y z hx hy) ∙ sym (moved-residue (r .yx) (r .yy) (r .yz) (u .x) (u .y) (u .z) (t .y)) in
-    let pz = ap (λ n. n / 4398046511104 % 12) sum ∙ ap (λ n. n % 12) (third-lane x y z hx hy) ∙ sym (moved-residue (r .zx) (r .zy) (r .zz) (u .x) (u .y) (u .z) (t .z)) in
-    λ i. record { x = px i; y = py i; z = pz i }
+    let hx : x < 261120 = moved-small (r .xx) (r .xy) (r .xz) (u .x) (u .y) (u .z) (t .x) (omega arith) (omega arith) (omega arith) (omega arith) (omega arith) (omega arith) (omega arith) in
+    let hy : y < 261120 = moved-small (r .yx) (r .yy) (r .yz) (u .x) (u .y) (u .z) (t .y) (omega arith) (omega arith) (omega arith) (omega arith) (omega arith) (omega arith) (omega arith) in
+    let sum = (λ i. c .before .before .before .before .before .rows-times .ensures .0 i + c .before .before .before .before .lanes .ensures i + (c .before .before .before .wide .ensures i + c .before .before .wide2 .ensures i + c .before .wide3 .ensures i) * 48378534690827) ∙ moved-lanes _ _ _ _ _ _ _ in
+    let px = ap (λ n. n % 2097152 % 12) sum ∙ ap (λ n. n % 12) (first-lane x y z (omega arith) (omega arith)) ∙ sym (moved-residue (r .xx) (r .xy) (r .xz) (u .x) (u .y) (u .z) (t .x)) in
+    let py = ap (λ n. n / 2097152 % 2097152 % 12) sum ∙ ap (λ n. n % 12) (second-lane x y z (omega arith) (omega arith)) ∙ sym (moved-residue (r .yx) (r .yy) (r .yz) (u .x) (u .y) (u .z) (t .y)) in
+    let pz = ap (λ n. n / 4398046511104 % 12) sum ∙ ap (λ n. n % 12) (third-lane x y z (omega arith) (omega arith)) ∙ sym (moved-residue (r .zx) (r .zy) (r .zz) (u .x) (u .y) (u .z) (t .z)) in
+    c .reduced .ensures ∙ λ i. record { x = px i; y = py i; z = pz i }
 
 pub moved-spec : {M : Type 1} → statement M
 moved-spec =
@@ -91,7 +96,5 @@ moved-spec =
     mul-sum
     mul-sum-2
     add-sum-4
-    cast-t15
-    cast-t16
-    cast-t17
+    reduced-requires
     returns)

@@ -1,0 +1,36 @@
+-- Too few bytes, or the status is 0.
+use mathlib.Core.Path.{_≡_, refl, _∙_}
+use borrow.Author.Tests.{lt-ltb, le-ltb}
+use lib.ListN.{length}
+use Rattle.calls.specs.CatalogueState.{start-put}
+use borrow.Author.Needs.{needs}
+use Rattle.calls.proofs.catalogues.symmetry_catalogue_start.Statement.{statement}
+use Rattle.calls.proofs.catalogues.symmetry_catalogue_start.Tie as tie
+use Rattle.calls.proofs.catalogues.symmetry_catalogue_start.Reads as reads
+use Rattle.calls.proofs.catalogues.symmetry_catalogue_start.Lts as lts
+use Rattle.calls.proofs.packing.refused.Reads as refused-reads
+
+refused-requires : tie.Need-refused-requires
+refused-requires c κs = search needs
+
+returns : tie.Need-returns
+returns c =
+    let state = c .before .before .before .args .state .now in
+    let few = lt-ltb (length state) 81 (c .before .if1 .taken) in
+    (c .refused .ensures ∙ rw few refl, rw few refl)
+
+slice-write-state : tie.Need-slice-write-state
+slice-write-state c = search needs
+
+same-length : tie.Need-same-length
+same-length c = search needs
+
+returns-2 : tie.Need-returns-2
+returns-2 c =
+    let state = c .before .before .args .state .now in
+    let enough = le-ltb (length state) 81 (c .if1 .left) in
+    (rw enough refl, rw enough (start-put state (c .if1 .left)))
+
+pub symmetry-catalogue-start-spec : {M : Type 1} → statement M
+symmetry-catalogue-start-spec =
+    tie.close (tie.spec refused-requires returns slice-write-state same-length returns-2)

@@ -1,0 +1,3 @@
+-- Which bytes stand for an operation.
+pub mod FiveBytes
+pub mod OneForm

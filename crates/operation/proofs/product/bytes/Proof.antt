@@ -1,0 +1,26 @@
+-- The code computes what the definition says.
+use Rattle.operation.specs.Twelves.{bytesOf}
+use borrow.Author.Needs.{needs}
+use Rattle.operation.proofs.product.bytes.Statement.{statement}
+use Rattle.operation.proofs.product.bytes.Tie as tie
+use Rattle.operation.proofs.product.bytes.Reads as reads
+use Rattle.operation.proofs.product.bytes.Lts as lts
+
+mul-result : tie.Need-mul-result
+mul-result c = search needs
+
+add-result : tie.Need-add-result
+add-result c = search needs
+
+mul-result-2 : tie.Need-mul-result-2
+mul-result-2 c = search needs
+
+add-result-2 : tie.Need-add-result-2
+add-result-2 c = search needs
+
+returns : tie.Need-returns
+unfolding bytesOf
+returns c = search needs
+
+pub bytes-spec : {M : Type 1} → statement M
+bytes-spec = tie.close (tie.spec mul-result add-result mul-result-2 add-result-2 returns)

@@ -1,0 +1,45 @@
+-- By cases of the handedness.
+use mathlib.Core.Path.{sym, _∙_, ap}
+use Rattle.operation_line.specs.Writing.{isTurn, writable}
+use borrow.Author.Needs.{needs}
+use Rattle.operation_line.proofs.writer.is_writable.Statement.{statement}
+use Rattle.operation_line.proofs.writer.is_writable.Tie as tie
+use Rattle.operation_line.proofs.writer.is_writable.Reads as reads
+use Rattle.operation_line.proofs.writer.is_writable.Lts as lts
+use Rattle.operation.proofs.rotation_type.identify_handedness.Reads as identify-handedness-reads
+
+identify-handedness-requires : tie.Need-identify-handedness-requires
+identify-handedness-requires c κs = search needs
+
+enum-told : tie.Need-enum-told
+enum-told c = search needs
+
+enum-told-2 : tie.Need-enum-told-2
+enum-told-2 c = search needs
+
+enum-told-3 : tie.Need-enum-told-3
+enum-told-3 c = search needs
+
+returns : tie.Need-returns
+unfolding writable
+returns c = sym (ap isTurn (sym (c .before .before .identify-handedness .ensures) ∙ c .enum-told .given .1))
+
+returns-2 : tie.Need-returns-2
+unfolding writable
+returns-2 c = sym (ap isTurn (sym (c .before .before .identify-handedness .ensures) ∙ c .enum-told2 .given .1))
+
+returns-3 : tie.Need-returns-3
+unfolding writable
+returns-3 c = sym (ap isTurn (sym (c .before .before .identify-handedness .ensures) ∙ c .enum-told3 .given .1))
+
+pub is-writable-spec : {M : Type 1} → statement M
+is-writable-spec =
+    tie.close
+    (tie.spec
+    identify-handedness-requires
+    enum-told
+    enum-told-2
+    enum-told-3
+    returns
+    returns-2
+    returns-3)

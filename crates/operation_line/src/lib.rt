@@ -1,0 +1,48 @@
+// Operation lines, as `-x,-y+1/2,z`: read into operations and written. New in the port: the Rust has no such lines.
+ghost use mathlib.Core.Path.{_≡_};
+ghost use Rattle.operation_line.specs.Answers.{numberOf, placeOf};
+
+pub mod reader;
+pub mod writer;
+
+use operation::Operation;
+
+// A letter of a line.
+pub enum Letter {
+    X,
+    Y,
+    Z,
+}
+
+// An operation read from a line; `TooLong` is refusal 40 at place 0, `Misspelt` 41 with its place, `Determinant` 42 at place 0.
+pub enum ReadLine {
+    Operation(Operation),
+    TooLong,
+    Misspelt(usize),
+    Determinant,
+}
+
+impl ReadLine {
+    // The refusal's number, 0 where an operation is read.
+    pub fn number(self) -> u8
+        ensures { λ r. ⌜ r ≡ numberOf self ⌝ }
+    {
+        match self {
+            ReadLine::Operation(_) => 0,
+            ReadLine::TooLong => 40,
+            ReadLine::Misspelt(_) => 41,
+            ReadLine::Determinant => 42,
+        }
+    }
+
+    pub fn place(self) -> usize
+        ensures { λ r. ⌜ r ≡ placeOf self ⌝ }
+    {
+        match self {
+            ReadLine::Operation(_) => 0,
+            ReadLine::TooLong => 0,
+            ReadLine::Misspelt(place) => place,
+            ReadLine::Determinant => 0,
+        }
+    }
+}

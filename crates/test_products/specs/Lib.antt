@@ -1,0 +1,2 @@
+-- How the test library packs operations into numbers.
+pub mod Packed
