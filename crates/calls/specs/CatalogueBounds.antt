@@ -1,13 +1,13 @@
 -- What is answered on a catalogue can be packed: at most 4,096 bytes are taken, and what is said of a line is a count, or a number and a place, of a byte each.
-use mathlib.Core.Path.{_≡_, refl, sym, _∙_, ap, ap₂, subst}
+use mathlib.Core.Path.{_≡_, refl, ap, ap₂}
 use mathlib.Core.Bool.{Bool, true, false, cond}
 use mathlib.Core.List.{List, [], _∷_}
-use Prim.Native.Nat.{ℕ, _+_, _*_, _<_, _≤_}
+use Prim.Native.Nat.{ℕ, _≤_}
 use native.Mathlib.Omega.{arith}
 use lib.Dec.{ltb}
 use lib.ListN.{length}
 use borrow.Author.Tests.{ltb-false}
-use Rattle.operation.specs.Answer.{Answer, given, refused, Nothing}
+use Rattle.operation.specs.Answer.{Answer, given, refused}
 use Rattle.lines.specs.Lines.{lastLine}
 use Rattle.lines.specs.Feeding.{takenOf, handedOver, keptBehind, taken-within}
 use Rattle.lines.specs.Keeping.{stored}
@@ -17,14 +17,12 @@ use Rattle.symbol_group.specs.declared.Answer as symbol-answer
 use Rattle.symbol_group.specs.declared.Answer.the-variants.{Group, Refused}
 use Rattle.group_record.specs.Copying.{roomFor}
 use Rattle.group_record.specs.SymbolRecords.{writtenBy, symbolRecordOf, symbolRecordAnswer}
-use Rattle.group_record.specs.declared.SymbolRecord.{SymbolRecord}
 use Rattle.group_record.specs.declared.SymbolRecord.the-variants.{Written, NoRoom}
 use Rattle.catalogue.specs.Answers.{mostAtOnce, isEnded, keeping, lineSoFar, endedIn, toldBy, refusing, partOf, pieceStep, endStep, Said, nothing, line, catalogueAnswer}
 use Rattle.catalogue.specs.declared.Catalogue.{Catalogue}
-use Rattle.catalogue.specs.declared.Step.{Step}
 use Rattle.catalogue.specs.declared.Answer as call
-use Rattle.catalogue.specs.declared.Answer.the-variants.{NoLine, Told as ToldOf, LongPiece, AfterEnd}
-use Rattle.calls.specs.Packing.{topByte, packed, mapped, Told, Close, near, Within, Low, Numbers, mapped-low}
+use Rattle.catalogue.specs.declared.Answer.the-variants.{Told as ToldOf, LongPiece, AfterEnd}
+use Rattle.calls.specs.Packing.{Close, near, Within, Low, Numbers}
 use Rattle.calls.specs.Catalogues.{saidNumber, stepNumber}
 use Rattle.calls.specs.SymbolBounds.{symbol-close}
 

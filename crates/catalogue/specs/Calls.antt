@@ -3,13 +3,11 @@
 use mathlib.Core.Path.{_≡_, refl, sym, _∙_, ap, ap₂, subst}
 use mathlib.Core.Bool.{Bool, true, false, cond}
 use mathlib.Core.List.{List, [], _∷_, _++_, map, append-assoc}
-use Prim.Native.Nat.{ℕ, zero, suc, _+_, _<_, _≤_}
+use Prim.Native.Nat.{ℕ, suc, _+_, _<_, _≤_}
 use native.Mathlib.Omega.{arith}
-use native.Mathlib.Numerals.{add-one}
 use lib.Dec.{leb, ltb}
-use lib.ListN.{length, take, drop, length-append, length-drop, take-append-drop, drop-of-length-le}
-use lib.Seq.{take-append-le}
-use borrow.Author.Tests.{leb-true, leb-false, ltb-true, ltb-false, lt-ltb}
+use lib.ListN.{length, drop, length-drop, take-append-drop, drop-of-length-le}
+use borrow.Author.Tests.{leb-true, leb-false, ltb-false, lt-ltb}
 use Rattle.hall_symbol.specs.Reader.{readSymbol}
 use Rattle.hall_symbol.specs.declared.refusal.Refusal.the-variants.{TooLong}
 use Rattle.symbol_group.specs.Answers.{symbolAnswer, refusedAnswer}
@@ -17,13 +15,13 @@ use Rattle.symbol_group.specs.declared.refusal.Refusal.the-variants.{Text}
 use Rattle.group_record.specs.SymbolRecords.{symbolRecordOf, symbolBufferOf}
 use Rattle.group_record.specs.declared.SymbolRecord.{SymbolRecord}
 use Rattle.group_record.specs.declared.SymbolRecord.the-variants.{Refused as NotWritten}
-use Rattle.lines.specs.Lines.{lastLine, linesOf, inARow, Unended, Spelled, next, lines-spelled, spelled-lines}
-use Rattle.lines.specs.Feeding.{shortened, keptBehind, handedOver, allHandedOver, takenOf, short-whole, long-shortened, long-length, all-parts, handed-lines, taken-within, taken-some}
+use Rattle.lines.specs.Lines.{lastLine, linesOf, inARow}
+use Rattle.lines.specs.Feeding.{shortened, keptBehind, handedOver, allHandedOver, takenOf, short-whole, long-shortened, long-length, all-parts, handed-lines}
 use Rattle.lines.specs.Keeping.{held, stored}
 use Rattle.lines.specs.Storing.{Handy, handy-length, stored-whole, held-stored, held-handy}
 use Rattle.lines.specs.Taking.{kept-handy, handed-once}
-use Rattle.catalogue.specs.Answers.{mostAtOnce, keptIn, keeping, lineSoFar, fresh, endedIn, toldBy, roomBy, refusing, partOf, pieceStep, pieceRoom, endStep, endRoom}
-use Rattle.catalogue.specs.Steps.{long-piece, piece-after, piece-open, end-after, end-open}
+use Rattle.catalogue.specs.Answers.{mostAtOnce, keptIn, keeping, lineSoFar, fresh, toldBy, roomBy, partOf, pieceStep, pieceRoom, endStep, endRoom}
+use Rattle.catalogue.specs.Steps.{piece-open, end-open}
 use Rattle.catalogue.specs.declared.Catalogue.{Catalogue}
 use Rattle.catalogue.specs.declared.Step.{Step}
 use Rattle.catalogue.specs.declared.Answer.{Answer}

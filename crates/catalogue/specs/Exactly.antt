@@ -3,18 +3,18 @@ use mathlib.Core.Path.{_≡_, refl, sym, _∙_, ap, subst}
 use mathlib.Core.Logic.{_↔_, _⊎_, inl, inr}
 use mathlib.Core.Bool.{Bool, true, false, cond}
 use mathlib.Core.List.{List, [], _∷_, _++_}
-use Prim.Native.Nat.{ℕ, zero, suc, _+_, _<_, _≤_}
+use Prim.Native.Nat.{ℕ, zero, suc, _+_, _*_, _<_, _≤_}
 use native.Mathlib.Omega.{arith}
-use lib.Dec.{leb, ltb}
+use lib.Dec.{ltb}
 use lib.ListN.{length, drop, length-append, length-drop}
-use borrow.Author.Tests.{leb-true, leb-false, ltb-true, ltb-false}
+use borrow.Author.Tests.{ltb-true, ltb-false}
 use Rattle.hall_symbol.specs.declared.refusal.Refusal.the-variants.{TooLong}
 use Rattle.symbol_group.specs.Answers.{symbolAnswer}
 use Rattle.symbol_group.specs.declared.Answer as symbol-answer
 use Rattle.symbol_group.specs.declared.Answer.the-variants.{Group, Refused}
 use Rattle.symbol_group.specs.declared.refusal.Refusal.the-variants.{Text}
 use Rattle.group_record.specs.AcceptedSymbols.{symbol-writable}
-use Rattle.group_record.specs.Copying.{room-there}
+use Rattle.group_record.specs.Places.{room-there}
 use Rattle.group_record.specs.SymbolRecords.{symbolRecordOf}
 use Rattle.group_record.specs.declared.SymbolRecord.{SymbolRecord}
 use Rattle.group_record.specs.declared.SymbolRecord.the-variants.{NoRoom, Refused as NotWritten}
@@ -22,11 +22,11 @@ use Rattle.lines.specs.Lines.{linesOf, inARow, Unended, next, lines-spelled, sp
 use Rattle.lines.specs.Feeding.{takenOf, handedOver, taken-some}
 use Rattle.catalogue.specs.Answers.{mostAtOnce, endedStatus, lineSoFar, fresh, toldBy, refusing, partOf, pieceStep, pieceRoom, endStep, endRoom}
 use Rattle.catalogue.specs.Steps.{long-piece, piece-after, piece-open, end-after, end-open}
-use Rattle.catalogue.specs.Calls.{takenBy, heard, stillToCome, AllFit, Calls, ending, handing, answersFrom, long-answer, Open, next-open, taken-told, still-fit, piece-takes, piece-next, cut-anywhere}
+use Rattle.catalogue.specs.Calls.{takenBy, heard, stillToCome, AllFit, Calls, ending, handing, answersFrom, long-answer, Open, next-open, taken-told, still-fit, piece-next, cut-anywhere}
 use Rattle.catalogue.specs.declared.Catalogue.{Catalogue}
 use Rattle.catalogue.specs.declared.Step.{Step}
 use Rattle.catalogue.specs.declared.Answer.{Answer}
-use Rattle.catalogue.specs.declared.Answer.the-variants.{NoLine, Told, LongPiece, AfterEnd}
+use Rattle.catalogue.specs.declared.Answer.the-variants.{LongPiece, AfterEnd}
 
 -- ---- refusals
 -- What was taken is no refusal.
@@ -161,7 +161,7 @@ room-suffices line room enough e = by-answer (symbolAnswer line .answer) refl
     by-answer : (a : symbol-answer.Answer) → symbolAnswer line .answer ≡ a → ⊥
     by-answer Group g =
         let (few, there, listing) = symbol-writable line (symbolAnswer line) refl g in
-        let fits = room-there 0 (symbolAnswer line .count) (length room) (omega arith) (omega arith) in
+        let fits = room-there 0 (5 * symbolAnswer line .count + 5) (length room) (omega arith) (omega arith) in
         let said = rw (g, fits) at e in
         let z : _≡_ {A = ℕ} 0 1 = cc in absurd (omega arith)
     by-answer (Refused r) g =

@@ -1,24 +1,19 @@
 -- From what the lines' room hands over to the answer of a call.
-use mathlib.Core.Path.{_≡_, refl, sym, _∙_, ap, ap₂}
-use mathlib.Core.Bool.{Bool, true, false, cond}
-use mathlib.Core.List.{List, [], _∷_, _++_}
+use mathlib.Core.Path.{_≡_, refl, _∙_, ap, ap₂}
+use mathlib.Core.Bool.{cond}
+use mathlib.Core.List.{List, [], _∷_}
 use Prim.Native.Nat.{ℕ, _<_, _≤_}
-use native.Mathlib.Omega.{arith}
-use lib.Dec.{ltb}
 use lib.ListN.{length, take, drop}
 use lib.Seq.{take-at}
 use borrow.Author.Tests.{lt-ltb, le-ltb}
 use Rattle.lines.specs.Lines.{lastLine}
 use Rattle.lines.specs.Feeding.{keptBehind, handedOver, takenOf}
-use Rattle.lines.specs.Keeping.{held, stored, zeros, lineIn, anyLine, firstLine, takenFrom, lastOf}
-use Rattle.lines.specs.declared.Kept.{Kept}
-use Rattle.lines.specs.declared.Line.{Line}
+use Rattle.lines.specs.Keeping.{stored, zeros, lineIn, anyLine, firstLine, takenFrom, lastOf}
 use Rattle.lines.specs.declared.Taken.{Taken}
 use Rattle.lines.specs.declared.Last.{Last}
 use Rattle.group_record.specs.SymbolRecords.{symbolRecordOf, symbolBufferOf}
 use Rattle.catalogue.specs.Answers.{mostAtOnce, keptIn, keeping, lineSoFar, endedIn, toldBy, roomBy, refusing, partOf, pieceStep, pieceRoom, endStep, endRoom}
 use Rattle.catalogue.specs.declared.Catalogue.{Catalogue}
-use Rattle.catalogue.specs.declared.Step.{Step}
 use Rattle.catalogue.specs.declared.Answer.{Answer}
 use Rattle.catalogue.specs.declared.Answer.the-variants.{NoLine, Told, LongPiece, AfterEnd}
 

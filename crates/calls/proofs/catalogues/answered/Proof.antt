@@ -1,5 +1,5 @@
 -- What was taken and what is said, or the refusal.
-use mathlib.Core.Path.{_≡_, refl, sym, _∙_, ap, subst}
+use mathlib.Core.Path.{_≡_, sym, _∙_, ap, subst}
 use Prim.Native.Nat.{ℕ, _+_, _*_}
 use native.Mathlib.Omega.{arith}
 use Rattle.group_record.specs.SymbolRecords.{symbolRecordAnswer}

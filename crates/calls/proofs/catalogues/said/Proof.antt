@@ -1,5 +1,5 @@
 -- The count, or the number and the place, and one more.
-use mathlib.Core.Path.{_≡_, refl, sym, _∙_, ap, ap₂, subst}
+use mathlib.Core.Path.{sym, _∙_, ap, ap₂, subst}
 use Prim.Native.Nat.{ℕ, _+_, _*_}
 use native.Mathlib.Omega.{arith}
 use Rattle.group_record.specs.SymbolRecords.{symbolRecordAnswer}

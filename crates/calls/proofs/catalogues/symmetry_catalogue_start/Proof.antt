@@ -1,5 +1,5 @@
 -- Too few bytes, or the status is 0.
-use mathlib.Core.Path.{_≡_, refl, _∙_}
+use mathlib.Core.Path.{refl, _∙_}
 use borrow.Author.Tests.{lt-ltb, le-ltb}
 use lib.ListN.{length}
 use Rattle.calls.specs.CatalogueState.{start-put}

@@ -1,6 +1,6 @@
 -- 46, or what the lines' room hands over.
 use mathlib.Core.Path.{_≡_, subst, sym}
-use Prim.Native.Nat.{ℕ, _≤_}
+use Prim.Native.Nat.{_≤_}
 use lib.ListN.{length}
 use Rattle.lines.specs.Taking.{last-length}
 use Rattle.lines.specs.declared.Last.{Last}

@@ -1,6 +1,6 @@
 -- 45, 46, or what the lines' room hands over.
-use mathlib.Core.Path.{_≡_, _∙_, ap, subst, sym}
-use Prim.Native.Nat.{ℕ, _≤_}
+use mathlib.Core.Path.{_≡_, subst, sym}
+use Prim.Native.Nat.{_≤_}
 use lib.ListN.{length}
 use Rattle.lines.specs.Taking.{taken-length}
 use Rattle.lines.specs.declared.Taken.{Taken}
