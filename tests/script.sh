@@ -1,5 +1,6 @@
 #!/usr/bin/env bash
-# Calls ./hall as a caller may get it wrong or right, and looks at what it says and at its status. The program must be built or its proofs at hand.
+# Calls ./hall and ./layers as a caller may get it wrong or right, and looks at what they say and at their status. What they call must be built or its
+# proofs at hand.
 # Prints 'N passed, M failed' and exits with 1 where M is not 0.
 set -uo pipefail
 root=$(cd "$(dirname "$0")/.." && pwd)
@@ -14,7 +15,7 @@ holds() {
     local name=$1 status=$2 output=$3 told=$4 found=0 said
     shift 4
     said=$("$@" 2>"$scratch/told") || found=$?
-    if [ "$found" = "$status" ] && [ "$said" = "$output" ] && { [ "$told" = "" ] || grep -q "^hall: .*$told" "$scratch/told"; }; then
+    if [ "$found" = "$status" ] && [ "$said" = "$output" ] && { [ "$told" = "" ] || grep -Eq "^(hall|layers): .*$told" "$scratch/told"; }; then
         passed=$((passed + 1))
     else
         failed=$((failed + 1))
@@ -36,5 +37,14 @@ holds "a missing file" 2 "" "no such file" "$root/hall" missing
 holds "a directory" 2 "" "a directory" "$root/hall" "$scratch"
 holds "an unknown option" 2 "" "no such option" "$root/hall" --fast
 holds "two files" 2 "" "one file" "$root/hall" symbols symbols
+ln -s "$root/layers" layers-link
+first_layers() { ./layers-link 'P 2' | head -n 2; }
+layers_help() { "$root/layers" --help | head -n 1; }
+layers_to_full() { "$root/layers" 'P 2' >/dev/full; }
+holds "layers, through a symbolic link" 0 $'P 2: order 2, 2 subgroups in 2 classes\nlayer 0: order 2, class 0, conjugates 1, normalizer\'s order 2, generators -x,-y,z' "" first_layers
+holds "layers: --help" 0 "usage: ./layers [--svg] SYMBOL" "" layers_help
+holds "layers: a refused symbol" 1 "" "refused 5" "$root/layers" 'P 2aq'
+holds "layers: no symbol" 2 "" "one symbol" "$root/layers"
+holds "layers: a full disk" 1 "" "" layers_to_full
 echo "$passed passed, $failed failed"
 [ "$failed" = 0 ]
