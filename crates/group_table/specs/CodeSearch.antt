@@ -1,11 +1,12 @@
 -- The search for a product's index by the code of its rotation: where the code stands among the listed ones, and that the table has this index in its cell.
 use mathlib.Core.Path.{_≡_, sym, _∙_, ap, ap₂}
-use mathlib.Core.List.{List, _++_, map, Memᴰ·map as mem-map}
+use mathlib.Core.List.{List, _∷_, [], _++_, map, Memᴰ·map as mem-map}
 use Prim.Native.Nat.{ℕ, _+_, _*_, _<_, _≤_}
+use native.Mathlib.Numerals.{add-one}
 use native.Mathlib.Omega.{arith}
 use lib.Dec.{eqb, eqb-refl}
-use lib.ListN.{length, getD, take}
-use lib.Seq.{length-take-le, getD-take}
+use lib.ListN.{length, getD, take, set}
+use lib.Seq.{take-suc, length-take-le, getD-take}
 use Rattle.laws.specs.Motion.{compose}
 use Rattle.laws.specs.Distinct.{Mem→has, eqb-equivalence}
 use Rattle.laws.specs.Growth.{place}
@@ -21,10 +22,11 @@ use Rattle.centering.specs.declared.Centering.{Centering}
 use Rattle.space_group_theorems.specs.Acceptance.{member-at}
 use Rattle.space_group.specs.Traversal.{turnOf, padded}
 use Rattle.space_group.specs.Places.{place-key}
+use Rattle.space_group.specs.Resuming.{padded-set}
 use Rattle.group_record.specs.Groups.{Alike, Allowed, Listing, sameCode}
 use Rattle.group_record.specs.ListedForm.{digits-again, code-equivalence}
 use Rattle.group_table.specs.Tables.{tableOf}
-use Rattle.group_table.specs.TableLaws.{at-inside, distinct-place, motionAt, table-length, cell-alike}
+use Rattle.group_table.specs.TableLaws.{at-inside, image-at, distinct-place, motionAt, table-length, cell-alike}
 
 -- Where the code of a product stands among codes; 48, which no index is, where an entry has left −1..1.
 abbrev pub productPlace : Product → List ℕ → ℕ
@@ -77,3 +79,17 @@ module _ (c : Centering) (n : ℕ) (operations : List Operation) (there : n ≤ 
         let count = length-take-le n operations there in
         let below = cell-alike c L A i j (omega arith) (omega arith) .0 in
         rw cell-found (rw count at below)
+
+-- ---- filling slots
+-- One more slot filled from a list.
+pub padded-next : (m : ℕ) (t : List ℕ) (k x : ℕ) → k < length t → length t ≤ m → x ≡ getD t k 0 → set (padded m 0 (take k t)) k x ≡ padded m 0 (take (k + 1) t)
+padded-next m t k x h few e =
+    let long = length-take-le k t (omega arith) in
+    let next = padded-set m 0 (take k t) x (omega arith) in
+    let more : take (k + 1) t ≡ take k t ++ x ∷ [] = ap (λ (i : ℕ). take i t) (add-one k) ∙ take-suc t k 0 h ∙ ap (λ (y : ℕ). take k t ++ y ∷ []) (sym e) in
+    rw (more) (ap (λ (i : ℕ). set (padded m 0 (take k t)) i x) (sym long) ∙ next)
+
+-- The code of an operation among the codes of the first n.
+pub code-at : (n : ℕ) (l : List Operation) (i : ℕ) (d : Operation) → i < n → n ≤ length l → turnOf (getD l i d) ≡ getD (map turnOf (take n l)) i 0
+code-at n l i d h k =
+    sym (image-at turnOf (take n l) i d 0 (omega (arith, length-take-le n l k)) ∙ ap turnOf (getD-take n l i d h))

@@ -12,5 +12,3 @@ pub mod SymbolSteps
 -- What the tables say of motions.
 pub mod TableMotions
 pub mod TableGroups
--- A record's table, column by column.
-pub mod Columns
