@@ -4,14 +4,15 @@ use mathlib.Core.Bool.{Bool, true, false, cond, _&&_, _||_}
 use mathlib.Core.List.{List, [], _∷_, _++_}
 use Prim.Native.Nat.{ℕ, suc, _+_, _-_, _<_, _≤_}
 use native.Mathlib.Omega.{arith}
+use native.Mathlib.Decide.{decLt}
 use native.Mathlib.Numerals.{add-one}
 use lib.Dec.{eqb}
 use borrow.Author.Tests.{eqb-true, eq-eqb, ne-eqb}
-use lib.ListN.{length, getD, take, drop, set, drop-of-length-le}
+use lib.ListN.{length, getD, take, drop, set, drop-of-length-le, take-append-drop}
 use lib.Seq.{drop-cons, set-split, take-suc, append-snoc, take-suc-set}
 use Rattle.hall_symbol.specs.Bytes.{whitespace}
 use Rattle.hall_symbol.specs.Runs.{run, Every, Stops, run-every, run-stops, run-all}
-use Rattle.layer_group.specs.Capitals.{isSmall, endsHere, letterHere, marked, capital, fromToken, capitalised}
+use Rattle.layer_group.specs.Capitals.{isSmall, letterHere, marked, fromToken, capitalised}
 
 -- Whitespace before the first token stays,
 pub capitalised-blank : (w s : List ℕ) → Every whitespace w → Stops whitespace s → capitalised (w ++ s) ≡ w ++ fromToken s
@@ -32,7 +33,7 @@ blank-whole s h = capitalised-none s (run-all whitespace s h)
 module _ (text : List ℕ) where
   -- In the places that a scan finds.
   at-token : capitalised text ≡ take (run whitespace text) text ++ fromToken (drop (run whitespace text) text)
-  at-token = ap capitalised (sym (lib.ListN.take-append-drop (run whitespace text) text)) ∙ capitalised-blank (take (run whitespace text) text) (drop (run whitespace text) text) (run-every whitespace text) (run-stops whitespace text)
+  at-token = ap capitalised (sym (take-append-drop (run whitespace text) text)) ∙ capitalised-blank (take (run whitespace text) text) (drop (run whitespace text) text) (run-every whitespace text) (run-stops whitespace text)
 
   -- ---- whether p or c stands at a place and ends its token
   pub letter-none : (at : ℕ) → length text ≤ at → letterHere (drop at text) ≡ false
@@ -66,7 +67,7 @@ module _ (text : List ℕ) where
 
   -- A place with a letter is inside.
   pub letter-inside : (at : ℕ) → letterHere (drop at text) ≡ true → at < length text
-  letter-inside at e = elim (native.Mathlib.Decide.decLt at (length text)) [
+  letter-inside at e = elim (decLt at (length text)) [
     | yes h ↦ h
     | no h ↦ let n = letter-none at (omega arith) in let z : _≡_ {A = Bool} true false = sym e ∙ n in let y : _≡_ {A = ℕ} 1 0 = ap (λ b. cond b 1 0) z in absurd (omega arith)
   ]

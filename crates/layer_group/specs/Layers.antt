@@ -1,7 +1,7 @@
 -- The layer rules, said of motions of space: zero in the four entries that mix z with x or y, and where the zz entry is 1 a whole number of cells along z;
 -- and the test of an operation's digits that decides them.
-use mathlib.Core.Path.{_≡_, refl, sym}
-use mathlib.Core.Bool.{Bool, cond, _&&_, _||_, not}
+use mathlib.Core.Path.{_≡_, sym}
+use mathlib.Core.Bool.{Bool, true, false, cond, _&&_, _||_, not}
 use mathlib.Core.List.{List, [], _∷_}
 use Prim.Native.Nat.{ℕ, zero, suc, _+_, _<_}
 use native.Mathlib.Numerals.{add-one}
@@ -36,12 +36,12 @@ front (o ∷ l) = cond (isLayer o) (suc (front l)) zero
 -- ---- the search
 module _ (l : List Operation) (i : ℕ) (h : i < length l) where
   -- It is here,
-  pub front-hit : isLayer (getD l i identityOperation) ≡ mathlib.Core.Bool.false → front (drop i l) ≡ 0
+  pub front-hit : isLayer (getD l i identityOperation) ≡ false → front (drop i l) ≡ 0
   unfolding front
   front-hit e = rw (drop-cons l i identityOperation, e)
 
   -- or it is further on.
-  pub front-miss : isLayer (getD l i identityOperation) ≡ mathlib.Core.Bool.true → front (drop i l) ≡ front (drop (i + 1) l) + 1
+  pub front-miss : isLayer (getD l i identityOperation) ≡ true → front (drop i l) ≡ front (drop (i + 1) l) + 1
   unfolding front
   front-miss e = rw (drop-cons l i identityOperation, e, add-one i) (sym (add-one _))
 

@@ -1,9 +1,9 @@
 -- The layer rules of motions: the test of digits decides them, they do not depend on the motion chosen modulo the lattice of P or C, and they say that planes
 -- z = const go to such planes, lines along z to such lines, and no motion that keeps the sense of z moves along it but by whole cells.
 use mathlib.Core.Path.{_≡_, refl, sym, _∙_, ap, ap₂}
-use mathlib.Core.Logic.{_⊎_, inl, inr, _↔_}
-use mathlib.Core.Bool.{Bool, true, false, cond, _&&_, _||_, not}
-use mathlib.Core.List.{List, [], _∷_, List·Memᴰ as Mem, List·Memᴰ·head as here, List·Memᴰ·tail as there}
+use mathlib.Core.Logic.{inl, inr, _↔_}
+use mathlib.Core.Bool.{Bool, true, false, _||_, not}
+use mathlib.Core.List.{List·Memᴰ as Mem, List·Memᴰ·head as here, List·Memᴰ·tail as there}
 use Prim.Native.Nat.{ℕ, _+_, _%_, _-_, _<_, _≤_}
 use native.Mathlib.Omega.{arith}
 use lib.Dec.{eqb}
@@ -12,13 +12,14 @@ use borrow.Author.Tests.{eqb-true, eqb-false, eq-eqb}
 use Rattle.laws.specs.Integer.{nought, ring, one-*ℤ}
 use Rattle.laws.specs.Matrix.{Vector, act, plus, opposite}
 use Rattle.laws.specs.Motion.{SpaceMotion}
-use Rattle.laws.specs.Residue.{residue, residue-add, residue-neg, residue-lt, residue-pos, Triple, reduced}
+use Rattle.laws.specs.Residue.{residue, residue-add, residue-neg, residue-lt, Triple}
 use Rattle.laws.specs.MotionsModulo.{Alike}
 use Rattle.operation.specs.Meaning.{entryOf, digitOf, digitAbove, matrixOf, vectorOf, motionOf, Digits}
 use Rattle.operation.specs.Entries.{digit-again}
 use Rattle.operation.specs.declared.Operation.{Operation}
 use Rattle.centering.specs.Letters.{pointsOf}
 use Rattle.centering.specs.declared.Centering.{Centering}
+use Rattle.centering.specs.declared.Centering.the-variants.{P, C}
 use Rattle.layer_group.specs.Layers.{LayerMotion, isLayer}
 use Rattle.layer_group.specs.Spelling.{OfLayer, both, clash}
 
@@ -76,11 +77,11 @@ module _ (o : Operation) (digits : Digits (o .rotation)) (below : o .translation
 level-points : (c : Centering) → OfLayer c → (t : Triple) → Mem t (pointsOf c) → t .z ≡ 0
 level-points c (inl e) t m = in-p (rw e at m)
   where
-    in-p : Mem t (pointsOf Rattle.centering.specs.declared.Centering.the-variants.P) → t .z ≡ 0
+    in-p : Mem t (pointsOf P) → t .z ≡ 0
     in-p (here p) = ap (λ (t : Triple). t .z) p
 level-points c (inr e) t m = in-c (rw e at m)
   where
-    in-c : Mem t (pointsOf Rattle.centering.specs.declared.Centering.the-variants.C) → t .z ≡ 0
+    in-c : Mem t (pointsOf C) → t .z ≡ 0
     in-c (here p) = ap (λ (t : Triple). t .z) p
     in-c (there (here p)) = ap (λ (t : Triple). t .z) p
 

@@ -1,10 +1,10 @@
 -- How the answers are put together from the plain symbol's, and what holds of their slots.
-use mathlib.Core.Path.{_≡_, refl, sym, _∙_, ap}
-use mathlib.Core.Bool.{Bool, true, false}
+use mathlib.Core.Path.{_≡_, refl, ap}
+use mathlib.Core.Bool.{Bool, true, false, cond, _&&_}
 use mathlib.Core.List.{List, [], _∷_}
-use Prim.Native.Nat.{ℕ, _≤_, _<_}
+use Prim.Native.Nat.{ℕ, suc, _-_, _≤_, _<_}
 use native.Mathlib.Omega.{arith}
-use lib.Dec.{ltb}
+use lib.Dec.{eqb, ltb}
 use lib.ListN.{length, getD, take}
 use borrow.Author.Tests.{lt-ltb, le-ltb}
 use Rattle.operation.specs.Product.{identityOperation}
@@ -12,17 +12,18 @@ use Rattle.operation.specs.declared.Operation.{Operation}
 use Rattle.centering.specs.Letters.{byteOf}
 use Rattle.centering.specs.declared.Centering.{Centering}
 use Rattle.centering.specs.declared.Centering.the-variants.{P, A, B, C, I, R, F, H}
+use Rattle.hall_symbol.specs.Bytes.{whitespace}
 use Rattle.hall_symbol.specs.Walk.{read-long}
 use Rattle.hall_symbol.specs.declared.refusal.Refusal.the-variants.{TooLong}
 use Rattle.space_group.specs.Resuming.{at-any}
-use Rattle.symbol_group.specs.Answers.{readingAnswer, symbolAnswer}
+use Rattle.symbol_group.specs.Answers.{symbolAnswer}
 use Rattle.symbol_group.specs.Slots.{symbol-slots}
 use Rattle.symbol_group.specs.declared.refusal.Refusal as plain-refusal
 use Rattle.symbol_group.specs.declared.refusal.Refusal.the-variants.{Text}
 use Rattle.symbol_group.specs.declared.Answer as plain
 use Rattle.symbol_group.specs.declared.Answer.the-variants as plain-answer
 use Rattle.symbol_group.specs.declared.SymbolGroup.{SymbolGroup}
-use Rattle.layer_group.specs.Capitals.{letterHere, fromToken, capitalised}
+use Rattle.layer_group.specs.Capitals.{letterHere, marked, fromToken, capitalised}
 use Rattle.layer_group.specs.Layers.{front}
 use Rattle.layer_group.specs.Answers.{refusedAnswer, layeredBy, layered, layerAnswer, orderOf, smallOf, letterOf, operationAt}
 use Rattle.layer_group.specs.declared.refusal.Refusal.{Refusal}
@@ -37,15 +38,15 @@ use Rattle.layer_group.specs.declared.LayerOperation.the-variants.{Opera
 token-length : (s : List ℕ) → length (fromToken s) ≡ length s
 unfolding fromToken
 token-length [] = refl
-token-length (b ∷ []) = go (letterHere (b ∷ [])) (lib.Dec.eqb b 45)
+token-length (b ∷ []) = go (letterHere (b ∷ [])) (eqb b 45)
   where
-    go : (x y : Bool) → length (mathlib.Core.Bool.cond x (Prim.Native.Nat._-_ b 32 ∷ []) (mathlib.Core.Bool.cond (mathlib.Core.Bool._&&_ y false) (b ∷ []) (Rattle.layer_group.specs.Capitals.marked b ∷ []))) ≡ 1
+    go : (x y : Bool) → length (cond x ((b - 32) ∷ []) (cond (y && false) (b ∷ []) (marked b ∷ []))) ≡ 1
     go true y = refl
     go false true = refl
     go false false = refl
-token-length (b ∷ d ∷ s) = go (letterHere (b ∷ d ∷ s)) (mathlib.Core.Bool._&&_ (lib.Dec.eqb b 45) (letterHere (d ∷ s)))
+token-length (b ∷ d ∷ s) = go (letterHere (b ∷ d ∷ s)) (eqb b 45 && letterHere (d ∷ s))
   where
-    go : (x y : Bool) → length (mathlib.Core.Bool.cond x (Prim.Native.Nat._-_ b 32 ∷ d ∷ s) (mathlib.Core.Bool.cond y (b ∷ Prim.Native.Nat._-_ d 32 ∷ s) (Rattle.layer_group.specs.Capitals.marked b ∷ d ∷ s))) ≡ length (b ∷ d ∷ s)
+    go : (x y : Bool) → length (cond x ((b - 32) ∷ d ∷ s) (cond y (b ∷ (d - 32) ∷ s) (marked b ∷ d ∷ s))) ≡ length (b ∷ d ∷ s)
     go true y = refl
     go false true = refl
     go false false = refl
@@ -53,10 +54,10 @@ token-length (b ∷ d ∷ s) = go (letterHere (b ∷ d ∷ s)) (mathlib.Core.Boo
 pub capitalised-length : (s : List ℕ) → length (capitalised s) ≡ length s
 unfolding capitalised
 capitalised-length [] = refl
-capitalised-length (b ∷ s) = go (Rattle.hall_symbol.specs.Bytes.whitespace b) (capitalised-length s)
+capitalised-length (b ∷ s) = go (whitespace b) (capitalised-length s)
   where
-    go : (x : Bool) → length (capitalised s) ≡ length s → length (mathlib.Core.Bool.cond x (b ∷ capitalised s) (fromToken (b ∷ s))) ≡ length (b ∷ s)
-    go true e = ap Prim.Native.Nat.suc e
+    go : (x : Bool) → length (capitalised s) ≡ length s → length (cond x (b ∷ capitalised s) (fromToken (b ∷ s))) ≡ length (b ∷ s)
+    go true e = ap suc e
     go false e = token-length (b ∷ s)
 
 -- ---- from the plain symbol
@@ -90,7 +91,7 @@ module _ (text : List ℕ) (g : SymbolGroup) (e : g ≡ symbolAnswer (capitalise
 by-slots : (a : plain.Answer) (c : Centering) (n : ℕ) (l : List Operation) → n ≤ 48 → length l ≡ 48 → (layeredBy a c n l .count ≤ 48) × (length (layeredBy a c n l .operations) ≡ 48)
 by-slots plain-answer.Group c n l h k = go (ltb (front (take n l)) n)
   where
-    go : (b : Bool) → let g : LayerGroup = mathlib.Core.Bool.cond b (refusedAnswer (NoLayer (front (take n l)))) (record { answer = Group; centering = c; count = n; operations = l }) in (g .count ≤ 48) × (length (g .operations) ≡ 48)
+    go : (b : Bool) → let g : LayerGroup = cond b (refusedAnswer (NoLayer (front (take n l)))) (record { answer = Group; centering = c; count = n; operations = l }) in (g .count ≤ 48) × (length (g .operations) ≡ 48)
     go true = (omega arith, refl)
     go false = (h, k)
 by-slots (plain-answer.Refused r) c n l h k = (omega arith, refl)

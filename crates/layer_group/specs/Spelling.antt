@@ -7,17 +7,21 @@ use mathlib.Core.List.{List, [], _∷_, _++_}
 use Prim.Native.Nat.{ℕ, zero, suc, _+_, _-_, _<_, _≤_}
 use native.Mathlib.Omega.{arith}
 use lib.Dec.{eqb, ltb}
-use borrow.Author.Tests.{eqb-true, eqb-false, ltb-true, ltb-false}
+use borrow.Author.Tests.{eqb-true, eq-eqb, not-false, ltb-true, ltb-false, lt-ltb, le-ltb}
 use lib.ListN.{length, getD}
 use Rattle.operation.specs.declared.Operation.{Operation}
 use Rattle.centering.specs.Letters.{byteOf}
 use Rattle.centering.specs.declared.Centering.{Centering}
-use Rattle.centering.specs.declared.Centering.the-variants.{P, C}
+use Rattle.centering.specs.declared.Centering.the-variants.{P, A, B, C, I, R, F, H}
+use Rattle.hall_token.specs.declared.Previous.{Previous}
 use Rattle.hall_symbol.specs.Bytes.{whitespace, solid, allowed}
-use Rattle.hall_symbol.specs.Runs.{run, Every, Stops, run-all, run-at, run-below}
-use Rattle.hall_symbol.specs.Cut.{Cut, FirstToken, blank, token, first-token, solid-not-whitespace, cut-firstword}
+use Rattle.hall_symbol.specs.Runs.{run, Every, Stops, every-run, run-all, run-at, run-below}
+use Rattle.hall_symbol.specs.Cut.{Cut, FirstToken, blank, token, first-token, solid-not-whitespace, cut-blank, cut-firstword, cut-length}
 use Rattle.hall_symbol.specs.Reader.{Reading, symbol, refusal, readSymbol}
-use Rattle.hall_symbol.specs.Spelling.{latticeSpelling, Fit, Spells, FirstForbidden, LatticeWrong, Refuses, Says}
+use Rattle.hall_symbol.specs.Spelling.{latticeSpelling, Fit, Begins, lattice, rotation, Spells, FirstForbidden, LatticeWrong, Refuses, Says}
+use Rattle.hall_symbol.specs.Lattice.{latticeToken}
+use Rattle.hall_symbol.specs.Parts.{lattice-read}
+use Rattle.hall_symbol.specs.declared.lattice.Lattice.the-variants.{Is as IsLattice}
 use Rattle.hall_symbol.specs.Agreement.{says-read, read-says}
 use Rattle.hall_symbol.specs.declared.refusal.Refusal.{Refusal}
 use Rattle.hall_symbol.specs.declared.refusal.Refusal.the-variants.{TooLong, ForbiddenByte, NoToken, Lattice, Token, Shift, NoRotation, TooMany}
@@ -194,7 +198,7 @@ stops-token (b ∷ t) after h e = solid-not-whitespace b (e .0)
 ends-after : (after : List ℕ) → Stops solid after → endsHere after ≡ true
 unfolding solid
 ends-after [] h = refl
-ends-after (b ∷ s) h = borrow.Author.Tests.not-false (whitespace b) h
+ends-after (b ∷ s) h = not-false (whitespace b) h
 
 small-here : (c : Centering) → OfLayer c → isSmall (smallOf c) ≡ true
 unfolding isSmall
@@ -240,7 +244,7 @@ no-inverted b t after e k n = go (eqb b 45 && letterHere (t ++ after)) refl
   where
     behind : (t after : List ℕ) → Every solid t → Stops solid after → b ≡ 45 → ¬ SmallToken (b ∷ t) → letterHere (t ++ after) ≡ true → ⊥
     behind [] [] e k m n h = clash false h refl
-    behind [] (d ∷ s) e k m n h = clash (whitespace d) (borrow.Author.Tests.not-false (whitespace d) k) (small-solid d (letter-parts d s h .0))
+    behind [] (d ∷ s) e k m n h = clash (whitespace d) (not-false (whitespace d) k) (small-solid d (letter-parts d s h .0))
     behind (d ∷ []) after e k m n h = let (c, l, p) = small-letter d (letter-parts d after h .0) in n (true, c, l, ap (λ b. b ∷ d ∷ []) m ∙ ap (λ d. 45 ∷ d ∷ []) p)
     behind (d ∷ f ∷ t) after e k m n h = clash (whitespace f) (letter-parts d (f ∷ t ++ after) h .1) (solid-not-whitespace f (e .1 .0))
 
@@ -254,14 +258,14 @@ no-mark t true c e = let y : _≡_ {A = ℕ} 63 45 = ap (λ l. getD l 0 0) e in 
 no-mark t false c e = let y : _≡_ {A = ℕ} 63 (byteOf c) = ap (λ l. getD l 0 0) e in other c y
   where
     other : (c : Centering) → _≡_ {A = ℕ} 63 (byteOf c) → ⊥
-    other Rattle.centering.specs.declared.Centering.the-variants.P y = omega arith
-    other Rattle.centering.specs.declared.Centering.the-variants.A y = omega arith
-    other Rattle.centering.specs.declared.Centering.the-variants.B y = omega arith
-    other Rattle.centering.specs.declared.Centering.the-variants.C y = omega arith
-    other Rattle.centering.specs.declared.Centering.the-variants.I y = omega arith
-    other Rattle.centering.specs.declared.Centering.the-variants.R y = omega arith
-    other Rattle.centering.specs.declared.Centering.the-variants.F y = omega arith
-    other Rattle.centering.specs.declared.Centering.the-variants.H y = omega arith
+    other P y = omega arith
+    other A y = omega arith
+    other B y = omega arith
+    other C y = omega arith
+    other I y = omega arith
+    other R y = omega arith
+    other F y = omega arith
+    other H y = omega arith
 
 -- Any other token begins with `?` in the copy.
 token-other : (b : ℕ) (t after : List ℕ) → Every solid (b ∷ t) → Stops solid after → ¬ SmallToken (b ∷ t) → allowed b ≡ true → fromToken (b ∷ t ++ after) ≡ 63 ∷ t ++ after
@@ -334,7 +338,7 @@ small-or-not (b ∷ d ∷ []) = go (eqb b 45 && isSmall d) refl
     met true c l e =
         let p : b ≡ 45 = ap (λ l. getD l 0 0) e in
         let q : isSmall d ≡ true = ap isSmall (ap (λ l. getD l 1 0) e) ∙ small-here c l in
-        rw (borrow.Author.Tests.eq-eqb b 45 p, q)
+        rw (eq-eqb b 45 p, q)
     met false c l e = let y : _≡_ {A = ℕ} 2 1 = ap length e in absurd (omega arith)
 
     go : (x : Bool) → eqb b 45 && isSmall d ≡ x → SmallToken (b ∷ d ∷ []) ⊎ (¬ SmallToken (b ∷ d ∷ []))
@@ -382,7 +386,7 @@ module _ (text plain : List ℕ) (K : Capital text plain) where
   behind-letter (refusal TooLong) h = absurd (omega (arith, plain-fit .0, h))
   behind-letter (refusal (ForbiddenByte p)) h = absurd (clash (allowed (getD plain p 0)) (every-at allowed plain (plain-fit .1) p (h .within)) (h .forbidden))
   behind-letter (refusal NoToken) (fit, h) =
-      absurd (clash (ltb (run whitespace plain) (length plain)) (borrow.Author.Tests.lt-ltb (run whitespace plain) (length plain) (omega (arith, Rattle.hall_symbol.specs.Cut.cut-blank plain (K .w) _ (K .after) (plain-cut text plain K), Rattle.hall_symbol.specs.Cut.cut-length plain (K .w) _ (K .after) (plain-cut text plain K), capital-some (K .inverted) (K .letter)))) (borrow.Author.Tests.le-ltb (run whitespace plain) (length plain) (omega (arith, Rattle.hall_symbol.specs.Runs.every-run whitespace plain h))))
+      absurd (clash (ltb (run whitespace plain) (length plain)) (lt-ltb (run whitespace plain) (length plain) (omega (arith, cut-blank plain (K .w) _ (K .after) (plain-cut text plain K), cut-length plain (K .w) _ (K .after) (plain-cut text plain K), capital-some (K .inverted) (K .letter)))) (le-ltb (run whitespace plain) (length plain) (omega (arith, every-run whitespace plain h))))
   behind-letter (refusal (Lattice p)) W =
       absurd (W .wrong (K .inverted) (K .letter) (sym (cut-firstword plain (W .w) (W .t) (W .after) (W .cut)) ∙ cut-firstword plain (K .w) _ (K .after) (plain-cut text plain K)))
   behind-letter (refusal (Token p r)) h = (plain, K, h)
@@ -426,17 +430,17 @@ module _ (text : List ℕ) where
 
 -- ---- the letter
 -- A text that begins well begins with its letter.
-first-letter : {text : List ℕ} {c : Centering} {found : List Operation} {previous : Rattle.hall_token.specs.declared.Previous.Previous} {p : ℕ} {s : List ℕ} → Rattle.hall_symbol.specs.Spelling.Begins text c found previous p s
+first-letter : {text : List ℕ} {c : Centering} {found : List Operation} {previous : Previous} {p : ℕ} {s : List ℕ} → Begins text c found previous p s
     → (w : List ℕ) × (inverted : Bool) × (after : List ℕ) × Cut text w (latticeSpelling inverted c) after
-first-letter (Rattle.hall_symbol.specs.Spelling.lattice {w} {after} inverted c fit cut) = (w, inverted, after, cut)
-first-letter (Rattle.hall_symbol.specs.Spelling.rotation o f a b cut stops few says) = first-letter b
+first-letter (lattice {w} {after} inverted c fit cut) = (w, inverted, after, cut)
+first-letter (rotation o f a b cut stops few says) = first-letter b
 
 -- The lattice of a layer symbol is that of its letter: P or C.
 pub layer-letter : (text : List ℕ) (c : Centering) (gs : List Operation) → LayerSpells text c gs → OfLayer c
 layer-letter text c gs (plain, K, s) =
     let (w, inverted, after, cut) = first-letter (s .begins) in
     let same : latticeSpelling (K .inverted) (K .letter) ≡ latticeSpelling inverted c = sym (cut-firstword plain (K .w) _ (K .after) (plain-cut text plain K)) ∙ cut-firstword plain w _ after cut in
-    let read : Rattle.hall_symbol.specs.declared.lattice.Lattice.the-variants.Is (K .inverted) (K .letter) ≡ Rattle.hall_symbol.specs.declared.lattice.Lattice.the-variants.Is inverted c =
-    sym (Rattle.hall_symbol.specs.Parts.lattice-read (K .inverted) (K .letter)) ∙ ap Rattle.hall_symbol.specs.Lattice.latticeToken same ∙ Rattle.hall_symbol.specs.Parts.lattice-read inverted c in
+    let read : IsLattice (K .inverted) (K .letter) ≡ IsLattice inverted c =
+    sym (lattice-read (K .inverted) (K .letter)) ∙ ap latticeToken same ∙ lattice-read inverted c in
     let letter : K .letter ≡ c = cc in
     subst OfLayer letter (K .layer)

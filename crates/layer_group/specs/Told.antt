@@ -1,7 +1,7 @@
 -- What is answered for a layer symbol's text, by number and place: a list exactly if the text spells a layer symbol that is accepted and every motion of its set
 -- is one of a layer; 19 exactly at the first listed operation that is none; every other refusal exactly as for the text with its capital letter.
-use mathlib.Core.Path.{_≡_, refl, sym, _∙_, ap, ap₂, subst}
-use mathlib.Core.Logic.{_⊎_, inl, inr, _↔_}
+use mathlib.Core.Path.{_≡_, refl, sym, _∙_, ap, subst}
+use mathlib.Core.Logic.{_↔_}
 use mathlib.Core.Bool.{Bool, true, false, cond}
 use mathlib.Core.List.{List, [], _∷_, List·Memᴰ as Mem, List·Memᴰ·head as here, List·Memᴰ·tail as there}
 use Prim.Native.Nat.{ℕ, zero, suc, _≤_, _<_}
@@ -11,7 +11,7 @@ use lib.ListN.{length, getD, take}
 use lib.Seq.{length-take-le}
 use borrow.Author.Tests.{lt-ltb, le-ltb, ltb-true, ltb-false}
 use Rattle.laws.specs.Motion.{SpaceMotion}
-use Rattle.laws.specs.MotionsModulo.{Alike, motions-keyed}
+use Rattle.laws.specs.MotionsModulo.{motions-keyed}
 use Rattle.operation.specs.Answer as answer
 use Rattle.operation.specs.Meaning.{motionOf, Digits}
 use Rattle.operation.specs.Entries.{digits-entries}
@@ -28,28 +28,28 @@ use Rattle.hall_symbol.specs.declared.refusal.Refusal.the-variants as text-vari
 use Rattle.space_group.specs.Generated.{AllKeep, FewRotations, SmallRotations, OneTranslation, refused, outcomeOf}
 use Rattle.space_group.specs.Refusals as generator-numbers
 use Rattle.space_group.specs.declared.refusal.Refusal as generators
-use Rattle.space_group_theorems.specs.Acceptance.{Accepted, member-at, member-index}
+use Rattle.space_group_theorems.specs.Acceptance.{Accepted, member-at}
 use Rattle.space_group_theorems.specs.Members.{rotation-generated, translation-below}
 use Rattle.space_group_theorems.specs.SetOfMotions.{InSet, set-exactly}
 use Rattle.symbol_group.specs.Answers.{symbolAnswer}
 use Rattle.symbol_group.specs.Answers as plain
-use Rattle.symbol_group.specs.AcceptedTexts.{AcceptedText, accepted-text}
+use Rattle.symbol_group.specs.Slots.{symbol-slots}
+use Rattle.symbol_group.specs.AcceptedTexts.{accepted-text}
 use Rattle.symbol_group.specs.Exactly.{group-exactly, text-exactly, generators-refused}
 use Rattle.symbol_group.specs.Refusals as plain-numbers
 use Rattle.symbol_group.specs.Told as plain-told
 use Rattle.symbol_group.specs.declared.refusal.Refusal as plain-refusal
 use Rattle.symbol_group.specs.declared.refusal.Refusal.the-variants.{Text, Group as NoGroup}
+use Rattle.symbol_group.specs.declared.SymbolGroup.{SymbolGroup}
 use Rattle.symbol_group.specs.declared.Answer as plain-answers
 use Rattle.symbol_group.specs.declared.Answer.the-variants as plain-answer
 use Rattle.layer_group.specs.Capitals.{capitalised}
 use Rattle.layer_group.specs.Layers.{LayerMotion, isLayer, front}
 use Rattle.layer_group.specs.Motions.{test-exactly, alike-layer}
 use Rattle.layer_group.specs.Spelling.{OfLayer, LayerSpells, LayerRefuses, LayerWrong, layer-reads, layer-letter, clash}
-use Rattle.layer_group.specs.Refusals.{numberOf, placeOf}
-use Rattle.layer_group.specs.Answers.{refusedAnswer, layeredGroup, layeredBy, layered, layerAnswer, operationsBy, operationsAnswer}
-use Rattle.layer_group.specs.declared.refusal.Refusal.{Refusal}
-use Rattle.layer_group.specs.declared.refusal.Refusal.the-variants.{Symbol, NoLayer}
-use Rattle.layer_group.specs.declared.Answer.the-variants.{Group, Refused}
+use Rattle.layer_group.specs.Answers.{refusedAnswer, layeredBy, layerAnswer, operationsAnswer}
+use Rattle.layer_group.specs.declared.refusal.Refusal.the-variants.{NoLayer}
+use Rattle.layer_group.specs.declared.Answer.the-variants.{Group}
 use Rattle.layer_group.specs.declared.LayerGroup.{LayerGroup}
 
 -- What a layer symbol's text is told: its operations in list order, or number and place.
@@ -128,13 +128,13 @@ by-answer plain-answer.Group c n operations h =
 by-answer (plain-answer.Refused r) c n operations h = refl
 
 module _ (text : List ℕ) where
-  abbrev g : Rattle.symbol_group.specs.declared.SymbolGroup.SymbolGroup
+  abbrev g : SymbolGroup
   g = symbolAnswer (capitalised text)
 
   told-listed : told text ≡ listed (g .answer) (take (g .count) (g .operations))
   unfolding told layerAnswer
   told-listed =
-      let s = Rattle.symbol_group.specs.Slots.symbol-slots (capitalised text) in
+      let s = symbol-slots (capitalised text) in
       by-answer (g .answer) (g .centering) (g .count) (g .operations) (omega arith)
 
 -- The plain symbol's answer in the same way.
