@@ -93,7 +93,7 @@ def tokens_of(text):
     return [(found.start(), found.group()) for found in re.finditer(rb"[^\t-\r ]+", text)]
 
 
-def read_symbol(text):
+def read_symbol(text, letters=LETTERS):
     """Letter and generators of a symbol's bytes; refusals 1 to 11."""
     if len(text) > MOST_BYTES:
         raise Refusal(1, MOST_BYTES)
@@ -104,7 +104,7 @@ def read_symbol(text):
     if not tokens:
         raise Refusal(3, 0)
     place, token = tokens[0]
-    lattice = re.fullmatch(rb"(-?)([%s])" % LETTERS.encode(), token)
+    lattice = re.fullmatch(rb"(-?)([%s])" % letters.encode(), token)
     if lattice is None:
         raise Refusal(4, place)
     inverted, letter = lattice.group(1) == b"-", lattice.group(2).decode()
@@ -278,15 +278,41 @@ def listed_operations(generators):
     return found
 
 
-def group_of_symbol(text):
-    """Letter and operations in list order; refusals 1 to 14."""
-    letter, generators = read_symbol(text)
+def group_of_generators(letter, generators):
+    """Operations in list order; refusals 12 to 14."""
     for index, (rotation, _) in enumerate(generators):
         if not keeps_lattice(letter, rotation):
             raise Refusal(12, index)
     generated_rotations(generators)
     check_translations(letter, generators)
-    return letter, listed_operations(generators)
+    return listed_operations(generators)
+
+
+def group_of_symbol(text):
+    """Letter and operations in list order; refusals 1 to 14."""
+    letter, generators = read_symbol(text)
+    return letter, group_of_generators(letter, generators)
+
+
+# Layer groups, (vi) of 02 -------------------------------------------------------------------------------------------
+
+LAYER_LETTERS = "pc"
+
+
+def of_layer(operation):
+    """Whether the entries xz, yz, zx and zy are 0, and z does not move where the entry zz is 1."""
+    (xx, xy, xz, yx, yy, yz, zx, zy, zz), translation = operation
+    return (xz, yz, zx, zy) == (0, 0, 0, 0) and (zz != 1 or translation[2] == 0)
+
+
+def group_of_layer(text):
+    """The small letter and operations in list order; refusals 1 to 14 and 19. The lattice is that of the capital letter."""
+    letter, generators = read_symbol(text, LAYER_LETTERS)
+    operations = group_of_generators(letter.upper(), generators)
+    for index, operation in enumerate(operations):
+        if not of_layer(operation):
+            raise Refusal(19, index)
+    return letter, operations
 
 
 TYPES = {

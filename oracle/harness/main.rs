@@ -142,6 +142,7 @@ fn answer(line: &str) -> Option<String> {
     let (command, arguments) = line.split_once(' ')?;
     match command {
         "operations" => symbols::answer(arguments, symbols::operations),
+        "layer" => symbols::answer(arguments, symbols::layer_operations),
         "generators" => symbols::answer(arguments, symbols::generators),
         "from_operations" => {
             let (hex, epsilon) = arguments.split_once(' ')?;
@@ -189,6 +190,9 @@ fn guarded(line: &str) -> String {
 fn main() {
     if std::env::args().nth(1).as_deref() == Some("database") {
         return symbols::print_database();
+    }
+    if std::env::args().nth(1).as_deref() == Some("layers") {
+        return symbols::print_layer_database();
     }
     set_hook(Box::new(|panic| {
         if let Some(place) = panic.location() {

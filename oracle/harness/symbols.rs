@@ -1,13 +1,14 @@
 //! The commands that start from a symbol's text.
 //!
-//! Magnetic and layer symbols are compiled with the rest: a command for them is one more function
-//! of the kind of `operations`.
+//! Magnetic symbols are compiled with the rest: a command for them is one more function of the kind of
+//! `operations`.
 
 use std::fmt::Write;
 
 use crate::base::Operations;
-use crate::data::hall_symbol::HallSymbol;
+use crate::data::hall_symbol::{HallSymbol, LayerHallSymbol};
 use crate::data::hall_symbol_database::hall_symbol_entry;
+use crate::data::layer::layer_hall_symbol_database::iter_layer_hall_symbol_entry;
 use crate::subgroup::tables;
 
 /// A finite group of whole 3x3 matrices has at most this many members.
@@ -39,6 +40,16 @@ fn text_bytes(hex: &str) -> Option<Vec<u8>> {
 
 pub fn operations(text: &str) -> Option<String> {
     HallSymbol::new(text).map(|symbol| listed(&traverse(&symbol)))
+}
+
+/// The operations of a layer symbol, after its letter as the original has it.
+pub fn layer_operations(text: &str) -> Option<String> {
+    LayerHallSymbol::new(text).map(|symbol| {
+        nalgebra::products::allow(Some(MOST_ROTATIONS * symbol.generators().len() as u64));
+        let list = symbol.traverse();
+        nalgebra::products::allow(None);
+        format!("{:?} {}", symbol.centering(), listed(&list))
+    })
 }
 
 pub fn generators(text: &str) -> Option<String> {
@@ -91,11 +102,18 @@ fn listed(list: &Operations) -> String {
 /// The original's own symbols, each in hex on a line.
 pub fn print_database() {
     for entry in (1..).map_while(hall_symbol_entry) {
-        let hex: String = entry
-            .hall_symbol
-            .bytes()
-            .map(|byte| format!("{byte:02x}"))
-            .collect();
-        println!("{hex}");
+        print_hex(entry.hall_symbol);
     }
+}
+
+/// The original's own layer symbols.
+pub fn print_layer_database() {
+    for entry in iter_layer_hall_symbol_entry() {
+        print_hex(entry.hall_symbol);
+    }
+}
+
+fn print_hex(symbol: &str) {
+    let hex: String = symbol.bytes().map(|byte| format!("{byte:02x}")).collect();
+    println!("{hex}");
 }
