@@ -6,7 +6,7 @@ use centering::Centering;
 use centering::Letter;
 
 // Whether the inversion is there, and the letter; or a token that is wrong.
-pub(crate) enum Lattice {
+pub enum Lattice {
     Is(bool, Centering),
     Wrong,
 }
