@@ -1,8 +1,8 @@
 -- What a reading of groups tells, for any editions, letters and further rule: exactly the records of allowed operations in the listed form.
 -- The idea: its tests mean what is asked of motions, and the reading is the rules.
-use mathlib.Core.Path.{_≡_, sym, _∙_, ap, subst}
+use mathlib.Core.Path.{_≡_, refl, sym, _∙_, ap, subst}
 use mathlib.Core.Logic.{_↔_}
-use mathlib.Core.Bool.{true, _&&_, and-eq-true-iff}
+use mathlib.Core.Bool.{true, _&&_}
 use mathlib.Core.List.{List, _++_, map}
 use Prim.Native.Nat.{ℕ, _<_, _≤_}
 use lib.ListN.{length, length-map}
@@ -19,7 +19,7 @@ use Rattle.group_record.specs.Record.{writtenIn}
 use Rattle.group_record.specs.Reading.{GroupReading, rulesOf, isAllowed, firstReading, firstRules}
 use Rattle.group_record.specs.Groups.{Allowed, Form}
 use Rattle.group_record.specs.OneRecord.{written-items, operations-of-items}
-use Rattle.group_record.specs.ReadingTests.{GoodItems, item-test, items-of-operations, good-form, form-good, allowed-test}
+use Rattle.group_record.specs.ReadingTests.{both-true, GoodItems, item-test, items-of-operations, good-form, form-good, allowed-test}
 use Rattle.group_record.specs.Outcomes.{Good, Meaning, Outcome, Held, told-exactly, held-told, held-exactly}
 
 -- One order for another that follows from it.
@@ -43,28 +43,23 @@ module _ {Sign Kind : Type 0} (G : GroupReading Sign Kind) where
       record {
         code = λ i m. g .each i m .0;
         smallest = λ i m. g .each i m .1;
-        ascend =
-            sorted-by (λ (i j : Item). G .edition k .key i < G .edition k .key j) (λ (i j : Item). i .code < j .code)
-            (λ i j h. rw (G .by-code k i, G .by-code k j) at h) (g .ascend);
+        ascend = sorted-by (λ (i j : Item). G .edition k .key i < G .edition k .key j) (λ (i j : Item). i .code < j .code) (λ i j h. rw (G .by-code k i, G .by-code k j) at h) (g .ascend);
       }
 
   items-good : (k : Kind) (c : Sign) (items : List Item) → GoodItems (G .lattice c) items → Good (rulesOf G) IsItem k c items
   items-good k c items g =
       record {
         each = λ i m. (g .code i m, g .smallest i m);
-        ascend =
-            sorted-by (λ (i j : Item). i .code < j .code) (λ (i j : Item). G .edition k .key i < G .edition k .key j)
-            (λ i j h. rw (G .by-code k i, G .by-code k j) h) (g .ascend);
+        ascend = sorted-by (λ (i j : Item). i .code < j .code) (λ (i j : Item). G .edition k .key i < G .edition k .key j) (λ i j h. rw (G .by-code k i, G .by-code k j) h) (g .ascend);
       }
 
   group-test : (k : Kind) (c : Sign) (items : List Item) → Good (rulesOf G) IsItem k c items → 1 ≤ length items → length items ≤ 48
       → (isAllowed (G .lattice c) items && G .further c (map operationOfItem items) ≡ true) ↔ IsAllowed c items
   group-test k c items g one few = (
     (λ e.
-        let (p, q) = and-eq-true-iff (isAllowed (G .lattice c) items) _ .0 e in
+        let (p, q) = both-true (isAllowed (G .lattice c) items) _ .0 e in
         (test .0 (ap (isAllowed (G .lattice c)) again ∙ p), G .further-test c (map operationOfItem items) .0 q)),
-    λ (p, q). and-eq-true-iff (isAllowed (G .lattice c) items) _ .1
-        (sym (ap (isAllowed (G .lattice c)) again) ∙ test .1 p, G .further-test c (map operationOfItem items) .1 q),
+    λ (p, q). both-true (isAllowed (G .lattice c) items) _ .1 (sym (ap (isAllowed (G .lattice c)) again) ∙ test .1 p, G .further-test c (map operationOfItem items) .1 q),
   )
     where
       again : map itemOf (map operationOfItem items) ≡ items
@@ -101,8 +96,7 @@ module _ {Sign Kind : Type 0} (G : GroupReading Sign Kind) where
   Tells bytes k c l = (items : List Item) × (toldBy (rulesOf G) bytes ≡ holds k c items) × (map operationOfItem items ≡ l)
 
   -- What is held are the operations of the items that are held.
-  from-held : (bytes : List ℕ) (k : Kind) (c : Sign) (items : List Item) → Held (rulesOf G) meaningOf bytes k c items
-      → Holds bytes k c (map operationOfItem items)
+  from-held : (bytes : List ℕ) (k : Kind) (c : Sign) (items : List Item) → Held (rulesOf G) meaningOf bytes k c items → Holds bytes k c (map operationOfItem items)
   unfolding meaningOf
   from-held bytes k c items h =
       let good = good-items k c items (h .good) in
@@ -111,8 +105,7 @@ module _ {Sign Kind : Type 0} (G : GroupReading Sign Kind) where
         front = h .front;
         same-bytes =
             h .same-bytes
-            ∙ ap (λ (b : List ℕ). h .front ++ b)
-            (ap (framed (G .edition k) (G .byte c)) (sym again) ∙ sym (written-items (G .edition k) (G .byte c) (map operationOfItem items)));
+            ∙ ap (λ (b : List ℕ). h .front ++ b) (ap (framed (G .edition k) (G .byte c)) (sym again) ∙ sym (written-items (G .edition k) (G .byte c) (map operationOfItem items)));
         form = good-form (G .lattice c) items good;
         allowed = h .allowed .0;
         further = h .allowed .1;
@@ -148,6 +141,5 @@ abbrev pub firstMeaning : Meaning firstRules
 firstMeaning = meaningOf firstReading
 
 -- The reading is the rules: each refusal is given, and each record read, exactly when they say so.
-pub read-exactly : (bytes : List ℕ) → Bytes bytes → (t : Told Item Centering (Unit {0}))
-    → (toldBy firstRules bytes ≡ t) ↔ Outcome firstRules firstMeaning bytes t
+pub read-exactly : (bytes : List ℕ) → Bytes bytes → (t : Told Item Centering (Unit {0})) → (toldBy firstRules bytes ≡ t) ↔ Outcome firstRules firstMeaning bytes t
 read-exactly bytes g t = told-exactly firstRules firstMeaning bytes g t

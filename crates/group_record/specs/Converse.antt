@@ -62,18 +62,10 @@ module _ (c : Centering) (Inside : SpaceMotion → Type 0) (G : SpaceGroup c Ins
         ),
       )
 
--- In the listed form what is the identity modulo L is the identity with (0,0,0).
-pub identity-there : (c : Centering) (l : List Operation) → Form c l → (g : Operation) → Mem g l → Alike c identity (motionOf g) → Mem identityOperation l
-unfolding smallestOperation
-identity-there c l F g k near =
-    let unchanged : smallestOperation c identityOperation ≡ identityOperation =
-    ap (λ (t : Translation). record { rotation = identityOperation .rotation; translation = t }) (origin-smallest c) in
-    let alike = subst (λ (a : SpaceMotion). Alike c a (motionOf g)) (sym identity-motion) near in
-    mem-cast (sym unchanged ∙ alike-smallest c identityOperation g identity-entries (F .entries g k) alike ∙ form-smallest c F g k) k
-
 -- A group of motions with L, listed in the form and 1 to 48 of them, is allowed.
 pub group-allowed : (c : Centering) (l : List Operation) → Form c l → 1 ≤ length l → length l ≤ 48 → SpaceGroup c (InSet c (map motionOf l))
     → Allowed c (map motionOf l)
+unfolding smallestOperation
 group-allowed c l F some few G =
     record {
       count = rw (length-map l motionOf) (some, few);
@@ -86,11 +78,16 @@ group-allowed c l F some few G =
     kept : (f : SpaceMotion) → Mem f (map motionOf l) → MapsOnto (pointsOf c) (f .rotation)
     kept f m = onto c (InSet c (map motionOf l)) G f (f, m, alike-reflexive c f)
 
+    unchanged : smallestOperation c identityOperation ≡ identityOperation
+    unchanged = ap (λ (t : Translation). record { rotation = identityOperation .rotation; translation = t }) (origin-smallest c)
+
     there : Mem identityOperation l
     there =
         let (f, m, near) = G .holds-identity in
         let (g, k, e) = mem-of-map motionOf l m in
-        identity-there c l F g k (subst (Alike c identity) (sym e) near)
+        let alike : Alike c (motionOf identityOperation) (motionOf g) =
+        subst (λ (a : SpaceMotion). Alike c a (motionOf g)) (sym identity-motion) (subst (Alike c identity) (sym e) near) in
+        mem-cast (sym unchanged ∙ alike-smallest c identityOperation g identity-entries (F .entries g k) alike ∙ form-smallest c F g k) k
 
 -- Allowed exactly if a group: no clause hides in what is allowed.
 pub allowed-exactly : (c : Centering) (l : List Operation) → Form c l → 1 ≤ length l → length l ≤ 48

@@ -48,8 +48,7 @@ module _ (bytes out : List ℕ) (start : ℕ) (g : RecordGroup) (e : g ≡ readO
   -- The answer, by what was read.
   pub copied-by : (a : Reading) → g .answer ≡ a → copiedBy a (g .count) start (length out) ≡ copiedOf bytes out start
   unfolding copiedOf
-  copied-by a p =
-      ap (λ (b : Reading). copiedBy b (g .count) start (length out)) (sym p) ∙ ap (λ (h : RecordGroup). copiedBy (h .answer) (h .count) start (length out)) e
+  copied-by a p = ap (λ (b : Reading). copiedBy b (g .count) start (length out)) (sym p) ∙ ap (λ (h : RecordGroup). copiedBy (h .answer) (h .count) start (length out)) e
 
   -- The buffer, by what was read.
   pub buffer-by : (a : Reading) → g .answer ≡ a → bufferBy a out start (recordOf (g .centering) (take (g .count) (g .operations))) ≡ bufferOf bytes out start

@@ -1,14 +1,18 @@
--- What the reader finds at a buffer's end before it looks at the operations, and which group it leads to.
-use mathlib.Core.Path.{_≡_, sym, _∙_}
-use mathlib.Core.List.{List}
+-- What the reader finds at a buffer's end before the operations are laid out, and which group it stands for.
+use mathlib.Core.Path.{_≡_, refl, sym, _∙_, ap}
+use mathlib.Core.Bool.{true, false}
+use mathlib.Core.List.{List, map}
 use Prim.Native.Nat.{ℕ, _+_, _*_, _≤_}
 use native.Mathlib.Omega.{arith}
-use lib.ListN.{length, drop}
+use lib.ListN.{length, drop, length-map}
 use Rattle.centering.specs.declared.Centering.{Centering}
 use Rattle.centering.specs.declared.Centering.the-variants.{P}
-use Rattle.group_record.specs.Reading.{refusedGroup}
-use Rattle.group_record.specs.Search.{itemsOf, readItems}
+use Rattle.group_record.specs.Items.{itemsIn}
+use Rattle.group_record.specs.Reading.{operationOfItem, slots, acceptedGroup, refusedGroup, areItems, isAllowed}
+use Rattle.group_record.specs.Rules.{areGood, itemsTold}
+use Rattle.group_record.specs.Search.{itemsOf, items-count, readItems}
 use Rattle.group_record.specs.declared.Refusal.{Refusal}
+use Rattle.group_record.specs.declared.Refusal.the-variants.{WrongItem, NotAllowed}
 use Rattle.group_record.specs.declared.Reading.{Reading}
 use Rattle.group_record.specs.declared.Reading.the-variants.{Accepted, Refused}
 use Rattle.group_record.specs.declared.RecordGroup.{RecordGroup}
@@ -17,22 +21,54 @@ use Rattle.group_record.specs.declared.reader.Found.{Found}
 abbrev pub nothingFound : Refusal → Found
 nothingFound why = record { answer = Refused why; centering = P; count = 0; start = 0 }
 
--- What the items lead to, where the trailer is right.
-abbrev pub leadsTo : List ℕ → Reading → Centering → ℕ → ℕ → RecordGroup
-leadsTo bytes Accepted c n start = readItems c (itemsOf n (drop start bytes))
-leadsTo bytes (Refused why) c n start = refusedGroup why
+-- An answer with the operations of the first n items.
+unfoldable pub laidOut : Reading → Centering → ℕ → List ℕ → RecordGroup
+laidOut answer c n bytes = record { answer = answer; centering = c; count = n; operations = slots (map operationOfItem (itemsOf n bytes)) }
 
--- What was found lies in the buffer, and leads to a group.
+-- What was found lies in the buffer, and stands for a group.
 pub record Stands (bytes : List ℕ) (f : Found) (g : RecordGroup) : Type 0 where
-  pub some : f .answer ≡ Accepted → 1 ≤ f .count
   pub few : f .count ≤ 48
   pub within : f .start + 5 * f .count ≤ length bytes
-  pub same : leadsTo bytes (f .answer) (f .centering) (f .count) (f .start) ≡ g
+  pub same : laidOut (f .answer) (f .centering) (f .count) (drop (f .start) bytes) ≡ g
 
--- A refusal leads to itself.
-pub nothing-found : {bytes : List ℕ} {f : Found} {h : RecordGroup} {why : Refusal} → f ≡ nothingFound why → h ≡ refusedGroup why → Stands bytes f h
-nothing-found {bytes} {f} {h} {why} e r =
-    rw e (record { some = λ a. let z : _≡_ {A = ℕ} 0 1 = cc in absurd (omega arith); few = omega arith; within = omega arith; same = sym r })
+pub nothing-stands : (bytes : List ℕ) (why : Refusal) → Stands bytes (nothingFound why) (refusedGroup why)
+unfolding laidOut refusedGroup slots itemsIn
+nothing-stands bytes why = record { few = omega arith; within = omega arith; same = refl }
+
+pub record-stands : (bytes : List ℕ) (c : Centering) (n start : ℕ) → n ≤ 48 → start + 5 * n ≤ length bytes
+    → Stands bytes (record { answer = Accepted; centering = c; count = n; start = start }) (acceptedGroup c (map operationOfItem (itemsOf n (drop start bytes))))
+unfolding laidOut acceptedGroup
+record-stands bytes c n start few within =
+    let items = itemsOf n (drop start bytes) in
+    let count : n ≡ length (map operationOfItem items) = sym (length-map items operationOfItem ∙ items-count n (drop start bytes)) in
+    record {
+      few = few;
+      within = within;
+      same = ap (λ (k : ℕ). record { answer = Accepted; centering = c; count = k; operations = slots (map operationOfItem items) }) count;
+    }
 
 pub stands-as : {bytes : List ℕ} {f : Found} {g h : RecordGroup} → Stands bytes f g → h ≡ g → Stands bytes f h
-stands-as s e = record { some = s .some; few = s .few; within = s .within; same = s .same ∙ sym e }
+stands-as s e = record { few = s .few; within = s .within; same = s .same ∙ sym e }
+
+pub nothing-found : {bytes : List ℕ} {f : Found} {h : RecordGroup} {why : Refusal} → f ≡ nothingFound why → h ≡ refusedGroup why → Stands bytes f h
+nothing-found {bytes} {f} {h} {why} e r = rw e (stands-as (nothing-stands bytes why) r)
+
+-- ---- 34 and 35, tried on the part of the buffer that holds the items
+module _ (c : Centering) (n : ℕ) (part rest : List ℕ) (lent : part ≡ rest) where
+  pub items-wrong : areItems c (itemsOf n part) ≡ false → readItems c (itemsOf n rest) ≡ refusedGroup WrongItem
+  unfolding itemsTold areGood areItems
+  items-wrong h = let e = ap (λ (b : List ℕ). areItems c (itemsOf n b)) (sym lent) ∙ h in rw e
+
+  pub items-barred : areItems c (itemsOf n part) ≡ true → isAllowed c (itemsOf n part) ≡ false → readItems c (itemsOf n rest) ≡ refusedGroup NotAllowed
+  unfolding itemsTold areGood areItems
+  items-barred h k =
+      let e = ap (λ (b : List ℕ). areItems c (itemsOf n b)) (sym lent) ∙ h in
+      let f = ap (λ (b : List ℕ). isAllowed c (itemsOf n b)) (sym lent) ∙ k in
+      rw (e, f)
+
+  pub items-right : areItems c (itemsOf n part) ≡ true → isAllowed c (itemsOf n part) ≡ true → readItems c (itemsOf n rest) ≡ acceptedGroup c (map operationOfItem (itemsOf n rest))
+  unfolding itemsTold areGood areItems
+  items-right h k =
+      let e = ap (λ (b : List ℕ). areItems c (itemsOf n b)) (sym lent) ∙ h in
+      let f = ap (λ (b : List ℕ). isAllowed c (itemsOf n b)) (sym lent) ∙ k in
+      rw (e, f)

@@ -1,4 +1,4 @@
--- What a record stands for: motions of space, by R5.5. A list of operations, with L added, as a set of motions; and which lists are allowed.
+-- What a record stands for: motions of space, by R5. A list of operations, with L added, as a set of motions; and which lists are allowed.
 use mathlib.Core.Path.{_≡_}
 use mathlib.Core.Bool.{Bool}
 use mathlib.Core.List.{List, List·Memᴰ as Mem}

@@ -79,6 +79,5 @@ module _ {A : Type 0} (width : ℕ) (write : A → List ℕ) (wide : (a : A) →
         let first : width ≤ length bytes = omega arith in
         let after : width * n ≤ length (drop width bytes) = rw (length-drop width bytes) (omega arith) in
         let whole : width + width * n ≡ width * suc n = omega arith in
-        ap₂ _++_ (forth bytes g first (fit (read bytes) (here refl)))
-        (written-read Fits forth n (drop width bytes) (bytes-left width bytes g) after (λ a m. fit a (there m)))
+        ap₂ _++_ (forth bytes g first (fit (read bytes) (here refl))) (written-read Fits forth n (drop width bytes) (bytes-left width bytes g) after (λ a m. fit a (there m)))
         ∙ sym (take-add width (width * n) bytes) ∙ ap (λ (k : ℕ). take k bytes) whole

@@ -1,4 +1,4 @@
--- The group record: its bytes, how they are read, and what group they stand for.
+-- The group record of R5: its bytes, how they are read, and what group they stand for.
 -- The definitions: what a record is, how it is read, which groups it may hold.
 pub mod Items
 pub mod Tests
@@ -28,11 +28,7 @@ pub mod SymbolReading
 pub mod RefusalNumbers
 pub mod Example
 -- What the code does with items.
-pub mod Codes
-pub mod Closing
 pub mod Search
-pub mod Walks
-pub mod Listed
 pub mod Found
 pub mod Parts
 pub mod Selection

@@ -1,11 +1,11 @@
 -- How a buffer is read: which items are those of a record and which groups it may hold, the readings that ask this for any editions and letters,
 -- and the reading of edition 1 with the letters of the lattices. Its answers, by refusal and in numbers.
-use mathlib.Core.Path.{_≡_, refl, _∙_, ap}
+use mathlib.Core.Path.{_≡_, refl, sym, _∙_, ap}
 use mathlib.Core.Logic.{_↔_}
 use mathlib.Core.Bool.{Bool, true, false, cond, _&&_}
-use mathlib.Core.List.{List, [], _++_, map}
+use mathlib.Core.List.{List, [], _∷_, _++_, map}
 use mathlib.Core.Option.{Option, none, some}
-use Prim.Native.Nat.{ℕ, _-_, _≤_}
+use Prim.Native.Nat.{ℕ, _-_, _≤_, _<_}
 use native.Mathlib.Omega.{arith}
 use lib.Dec.{ltb, eqb}
 use borrow.Author.Tests.{eqb-true}
@@ -18,8 +18,8 @@ use Rattle.operation.specs.Product.{identityOperation, productOf}
 use Rattle.operation.specs.declared.Operation.{Operation}
 use Rattle.operation.specs.declared.product.Product.{Product}
 use Rattle.operation.specs.declared.product.Product.the-variants.{Inside, Outside}
-use Rattle.centering.specs.Letters.{letters, byteOf, letterOf}
-use Rattle.centering.specs.LatticeLaws.{letter-by-byte, letter-byte}
+use Rattle.centering.specs.Letters.{letters, byteOf, letterOf, letterAmong}
+use Rattle.centering.specs.LatticeLaws.{letter-by-byte}
 use Rattle.centering.specs.Lattices.{tripleOf, smallestOf, congruentOf}
 use Rattle.centering.specs.Keeps.{keepsOf}
 use Rattle.centering.specs.declared.Centering.{Centering}
@@ -165,14 +165,23 @@ letterIn (Is c) = some c
 letterIn None = none
 
 -- A byte that spells a letter is its byte.
+some-letter : (b : ℕ) (cs : List Centering) (c : Centering) → letterAmong b cs ≡ Is c → b ≡ byteOf c
+unfolding letterAmong
+some-letter b [] c e = let h : _≡_ {A = ℕ} 0 1 = cc in absurd (omega arith)
+some-letter b (d ∷ cs) c e = found (eqb b (byteOf d)) refl e (some-letter b cs c)
+  where
+    found : (t : Bool) → eqb b (byteOf d) ≡ t → cond t (Is d) (letterAmong b cs) ≡ Is c → (letterAmong b cs ≡ Is c → b ≡ byteOf c) → b ≡ byteOf c
+    found true q e rest = let same : d ≡ c = cc in eqb-true b (byteOf d) q ∙ ap byteOf same
+    found false q e rest = rest e
+
 pub spelled-letter : (b : ℕ) (c : Centering) (a : Letter) → letterOf b ≡ a → letterIn a ≡ some c → b ≡ byteOf c
-spelled-letter b c (Is d) e q = let same : d ≡ c = cc in letter-byte b d e ∙ ap byteOf same
+unfolding letterOf
+spelled-letter b c (Is d) e q = let same : d ≡ c = cc in some-letter b letters d e ∙ ap byteOf same
 spelled-letter b c None e q = let z : _≡_ {A = ℕ} 0 1 = cc in absurd (omega arith)
 
 -- The letters of the lattices.
 abbrev pub latticeLetters : Spelled byteOf
-latticeLetters =
-    record { from = λ b. letterIn (letterOf b); there = λ c. ap letterIn (letter-by-byte c); back = λ b c e. spelled-letter b c (letterOf b) refl e }
+latticeLetters = record { from = λ b. letterIn (letterOf b); there = λ c. ap letterIn (letter-by-byte c); back = λ b c e. spelled-letter b c (letterOf b) refl e }
 
 -- One edition.
 abbrev pub oneNumber : ℕ → ℕ → Option (Unit {0})

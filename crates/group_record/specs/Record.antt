@@ -1,5 +1,6 @@
 -- The bytes of a record: each operation by its item, ascending by code, each translation the smallest of its class; then the trailer.
 -- In any edition and under any letter's byte; the record itself is edition 1 under its lattice's letter.
+use mathlib.Core.Path.{_≡_}
 use mathlib.Core.Bool.{Bool}
 use mathlib.Core.List.{List, _++_, map}
 use Prim.Native.Nat.{ℕ}

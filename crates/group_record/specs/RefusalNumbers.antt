@@ -1,4 +1,4 @@
--- The refusals of records by their numbers and places (R8), each exactly when: 30 to 35 for a record that is read, then 20 for one that is copied;
+-- The refusals of records by number and place, each exactly when: 30 to 35 for a record that is read, then 20 for one that is copied;
 -- and for a symbol's record the symbol's own, 1 to 14, then 20. Number, place and value determine an answer.
 use mathlib.Core.Path.{_≡_, refl, sym, _∙_, ap}
 use mathlib.Core.Logic.{_⊎_, inl, inr, _↔_}
@@ -68,31 +68,20 @@ module _ {Item Letter Kind : Type 0} (R : Rules Item Letter Kind) (W : Meaning R
         → bytes ≡ front ++ record-bytes R W k c items → GoodBy R W k c items → ¬ W .IsAllowed c items → Refuses bytes 35
 
   -- What is refused with a number is refused by its rule,
-  by-rule : (bytes : List ℕ) (t : Told Item Letter Kind) → Outcome R W bytes t → (number place : ℕ) → toldAnswer t ≡ refused number place tt
-      → (place ≡ 0) × Refuses bytes number
+  by-rule : (bytes : List ℕ) (t : Told Item Letter Kind) → Outcome R W bytes t → (number place : ℕ) → toldAnswer t ≡ refused number place tt → (place ≡ 0) × Refuses bytes number
   by-rule bytes t (too-short h) number place e = let same : number ≡ 30 = cc in ((cc), rw same (too-few h))
-  by-rule bytes t (wrong-edition front l d n high low h p q) number place e =
-      let same : number ≡ 31 = cc in
-      ((cc), rw same (edition front l d n high low h p q))
+  by-rule bytes t (wrong-edition front l d n high low h p q) number place e = let same : number ≡ 31 = cc in ((cc), rw same (edition front l d n high low h p q))
   by-rule bytes t (wrong-letter k front l n high low h p q) number place e = let same : number ≡ 32 = cc in ((cc), rw same (letter k front l n high low h p q))
-  by-rule bytes t (wrong-length k c front n high low h p q) number place e =
-      let same : number ≡ 33 = cc in
-      ((cc), rw same (count-or-length k c front n high low h p q))
-  by-rule bytes t (wrong-item k c front body n one few wide p q) number place e =
-      let same : number ≡ 34 = cc in
-      ((cc), rw same (item k c front body n one few wide p q))
-  by-rule bytes t (not-allowed k c front items one few p g q) number place e =
-      let same : number ≡ 35 = cc in
-      ((cc), rw same (group k c front items one few p g q))
+  by-rule bytes t (wrong-length k c front n high low h p q) number place e = let same : number ≡ 33 = cc in ((cc), rw same (count-or-length k c front n high low h p q))
+  by-rule bytes t (wrong-item k c front body n one few wide p q) number place e = let same : number ≡ 34 = cc in ((cc), rw same (item k c front body n one few wide p q))
+  by-rule bytes t (not-allowed k c front items one few p g q) number place e = let same : number ≡ 35 = cc in ((cc), rw same (group k c front items one few p g q))
   by-rule bytes t (accepted k c front items one few p g a) number place e = let z : _≡_ {A = ℕ} 0 1 = cc in absurd (omega arith)
 
   -- and what a rule refuses is refused with its number, at 0.
   rule-answer : (bytes : List ℕ) (number : ℕ) → Refuses bytes number → toldAnswer (toldBy R bytes) ≡ refused number 0 tt
   rule-answer bytes number (too-few h) = ap toldAnswer (outcome-told R W bytes (not-held Short) (too-short h))
-  rule-answer bytes number (edition front l d n high low h p q) =
-      ap toldAnswer (outcome-told R W bytes (not-held WrongEdition) (wrong-edition front l d n high low h p q))
-  rule-answer bytes number (letter k front l n high low h p q) =
-      ap toldAnswer (outcome-told R W bytes (not-held WrongLetter) (wrong-letter k front l n high low h p q))
+  rule-answer bytes number (edition front l d n high low h p q) = ap toldAnswer (outcome-told R W bytes (not-held WrongEdition) (wrong-edition front l d n high low h p q))
+  rule-answer bytes number (letter k front l n high low h p q) = ap toldAnswer (outcome-told R W bytes (not-held WrongLetter) (wrong-letter k front l n high low h p q))
   rule-answer bytes number (count-or-length k c front n high low h p q) =
       ap toldAnswer (outcome-told R W bytes (not-held WrongLength) (wrong-length k c front n high low h p q))
   rule-answer bytes number (item k c front body n one few wide p q) =
@@ -101,8 +90,7 @@ module _ {Item Letter Kind : Type 0} (R : Rules Item Letter Kind) (W : Meaning R
       ap toldAnswer (outcome-told R W bytes (not-held NotAllowed) (not-allowed k c front items one few p g q))
 
   -- A buffer is refused with a number exactly if that number's rule says so, and its place is 0.
-  pub told-refused : (bytes : List ℕ) → Bytes bytes → (number place : ℕ)
-      → (toldAnswer (toldBy R bytes) ≡ refused number place tt) ↔ ((place ≡ 0) × Refuses bytes number)
+  pub told-refused : (bytes : List ℕ) → Bytes bytes → (number place : ℕ) → (toldAnswer (toldBy R bytes) ≡ refused number place tt) ↔ ((place ≡ 0) × Refuses bytes number)
   told-refused bytes b number place = (
     by-rule bytes (toldBy R bytes) (told-outcome R W bytes b) number place,
     λ (p, r). rw p (rule-answer bytes number r),
@@ -110,22 +98,19 @@ module _ {Item Letter Kind : Type 0} (R : Rules Item Letter Kind) (W : Meaning R
 
 -- ---- edition 1
 -- What the reader hands back has the number and the place that are told.
-group-number : (t : Told Item Centering (Unit {0})) (number place : ℕ)
-    → (groupAnswer (groupOf t) ≡ refused number place tt) ↔ (toldAnswer t ≡ refused number place tt)
+group-number : (t : Told Item Centering (Unit {0})) (number place : ℕ) → (groupAnswer (groupOf t) ≡ refused number place tt) ↔ (toldAnswer t ≡ refused number place tt)
 unfolding refusedGroup
 group-number (not-held r) number place = ((λ e. cc), λ e. cc)
 group-number (holds k c items) number place = (
   (λ e.
-      let clash : _≡_ {A = Answer (Centering × List Operation) Nothing} (given (c, map operationOfItem items)) (refused number place tt) =
-      sym (accepted-answer c (map operationOfItem items)) ∙ e in
+      let clash : _≡_ {A = Answer (Centering × List Operation) Nothing} (given (c, map operationOfItem items)) (refused number place tt) = sym (accepted-answer c (map operationOfItem items)) ∙ e in
       let z : _≡_ {A = ℕ} 0 1 = cc in
       absurd (omega arith)),
   λ e. let z : _≡_ {A = ℕ} 0 1 = cc in absurd (omega arith),
 )
 
 -- A buffer is refused with a number exactly if that number's rule says so, and its place is 0.
-pub read-refused : (bytes : List ℕ) → Bytes bytes → (number place : ℕ)
-    → (groupAnswer (readOf bytes) ≡ refused number place tt) ↔ ((place ≡ 0) × Refuses firstRules firstMeaning bytes number)
+pub read-refused : (bytes : List ℕ) → Bytes bytes → (number place : ℕ) → (groupAnswer (readOf bytes) ≡ refused number place tt) ↔ ((place ≡ 0) × Refuses firstRules firstMeaning bytes number)
 unfolding readOf
 read-refused bytes b number place = (
   (λ e. told-refused firstRules firstMeaning bytes b number place .0 (group-number (toldBy firstRules bytes) number place .0 e)),
@@ -154,22 +139,18 @@ abbrev pub WantsRoom : Answer ℕ Nothing → ℕ → ℕ → Type 0
 WantsRoom a start size = (n : ℕ) × (a ≡ given n) × (size < start + (5 * n + 5))
 
 -- 20 exactly so; every other refusal is that of what was to be written.
-pub no-room-exactly : (a : Answer ℕ Nothing) (start size number place : ℕ)
-    → (orNoRoom a start size ≡ refused number place tt) ↔ ((a ≡ refused number place tt) ⊎ ((number ≡ 20) × (place ≡ 0) × WantsRoom a start size))
+pub no-room-exactly : (a : Answer ℕ Nothing) (start size number place : ℕ) → (orNoRoom a start size ≡ refused number place tt) ↔ ((a ≡ refused number place tt) ⊎ ((number ≡ 20) × (place ≡ 0) × WantsRoom a start size))
 no-room-exactly a start size number place = (forth a, back a)
   where
-    short : (n : ℕ) (b : Bool) → ltb size (start + (5 * n + 5)) ≡ b → cond b noRoom (given n) ≡ refused number place tt
-        → (_≡_ {A = Answer ℕ Nothing} (given n) (refused number place tt)) ⊎ ((number ≡ 20) × (place ≡ 0) × WantsRoom (given n) start size)
+    short : (n : ℕ) (b : Bool) → ltb size (start + (5 * n + 5)) ≡ b → cond b noRoom (given n) ≡ refused number place tt → (_≡_ {A = Answer ℕ Nothing} (given n) (refused number place tt)) ⊎ ((number ≡ 20) × (place ≡ 0) × WantsRoom (given n) start size)
     short n true t e = inr ((cc), (cc), (n, refl, ltb-true size (start + (5 * n + 5)) t))
     short n false t e = inl e
 
-    forth : (a : Answer ℕ Nothing) → orNoRoom a start size ≡ refused number place tt
-        → (a ≡ refused number place tt) ⊎ ((number ≡ 20) × (place ≡ 0) × WantsRoom a start size)
+    forth : (a : Answer ℕ Nothing) → orNoRoom a start size ≡ refused number place tt → (a ≡ refused number place tt) ⊎ ((number ≡ 20) × (place ≡ 0) × WantsRoom a start size)
     forth (given n) e = short n (ltb size (start + (5 * n + 5))) refl e
     forth (refused m p c) e = inl e
 
-    back : (a : Answer ℕ Nothing) → (a ≡ refused number place tt) ⊎ ((number ≡ 20) × (place ≡ 0) × WantsRoom a start size)
-        → orNoRoom a start size ≡ refused number place tt
+    back : (a : Answer ℕ Nothing) → (a ≡ refused number place tt) ⊎ ((number ≡ 20) × (place ≡ 0) × WantsRoom a start size) → orNoRoom a start size ≡ refused number place tt
     back (refused m p c) (inl e) = e
     back (refused m p c) (inr (q, r, (n, e, h))) = let z : _≡_ {A = ℕ} 0 1 = cc in absurd (omega arith)
     back (given n) (inl e) = let z : _≡_ {A = ℕ} 0 1 = cc in absurd (omega arith)
@@ -193,8 +174,7 @@ pub copy-told : (bytes out : List ℕ) (start : ℕ) → copyAnswer (copiedOf by
 unfolding copiedOf
 copy-told bytes out start = by (readOf bytes .answer) (readOf bytes .count)
   where
-    fits : (n : ℕ) (b : Bool) → ltb (length out) (start + (5 * n + 5)) ≡ b
-        → copyAnswer (cond (not b) (CopyWritten n) (NotCopied NoRoom)) ≡ cond b noRoom (given n)
+    fits : (n : ℕ) (b : Bool) → ltb (length out) (start + (5 * n + 5)) ≡ b → copyAnswer (cond (not b) (CopyWritten n) (NotCopied NoRoom)) ≡ cond b noRoom (given n)
     fits n true e = refl
     fits n false e = refl
 
@@ -203,18 +183,15 @@ copy-told bytes out start = by (readOf bytes .answer) (readOf bytes .count)
     by (Refused r) n = refl
 
 -- What is answered for a symbol's record: 1 to 14 as for the symbol's order, then 20, else the order.
-pub symbol-record-told : (text out : List ℕ) (start : ℕ)
-    → symbolRecordAnswer (symbolRecordOf text out start) ≡ orNoRoom (orderAnswer (orderOf text)) start (length out)
+pub symbol-record-told : (text out : List ℕ) (start : ℕ) → symbolRecordAnswer (symbolRecordOf text out start) ≡ orNoRoom (orderAnswer (orderOf text)) start (length out)
 unfolding symbolRecordOf orderOf
 symbol-record-told text out start = by (symbolAnswer text .answer) (symbolAnswer text .count)
   where
-    fits : (n : ℕ) (b : Bool) → ltb (length out) (start + (5 * n + 5)) ≡ b
-        → symbolRecordAnswer (cond (not b) (Written n) symbol-record.NoRoom) ≡ cond b noRoom (given n)
+    fits : (n : ℕ) (b : Bool) → ltb (length out) (start + (5 * n + 5)) ≡ b → symbolRecordAnswer (cond (not b) (Written n) symbol-record.NoRoom) ≡ cond b noRoom (given n)
     fits n true e = refl
     fits n false e = refl
 
-    by : (a : symbol-answer.Answer) (n : ℕ)
-        → symbolRecordAnswer (writtenBy a n start (length out)) ≡ orNoRoom (orderAnswer (symbol.orderBy a n)) start (length out)
+    by : (a : symbol-answer.Answer) (n : ℕ) → symbolRecordAnswer (writtenBy a n start (length out)) ≡ orNoRoom (orderAnswer (symbol.orderBy a n)) start (length out)
     by symbol-answers.Group n = rw (room-as start n (length out)) (fits n (ltb (length out) (start + (5 * n + 5))) refl)
     by (symbol-answers.Refused r) n = refl
 
@@ -270,8 +247,7 @@ same-shape g h (inr (c, l, p)) (inl (r, q)) e =
     let z : _≡_ {A = ℕ} 0 1 = cc in
     absurd (omega arith)
 same-shape g h (inr (c, l, p)) (inr (d, k, q)) e =
-    let answers : _≡_ {A = Answer (Centering × List Operation) Nothing} (given (c, l)) (given (d, k)) =
-    sym (accepted-answer c l) ∙ sym (ap groupAnswer p) ∙ e ∙ ap groupAnswer q ∙ accepted-answer d k in
+    let answers : _≡_ {A = Answer (Centering × List Operation) Nothing} (given (c, l)) (given (d, k)) = sym (accepted-answer c l) ∙ sym (ap groupAnswer p) ∙ e ∙ ap groupAnswer q ∙ accepted-answer d k in
     let same : _≡_ {A = Centering × List Operation} (c, l) (d, k) = cc in
     p ∙ ap (λ (x : Centering × List Operation). acceptedGroup (x .0) (x .1)) same ∙ sym q
 

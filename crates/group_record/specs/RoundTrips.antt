@@ -1,6 +1,5 @@
--- What was written reads back as the same group, and what was read is written as the same bytes.
--- Both follow from the rules of the reading and from the listed form.
-use mathlib.Core.Path.{_≡_, refl, sym, _∙_, ap, subst}
+-- What was written reads back as the same group, and what was read is written as the same bytes. Both follow from the rules of the reading and from the listed form.
+use mathlib.Core.Path.{_≡_, refl, sym, _∙_, ap, subst, ap₂}
 use mathlib.Core.Logic.{_↔_}
 use mathlib.Core.List.{List, _++_, map, List·Memᴰ as Mem, Memᴰ·map as mem-map, Memᴰ·of-map as mem-of-map, Memᴰ·cast as mem-cast}
 use Prim.Native.Nat.{ℕ, _-_, _≤_}
@@ -67,8 +66,7 @@ module _ (c : Centering) {l : List Operation} (L : Listing l) (A : Allowed c (ma
       unchanged : smallestOperation c identityOperation ≡ identityOperation
       unchanged = ap (λ t. record { rotation = identityOperation .rotation; translation = t }) (origin-smallest c)
 
-      products : (f g : SpaceMotion) → Mem f (map motionOf (listedForm c l)) → Mem g (map motionOf (listedForm c l))
-          → (h : SpaceMotion) × Mem h (map motionOf (listedForm c l)) × Alike c (compose f g) h
+      products : (f g : SpaceMotion) → Mem f (map motionOf (listedForm c l)) → Mem g (map motionOf (listedForm c l)) → (h : SpaceMotion) × Mem h (map motionOf (listedForm c l)) × Alike c (compose f g) h
       products f g m k =
           let (a, n, p) = out-of-form f m in
           let (b, o, q) = out-of-form g k in
@@ -80,8 +78,7 @@ module _ (c : Centering) {l : List Operation} (L : Listing l) (A : Allowed c (ma
 module _ {Sign Kind : Type 0} (G : GroupReading Sign Kind) where
   -- What was written is told, wherever it stands at the end of a buffer of bytes; and it is the same group.
   pub tells-back : (k : Kind) (c : Sign) {l : List Operation} → Listing l → Allowed (G .lattice c) (map motionOf l) → G .Further c (listedForm (G .lattice c) l)
-      → (front : List ℕ)
-      → toldBy (rulesOf G) (front ++ recordIn (G .edition k) (G .byte c) (G .lattice c) l) ≡ holds k c (map itemOf (listedForm (G .lattice c) l))
+      → (front : List ℕ) → toldBy (rulesOf G) (front ++ recordIn (G .edition k) (G .byte c) (G .lattice c) l) ≡ holds k c (map itemOf (listedForm (G .lattice c) l))
   unfolding recordIn
   tells-back k c {l} L A further front =
       holds-told G _ k c (listedForm (G .lattice c) l) (record {
@@ -106,8 +103,7 @@ module _ {Sign Kind : Type 0} (G : GroupReading Sign Kind) where
   holds-again bytes k c l h =
       record {
         front = h .front;
-        same-bytes =
-            h .same-bytes ∙ ap (λ (m : List Operation). h .front ++ writtenIn (G .edition k) (G .byte c) m) (sym (form-again (G .lattice c) (h .form)));
+        same-bytes = h .same-bytes ∙ ap (λ (m : List Operation). h .front ++ writtenIn (G .edition k) (G .byte c) m) (sym (form-again (G .lattice c) (h .form)));
         form = h .form;
         allowed = h .allowed;
         further = h .further;
@@ -116,8 +112,7 @@ module _ {Sign Kind : Type 0} (G : GroupReading Sign Kind) where
 
 -- ---- edition 1
 -- What was written reads back, wherever it stands at the end of a buffer; and it is the same group.
-pub reads-back : (c : Centering) {l : List Operation} → Listing l → Allowed c (map motionOf l) → (front : List ℕ)
-    → readOf (front ++ recordOf c l) ≡ acceptedGroup c (listedForm c l)
+pub reads-back : (c : Centering) {l : List Operation} → Listing l → Allowed c (map motionOf l) → (front : List ℕ) → readOf (front ++ recordOf c l) ≡ acceptedGroup c (listedForm c l)
 unfolding readOf recordOf
 reads-back c {l} L A front =
     ap groupOf (tells-back firstReading tt c L A tt front) ∙ ap (acceptedGroup c) (operations-of-items (listedForm c l) (listed-form c L .entries))
@@ -144,8 +139,7 @@ pub record Reads (bytes : List ℕ) (c : Centering) (l : List Operation) : Type 
   pub allowed : Allowed c (map motionOf l)
   pub group : SpaceGroup c (InSet c (map motionOf l))
 
-pub written-again : (bytes : List ℕ) → Bytes bytes → readOf bytes .answer ≡ Accepted
-    → Reads bytes (readOf bytes .centering) (take (readOf bytes .count) (readOf bytes .operations))
+pub written-again : (bytes : List ℕ) → Bytes bytes → readOf bytes .answer ≡ Accepted → Reads bytes (readOf bytes .centering) (take (readOf bytes .count) (readOf bytes .operations))
 unfolding recordOf
 written-again bytes g e =
     let again = holds-again firstReading bytes tt _ _ (accepted-holds bytes g e) in
@@ -212,9 +206,7 @@ accepted-exactly bytes g c l = (
 )
 
 -- A copy's bytes are those that were read: the last ones of the buffer.
-pub copied-bytes : (bytes : List ℕ) → Bytes bytes → readOf bytes .answer ≡ Accepted
-    → recordOf (readOf bytes .centering) (take (readOf bytes .count) (readOf bytes .operations))
-    ≡ drop (length bytes - totalLength itemWidth (readOf bytes .count)) bytes
+pub copied-bytes : (bytes : List ℕ) → Bytes bytes → readOf bytes .answer ≡ Accepted → recordOf (readOf bytes .centering) (take (readOf bytes .count) (readOf bytes .operations)) ≡ drop (length bytes - totalLength itemWidth (readOf bytes .count)) bytes
 copied-bytes bytes g e =
     let c = readOf bytes .centering in
     let n = readOf bytes .count in
@@ -222,6 +214,5 @@ copied-bytes bytes g e =
     let r = written-again bytes g e in
     let few = length-take-le n (readOf bytes .operations) (read-writable bytes (readOf bytes) g refl e .there) in
     let size : length (recordOf c l) ≡ totalLength itemWidth n = record-length c l ∙ ap (totalLength itemWidth) few in
-    let place : length (r .front) ≡ length bytes - totalLength itemWidth n =
-    omega (arith, size, length-append (r .front) (recordOf c l), ap length (r .same-bytes)) in
+    let place : length (r .front) ≡ length bytes - totalLength itemWidth n = omega (arith, size, length-append (r .front) (recordOf c l), ap length (r .same-bytes)) in
     sym (ap (drop (length bytes - totalLength itemWidth n)) (r .same-bytes) ∙ drop-at (r .front) (recordOf c l) (length bytes - totalLength itemWidth n) place)

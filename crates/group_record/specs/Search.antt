@@ -6,11 +6,15 @@ use Prim.Native.Nat.{ℕ, suc, _+_, _*_, _-_, _<_, _≤_}
 use native.Mathlib.Omega.{arith}
 use native.Mathlib.Numerals.{add-one}
 use borrow.Author.Tests.{lt-ltb, le-ltb, eq-eqb, ne-eqb}
-use lib.ListN.{length, getD, take, drop, set, replicate, length-map}
+use lib.ListN.{length, getD, take, drop, set, replicate, length-map, length-append, length-replicate}
 use lib.Seq.{drop-cons, drop-length, getD-drop, take-suc, take-length, set-at, length-take-le}
+use Rattle.laws.specs.Distinct.{has}
 use Rattle.laws.specs.Lattice.{all}
-use Rattle.operation.specs.Product.{identityOperation}
+use Rattle.laws.specs.Sorted.{ascending}
+use Rattle.operation.specs.Product.{identityOperation, productOf}
 use Rattle.operation.specs.declared.Operation.{Operation}
+use Rattle.operation.specs.declared.product.Product.{Product}
+use Rattle.centering.specs.Keeps.{keepsOf}
 use Rattle.centering.specs.Letters.{letterOf}
 use Rattle.centering.specs.declared.Centering.{Centering}
 use Rattle.centering.specs.declared.Letter.{Letter}
@@ -18,7 +22,7 @@ use Rattle.group_record.specs.Items.{itemsIn, items-length, item-at}
 use Rattle.group_record.specs.Editions.{totalLength, fromEnd}
 use Rattle.group_record.specs.Record.{Item, itemWidth}
 use Rattle.group_record.specs.Rules.{lengthFits, itemsTold, countedTold, letteredTold, editionTold, toldBy}
-use Rattle.group_record.specs.Reading.{itemIn, operationOfItem, slots, letterIn, firstRules, groupOf, readOf, refusedGroup}
+use Rattle.group_record.specs.Reading.{itemIn, operationOfItem, itemBefore, slots, keepsItem, productListed, pairListed, memberAllowed, letterIn, firstRules, groupOf, readOf, refusedGroup}
 use Rattle.group_record.specs.declared.RecordGroup.{RecordGroup}
 use Rattle.group_record.specs.declared.Refusal.the-variants.{Short, WrongEdition, WrongLength}
 
@@ -62,6 +66,33 @@ module _ (n : ℕ) (bytes : List ℕ) where
     unfolding all
     all-end i h k = rw (none-left i h k)
 
+  -- A search for an item: it goes on, finds, or ends.
+  module _ (same : Item → Item → Bool) (wanted : Item) where
+    pub has-next : (i : ℕ) → i < n → same wanted (itemAt bytes i) ≡ false → has same wanted (drop i (itemsOf n bytes)) ≡ has same wanted (drop (i + 1) (itemsOf n bytes))
+    unfolding has
+    has-next i h e = rw (next-item i h, e)
+
+    pub has-stop : (i : ℕ) → i < n → same wanted (itemAt bytes i) ≡ true → has same wanted (drop i (itemsOf n bytes)) ≡ true
+    unfolding has
+    has-stop i h e = rw (next-item i h, e)
+
+    pub has-end : (i : ℕ) → n ≤ i → i ≤ n → has same wanted (drop i (itemsOf n bytes)) ≡ false
+    unfolding has
+    has-end i h k = rw (none-left i h k)
+
+  -- The order of neighbours: it goes on, fails, or is done with the last item.
+  pub ascending-next : (i : ℕ) → i + 1 < n → itemBefore (itemAt bytes i) (itemAt bytes (i + 1)) ≡ true → ascending itemBefore (drop i (itemsOf n bytes)) ≡ ascending itemBefore (drop (i + 1) (itemsOf n bytes))
+  unfolding ascending
+  ascending-next i h e = rw (next-item i (omega arith), next-item (i + 1) h, e)
+
+  pub ascending-stop : (i : ℕ) → i + 1 < n → itemBefore (itemAt bytes i) (itemAt bytes (i + 1)) ≡ false → ascending itemBefore (drop i (itemsOf n bytes)) ≡ false
+  unfolding ascending
+  ascending-stop i h e = rw (next-item i (omega arith), next-item (i + 1) h, e)
+
+  pub ascending-end : (i : ℕ) → n ≤ i + 1 → i < n → ascending itemBefore (drop i (itemsOf n bytes)) ≡ true
+  unfolding ascending
+  ascending-end i h k = rw (next-item i k, none-left (i + 1) h (omega arith))
+
   -- ---- operations filled into slots
   unfoldable pub filledTo : ℕ → List Operation
   filledTo i = map operationOfItem (take i (itemsOf n bytes)) ++ replicate (48 - i) identityOperation
@@ -69,15 +100,12 @@ module _ (n : ℕ) (bytes : List ℕ) where
   pub filled-next : (i : ℕ) → i < n → n ≤ 48 → set (filledTo i) i (operationOfItem (itemAt bytes i)) ≡ filledTo (i + 1)
   unfolding filledTo itemAt
   filled-next i h few =
-      let long : length (map operationOfItem (take i (itemsOf n bytes))) ≡ i =
-      length-map (take i (itemsOf n bytes)) operationOfItem ∙ length-take-le i (itemsOf n bytes) (omega (arith, items-count)) in
+      let long : length (map operationOfItem (take i (itemsOf n bytes))) ≡ i = length-map (take i (itemsOf n bytes)) operationOfItem ∙ length-take-le i (itemsOf n bytes) (omega (arith, items-count)) in
       let room : 48 - i ≡ suc (48 - (i + 1)) = omega arith in
       let more : take (i + 1) (itemsOf n bytes) ≡ take i (itemsOf n bytes) ++ (itemAt bytes i ∷ []) =
-      ap (λ (k : ℕ). take k (itemsOf n bytes)) (add-one i) ∙ take-suc (itemsOf n bytes) i emptyItem (omega (arith, items-count))
-      ∙ ap (λ (a : Item). take i (itemsOf n bytes) ++ (a ∷ [])) (item-at itemWidth itemIn n bytes i emptyItem h) in
+      ap (λ (k : ℕ). take k (itemsOf n bytes)) (add-one i) ∙ take-suc (itemsOf n bytes) i emptyItem (omega (arith, items-count)) ∙ ap (λ (a : Item). take i (itemsOf n bytes) ++ (a ∷ [])) (item-at itemWidth itemIn n bytes i emptyItem h) in
       ap (λ (k : ℕ). set (map operationOfItem (take i (itemsOf n bytes)) ++ replicate k identityOperation) i (operationOfItem (itemAt bytes i))) room
-      ∙ set-at (map operationOfItem (take i (itemsOf n bytes))) identityOperation (replicate (48 - (i + 1)) identityOperation)
-      (operationOfItem (itemAt bytes i)) i long
+      ∙ set-at (map operationOfItem (take i (itemsOf n bytes))) identityOperation (replicate (48 - (i + 1)) identityOperation) (operationOfItem (itemAt bytes i)) i long
       ∙ sym (ap (λ (l : List Item). map operationOfItem l ++ replicate (48 - (i + 1)) identityOperation) more ∙ ap (λ (l : List Operation). l ++ replicate (48 - (i + 1)) identityOperation) (map-append operationOfItem (take i (itemsOf n bytes)) (itemAt bytes i ∷ [])) ∙ append-assoc (map operationOfItem (take i (itemsOf n bytes))) (operationOfItem (itemAt bytes i) ∷ []) (replicate (48 - (i + 1)) identityOperation))
 
   pub filled-start : filledTo 0 ≡ replicate 48 identityOperation
@@ -89,10 +117,15 @@ module _ (n : ℕ) (bytes : List ℕ) where
   unfolding filledTo slots
   filled-end i h k =
       let end : i ≡ n = omega arith in
-      let all-taken : take i (itemsOf n bytes) ≡ itemsOf n bytes =
-      ap (λ (j : ℕ). take j (itemsOf n bytes)) (end ∙ sym items-count) ∙ take-length (itemsOf n bytes) in
+      let all-taken : take i (itemsOf n bytes) ≡ itemsOf n bytes = ap (λ (j : ℕ). take j (itemsOf n bytes)) (end ∙ sym items-count) ∙ take-length (itemsOf n bytes) in
       let count : i ≡ length (map operationOfItem (itemsOf n bytes)) = end ∙ sym items-count ∙ sym (length-map (itemsOf n bytes) operationOfItem) in
       ap₂ (λ (l : List Item) (j : ℕ). map operationOfItem l ++ replicate (48 - j) identityOperation) all-taken count
+
+  pub filled-length : (i : ℕ) → i ≤ n → n ≤ 48 → length (filledTo i) ≡ 48
+  unfolding filledTo
+  filled-length i h few =
+      let long : length (map operationOfItem (take i (itemsOf n bytes))) ≡ i = length-map (take i (itemsOf n bytes)) operationOfItem ∙ length-take-le i (itemsOf n bytes) (omega (arith, items-count)) in
+      length-append (map operationOfItem (take i (itemsOf n bytes))) (replicate (48 - i) identityOperation) ∙ omega (arith, long, length-replicate (48 - i) identityOperation)
 
 -- ---- an item's bytes, by their places
 byte-at : (bytes : List ℕ) (i j : ℕ) → getD (drop (itemWidth * i) bytes) j 0 ≡ getD bytes (itemWidth * i + j) 0
@@ -104,11 +137,29 @@ item-code-bytes bytes i =
     let first : itemWidth * i + 0 ≡ itemWidth * i = omega arith in
     ap₂ (λ (a b : ℕ). a * 256 + b) (ap (λ (k : ℕ). getD bytes k 0) (sym first) ∙ sym (byte-at bytes i 0)) (sym (byte-at bytes i 1))
 
-pub item-translation-bytes : (bytes : List ℕ) (i : ℕ)
-    → record { x = getD bytes (itemWidth * i + 2) 0; y = getD bytes (itemWidth * i + 3) 0; z = getD bytes (itemWidth * i + 4) 0 }
-    ≡ itemAt bytes i .translation
+pub item-translation-bytes : (bytes : List ℕ) (i : ℕ) → record { x = getD bytes (itemWidth * i + 2) 0; y = getD bytes (itemWidth * i + 3) 0; z = getD bytes (itemWidth * i + 4) 0 } ≡ itemAt bytes i .translation
 unfolding itemAt itemIn
 item-translation-bytes bytes i = rw (byte-at bytes i 2, byte-at bytes i 3, byte-at bytes i 4)
+
+-- ---- a member of the group
+module _ (c : Centering) (items : List Item) (i : Item) where
+  -- What the code's answers say of it.
+  pub kept-item : (f : Operation) (b : Bool) → f ≡ operationOfItem i → b ≡ keepsOf c (f .rotation) → keepsItem c i ≡ b
+  unfolding keepsItem
+  kept-item f b e k = ap (λ (g : Operation). keepsOf c (g .rotation)) (sym e) ∙ sym k
+
+  pub listed-pair : (j : Item) (f g : Operation) (p : Product) (b : Bool) → f ≡ operationOfItem i → g ≡ operationOfItem j → p ≡ productOf f g → b ≡ productListed c items p → pairListed c items i j ≡ b
+  unfolding pairListed
+  listed-pair j f g p b e h q k = ap₂ (λ (x y : Operation). productListed c items (productOf x y)) (sym e) (sym h) ∙ ap (productListed c items) (sym q) ∙ sym k
+
+  -- Where its rotation keeps the lattice, its products decide; where not, it is refused.
+  pub member-kept : keepsItem c i ≡ true → memberAllowed c items i ≡ all (pairListed c items i) items
+  unfolding memberAllowed
+  member-kept e = rw e
+
+  pub member-lost : keepsItem c i ≡ false → memberAllowed c items i ≡ false
+  unfolding memberAllowed
+  member-lost e = rw e
 
 -- ---- the trailer
 -- What the items tell,

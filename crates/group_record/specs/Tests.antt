@@ -1,12 +1,16 @@
--- What it means that tests hold: of every member of a list, of some member.
+-- What it means that tests hold: of two at once, of every member of a list, of some member.
 use mathlib.Core.Path.{_≡_, refl, sym, _∙_}
 use mathlib.Core.Logic.{_↔_}
-use mathlib.Core.Bool.{Bool, true, false, true≢false}
+use mathlib.Core.Bool.{Bool, true, false, _&&_, true≢false}
 use mathlib.Core.List.{List, _∷_, List·Memᴰ as Mem, List·Memᴰ·head as here, List·Memᴰ·tail as there}
 use lib.Dec.{T}
 use Rattle.laws.specs.Distinct.{has, has-member, or-left, or-right}
 use Rattle.laws.specs.Lattice.{all, all-member, member-all}
 use Rattle.centering.specs.LatticeLaws.{holds}
+
+pub both-true : (a b : Bool) → (a && b ≡ true) ↔ ((a ≡ true) × (b ≡ true))
+both-true true b = ((λ e. (refl, e)), λ (p, q). q)
+both-true false b = ((λ e. absurd (true≢false (sym e))), λ (p, q). absurd (true≢false (sym p)))
 
 pub all-true : {A : Type 0} (test : A → Bool) (l : List A) → (all test l ≡ true) ↔ ((a : A) → Mem a l → test a ≡ true)
 all-true test l = ((λ e a m. holds .0 (all-member test (holds .1 e) m)), λ h. holds .0 (member-all test l (λ a m. holds .1 (h a m))))

@@ -1,8 +1,5 @@
 // The group record: the byte form of a group of operations, written and read. New in the port: the Rust has no such form.
-mod allowed;
-pub mod codes;
 pub mod copier;
-mod items;
 pub mod reader;
 pub mod symbol;
 mod writer;
@@ -24,7 +21,7 @@ pub enum Refusal {
 }
 
 impl Refusal {
-    // The number (R8); the place is 0.
+    // The number of R8; the place is 0.
     pub fn number(self) -> u8
         ensures { λ r. ⌜ r ≡ refusalNumber self ⌝ }
     {

@@ -1,23 +1,32 @@
-// Reading a record: the rules of refusals 30 to 35, in order. 30 to 33 are tried on the bytes, 34 and 35 on the operations of the items.
+// Reading a record: the rules of refusals 30 to 35, in order, tried on the bytes as they stand.
 ghost use mathlib.Core.Path.{_≡_};
-ghost use Prim.Native.Nat.{_*_, _≤_};
+ghost use Prim.Native.Nat.{_+_, _*_, _≤_, _<_};
 ghost use lib.ListN.{length};
+ghost use Rattle.laws.specs.Distinct.{has};
+ghost use Rattle.laws.specs.Lattice.{all, sameTriple};
+ghost use Rattle.laws.specs.Sorted.{ascending};
+ghost use Rattle.centering.specs.Lattices.{tripleOf};
+ghost use Rattle.group_record.specs.Reading.{operationOfItem, isItem, itemBefore, areItems, alikeItems, productListed, memberAllowed, isAllowed, readOf};
 ghost use Rattle.group_record.specs.Editions.{fromEnd};
 ghost use Rattle.group_record.specs.Rules.{lengthFits};
-ghost use Rattle.group_record.specs.Reading.{refusedGroup, readOf};
-ghost use Rattle.group_record.specs.Search.{itemsOf, readItems, readCounted};
-ghost use Rattle.group_record.specs.Found.{nothingFound, Stands};
+ghost use Rattle.group_record.specs.Record.{itemOf};
+ghost use Rattle.group_record.specs.Search.{itemsOf, itemAt, readCounted};
+ghost use Rattle.group_record.specs.Found.{nothingFound, laidOut, Stands};
 use super::Reading;
 use super::RecordGroup;
 use super::Refusal;
-use super::allowed::is_allowed;
-use super::items::are_listed;
-use super::items::laid_out;
 use centering::Centering;
 use centering::Letter;
+use operation::Operation;
+use operation::Translation;
+use operation::code::Decoded;
+use operation::code::rotation_code;
+use operation::code::rotation_of_code;
+use operation::product::Product;
 use operation::product::identity;
+use operation::product::mul;
 
-// What is found at a buffer's end: a refusal, or the letter, the count and the place of the first item.
+// What is found at a buffer's end: the answer, and of a record that is accepted the letter, the count and the place of its first item.
 struct Found {
     answer: Reading,
     centering: Centering,
@@ -25,58 +34,17 @@ struct Found {
     start: usize,
 }
 
-// The record that ends where the bytes end.
+// The record that ends where the bytes end. Its operations are laid out in one place for every answer, so that the code for 48 slots stands once.
 pub fn read_record(bytes: &[u8]) -> RecordGroup
     ensures { λ r. ⌜ r ≡ readOf (now (bytes .entry)) ⌝ }
 {
     let found = find(bytes);
+    let start = found.start;
     let answer = found.answer;
-    match answer {
-        Reading::Accepted => {
-            let start = found.start;
-            let c = found.centering;
-            read_items(&bytes[start..], c, found.count)
-        }
-        Reading::Refused(why) => refused(why),
-    }
+    let c = found.centering;
+    laid_out(&bytes[start..], answer, c, found.count)
 }
 
-fn refused(why: Refusal) -> RecordGroup
-    ensures { λ r. ⌜ r ≡ refusedGroup why ⌝ }
-{
-    RecordGroup {
-        answer: Reading::Refused(why),
-        centering: Centering::P,
-        count: 0,
-        operations: [identity(); 48],
-    }
-}
-
-// 34, then 35, tried on the operations of the items.
-fn read_items(bytes: &[u8], c: Centering, n: usize) -> RecordGroup
-    requires { ⌜ (1 ≤ n) × (n ≤ 48) × (5 * n ≤ length (now bytes)) ⌝ }
-    ensures { λ r. ⌜ r ≡ readItems c (itemsOf n (now (bytes .entry))) ⌝ }
-{
-    let laid = laid_out(bytes, n);
-    if !laid.right {
-        return refused(Refusal::WrongItem);
-    }
-    let operations = laid.operations;
-    if !are_listed(c, operations, n) {
-        return refused(Refusal::WrongItem);
-    }
-    if !is_allowed(c, operations, n) {
-        return refused(Refusal::NotAllowed);
-    }
-    RecordGroup {
-        answer: Reading::Accepted,
-        centering: c,
-        count: n,
-        operations,
-    }
-}
-
-// 30 to 33.
 fn find(bytes: &[u8]) -> Found
     ensures { λ r. ⌜ Stands (now (bytes .entry)) r (readOf (now (bytes .entry))) ⌝ }
 {
@@ -123,6 +91,12 @@ fn find_counted(bytes: &[u8], c: Centering) -> Found
         return nothing(Refusal::WrongLength);
     }
     let start = size - (5 * n + 5);
+    if !are_items(&bytes[start..], c, n) {
+        return nothing(Refusal::WrongItem);
+    }
+    if !is_allowed(&bytes[start..], c, n) {
+        return nothing(Refusal::NotAllowed);
+    }
     Found {
         answer: Reading::Accepted,
         centering: c,
@@ -146,4 +120,204 @@ fn length_fits(n: usize, stated: usize, size: usize) -> bool
         return false;
     }
     total <= size
+}
+
+fn item_code(bytes: &[u8], i: usize) -> u32
+    requires { ⌜ 5 * i + 5 ≤ length (now bytes) ⌝ }
+    ensures { λ r. ⌜ r ≡ itemAt (now (bytes .entry)) i .code ⌝ }
+{
+    let at = 5 * i;
+    bytes[at] as u32 * 256 + bytes[at + 1] as u32
+}
+
+fn item_translation(bytes: &[u8], i: usize) -> Translation
+    requires { ⌜ 5 * i + 5 ≤ length (now bytes) ⌝ }
+    ensures { λ r. ⌜ r ≡ itemAt (now (bytes .entry)) i .translation ⌝ }
+{
+    let at = 5 * i;
+    Translation {
+        x: bytes[at + 2],
+        y: bytes[at + 3],
+        z: bytes[at + 4],
+    }
+}
+
+// A code over 19682 gives the identity; no record that is accepted has one.
+fn operation_at(bytes: &[u8], i: usize) -> Operation
+    requires { ⌜ 5 * i + 5 ≤ length (now bytes) ⌝ }
+    ensures { λ r. ⌜ r ≡ operationOfItem (itemAt (now (bytes .entry)) i) ⌝ }
+{
+    let translation = item_translation(bytes, i);
+    let Decoded::Inside(rotation) = rotation_of_code(item_code(bytes, i)) else {
+        let unit = identity();
+        let rotation = unit.rotation;
+        return Operation {
+            rotation,
+            translation,
+        };
+    };
+    Operation {
+        rotation,
+        translation,
+    }
+}
+
+fn are_items(bytes: &[u8], c: Centering, n: usize) -> bool
+    requires { ⌜ (1 ≤ n) × (n ≤ 48) × (5 * n ≤ length (now bytes)) ⌝ }
+    ensures { λ r. ⌜ r ≡ areItems c (itemsOf n (now (bytes .entry))) ⌝ }
+{
+    if !items_fit(bytes, c, n) {
+        return false;
+    }
+    codes_ascend(bytes, n)
+}
+
+fn items_fit(bytes: &[u8], c: Centering, n: usize) -> bool
+    requires { ⌜ (n ≤ 48) × (5 * n ≤ length (now bytes)) ⌝ }
+    ensures { λ r. ⌜ r ≡ all (isItem c) (itemsOf n (now (bytes .entry))) ⌝ }
+{
+    let mut i = 0usize;
+    while i < n {
+        if !is_item(bytes, c, i) {
+            return false;
+        }
+        i += 1;
+    }
+    true
+}
+
+// The smallest triple of a class is below 12, so a triple that is the smallest is.
+fn is_item(bytes: &[u8], c: Centering, i: usize) -> bool
+    requires { ⌜ 5 * i + 5 ≤ length (now bytes) ⌝ }
+    ensures { λ r. ⌜ r ≡ isItem c (itemAt (now (bytes .entry)) i) ⌝ }
+{
+    if 19683 <= item_code(bytes, i) {
+        return false;
+    }
+    let t = item_translation(bytes, i);
+    same(c.smallest(t), t)
+}
+
+fn same(s: Translation, t: Translation) -> bool
+    ensures { λ r. ⌜ r ≡ sameTriple (tripleOf s) (tripleOf t) ⌝ }
+{
+    if s.x != t.x {
+        return false;
+    }
+    if s.y != t.y {
+        return false;
+    }
+    s.z == t.z
+}
+
+fn codes_ascend(bytes: &[u8], n: usize) -> bool
+    requires { ⌜ (1 ≤ n) × (n ≤ 48) × (5 * n ≤ length (now bytes)) ⌝ }
+    ensures { λ r. ⌜ r ≡ ascending itemBefore (itemsOf n (now (bytes .entry))) ⌝ }
+{
+    let mut i = 0usize;
+    while i + 1 < n {
+        if item_code(bytes, i + 1) <= item_code(bytes, i) {
+            return false;
+        }
+        i += 1;
+    }
+    true
+}
+
+// The identity is listed, and every member is as `member_allowed` says.
+fn is_allowed(bytes: &[u8], c: Centering, n: usize) -> bool
+    requires { ⌜ (n ≤ 48) × (5 * n ≤ length (now bytes)) ⌝ }
+    ensures { λ r. ⌜ r ≡ isAllowed c (itemsOf n (now (bytes .entry))) ⌝ }
+{
+    if !is_listed(bytes, c, n, identity()) {
+        return false;
+    }
+    members_allowed(bytes, c, n)
+}
+
+fn members_allowed(bytes: &[u8], c: Centering, n: usize) -> bool
+    requires { ⌜ (n ≤ 48) × (5 * n ≤ length (now bytes)) ⌝ }
+    ensures { λ r. ⌜ r ≡ all (memberAllowed c (itemsOf n (now (bytes .entry)))) (itemsOf n (now (bytes .entry))) ⌝ }
+{
+    let mut i = 0usize;
+    while i < n {
+        if !member_allowed(bytes, c, n, i) {
+            return false;
+        }
+        i += 1;
+    }
+    true
+}
+
+// The rotation maps the lattice onto itself, and each product with this left factor is listed.
+fn member_allowed(bytes: &[u8], c: Centering, n: usize, i: usize) -> bool
+    requires { ⌜ (n ≤ 48) × (5 * n ≤ length (now bytes)) × (i < n) ⌝ }
+    ensures { λ r. ⌜ r ≡ memberAllowed c (itemsOf n (now (bytes .entry))) (itemAt (now (bytes .entry)) i) ⌝ }
+{
+    let f = operation_at(bytes, i);
+    if !c.keeps(f.rotation) {
+        return false;
+    }
+    let mut j = 0usize;
+    while j < n {
+        if !product_listed(bytes, c, n, mul(f, operation_at(bytes, j))) {
+            return false;
+        }
+        j += 1;
+    }
+    true
+}
+
+fn product_listed(bytes: &[u8], c: Centering, n: usize, product: Product) -> bool
+    requires { ⌜ (n ≤ 48) × (5 * n ≤ length (now bytes)) ⌝ }
+    ensures { λ r. ⌜ r ≡ productListed c (itemsOf n (now (bytes .entry))) product ⌝ }
+{
+    match product {
+        Product::Inside(h) => is_listed(bytes, c, n, h),
+        Product::Outside => false,
+    }
+}
+
+// An operation with this rotation is listed, and its translation differs by a vector of the lattice.
+fn is_listed(bytes: &[u8], c: Centering, n: usize, f: Operation) -> bool
+    requires { ⌜ (n ≤ 48) × (5 * n ≤ length (now bytes)) ⌝ }
+    ensures { λ r. ⌜ r ≡ has (alikeItems c) (itemOf f) (itemsOf n (now (bytes .entry))) ⌝ }
+{
+    let code = rotation_code(f.rotation);
+    let mut i = 0usize;
+    while i < n {
+        if alike(bytes, c, i, code, f.translation) {
+            return true;
+        }
+        i += 1;
+    }
+    false
+}
+
+fn alike(bytes: &[u8], c: Centering, i: usize, code: u32, t: Translation) -> bool
+    requires { ⌜ 5 * i + 5 ≤ length (now bytes) ⌝ }
+    ensures { λ r. ⌜ r ≡ alikeItems c (record { code = code; translation = t }) (itemAt (now (bytes .entry)) i) ⌝ }
+{
+    if code != item_code(bytes, i) {
+        return false;
+    }
+    c.congruent(t, item_translation(bytes, i))
+}
+
+fn laid_out(bytes: &[u8], answer: Reading, c: Centering, n: usize) -> RecordGroup
+    requires { ⌜ (n ≤ 48) × (5 * n ≤ length (now bytes)) ⌝ }
+    ensures { λ r. ⌜ r ≡ laidOut answer c n (now (bytes .entry)) ⌝ }
+{
+    let mut operations = [identity(); 48];
+    let mut i = 0usize;
+    while i < n {
+        operations[i] = operation_at(bytes, i);
+        i += 1;
+    }
+    RecordGroup {
+        answer,
+        centering: c,
+        count: n,
+        operations,
+    }
 }

@@ -29,8 +29,7 @@ nothing-requires-2 c κs = search needs
 returns-2 : tie.Need-returns-2
 returns-2 c =
     let bytes = c .before .before .before .before .before .args .bytes .now in
-    nothing-found (c .nothing2 .ensures)
-    (read-other-edition bytes _ (omega (arith, c .before .before .before .if1 .left)) (c .before .before .from-end .ensures) (c .before .if2 .taken))
+    nothing-found (c .nothing2 .ensures) (read-other-edition bytes _ (omega (arith, c .before .before .before .if1 .left)) (c .before .before .from-end .ensures) (c .before .if2 .taken))
 
 from-end-requires-2 : tie.Need-from-end-requires-2
 from-end-requires-2 c κs = search needs
@@ -52,10 +51,7 @@ unfolding letteredTold
 returns-3 c =
     let bytes = c .before .before .before .before .before .before .before .before .before .args .bytes .now in
     let letter = sym (c .before .before .before .from-byte .ensures) ∙ c .before .enum-told .given .1 in
-    nothing-found (c .nothing3 .ensures)
-    (read-by-letter bytes _ (omega (arith, c .before .before .before .before .before .before .before .if1 .left))
-    (c .before .before .before .before .before .before .from-end .ensures) _ _ (c .before .before .before .before .before .if2 .left)
-    (c .before .before .before .before .from-end2 .ensures) letter)
+    nothing-found (c .nothing3 .ensures) (read-by-letter bytes _ (omega (arith, c .before .before .before .before .before .before .before .if1 .left)) (c .before .before .before .before .before .before .from-end .ensures) _ _ (c .before .before .before .before .before .if2 .left) (c .before .before .before .before .from-end2 .ensures) letter)
 
 find-counted-requires : tie.Need-find-counted-requires
 find-counted-requires c κs = search needs
@@ -65,10 +61,7 @@ unfolding letteredTold
 returns-4 c =
     let bytes = c .before .before .before .before .before .before .before .before .before .before .args .bytes .now in
     let letter = sym (c .before .before .before .before .from-byte .ensures) ∙ c .before .before .c .given .1 in
-    stands-as (c .find-counted .ensures)
-    (read-by-letter bytes _ (omega (arith, c .before .before .before .before .before .before .before .before .if1 .left))
-    (c .before .before .before .before .before .before .before .from-end .ensures) _ _ (c .before .before .before .before .before .before .if2 .left)
-    (c .before .before .before .before .before .from-end2 .ensures) letter)
+    stands-as (c .find-counted .ensures) (read-by-letter bytes _ (omega (arith, c .before .before .before .before .before .before .before .before .if1 .left)) (c .before .before .before .before .before .before .before .from-end .ensures) _ _ (c .before .before .before .before .before .before .if2 .left) (c .before .before .before .before .before .from-end2 .ensures) letter)
 
 pub find-spec : {M : Type 1} → statement M
 find-spec =
