@@ -1,5 +1,5 @@
 -- What the answer on a magnetic symbol's text says: which symbol with which flags, and each refusal, exactly when. A text without `'` is read as the
--- plain reader reads it, with every flag false.
+-- plain reader reads it.
 use mathlib.Core.Path.{_≡_, refl, sym, _∙_, ap}
 use mathlib.Core.Logic.{_↔_}
 use mathlib.Core.Bool.{Bool, true, false, cond, not}
