@@ -273,7 +273,13 @@ def agreed(measured, others):
         assert cost.answer == answers[call.source, call.number, "order" if kind in ("operations", "table") else kind], call
 
 
-def by_entry(measured, size_of):
+def entries_of(library, tools):
+    """Every function that the library has for C."""
+    symbols = [words.split()[-1] for words in said_by(tools + "nm", "--defined-only", library) if words.strip()]
+    return sorted(symbol.removeprefix("symmetry_") for symbol in symbols if symbol.startswith("symmetry_"))
+
+
+def by_entry(measured, size_of, every_entry):
     entries = sorted({call.entry for call, _ in measured if not call.entry.endswith("_value")})
     row("entry", "code", "constants", "deepest stack", "together", "longest call", "on")
     print("|---|---:|---:|---:|---:|---:|---|")
@@ -285,7 +291,11 @@ def by_entry(measured, size_of):
         code, constants = size_of([entry])
         deepest = max(deepest, stack)
         row("`%s`" % entry, code, constants, stack, code + constants + stack, cost.instructions, call.name)
-    code, constants = size_of(entries)
+    for entry in every_entry:
+        if entry not in entries:
+            code, constants = size_of([entry])
+            row("`%s`" % entry, code, constants, "", "", "", "")
+    code, constants = size_of(every_entry)
     row("all entries", code, constants, deepest, code + constants + deepest, "", "")
 
 
@@ -310,7 +320,7 @@ def main(folder, library, tools, *words):
     print("Executed x86-64 instructions:\n")
     speed(measured)
     print("\nBytes of code, constants and stack, and the executed instructions of the longest call, over %s calls:\n" % format(len(calls), ","))
-    by_entry(measured, lambda entries: sizes(folder, library, tools, entries))
+    by_entry(measured, lambda entries: sizes(folder, library, tools, entries), entries_of(library, tools))
     print("\nWhat the library takes from elsewhere: " + ", ".join("`%s`" % name for name in needed(library, tools)) + ".")
 
 
