@@ -13,7 +13,7 @@
  *
  * Sources. The functions come in three families that differ in what the group is given by:
  *   symmetry_symbol_...   text    the bytes of a Hall symbol, at most 80; no byte 0 ends it. Elements are numbered in list order: breadth first from
- *                                 the identity, right factors running over the symbol's generators in order. Refusals 1 to 14.
+ *                                 the identity, right factors running over the symbol's generators in order. Refusals 1 to 14 and 17.
  *   symmetry_record_...   record  bytes that end with a group record; what stands before it is not looked at. Elements are numbered in the record's
  *                                 order, by ascending rotation code. Refusals 30 to 35.
  *   symmetry_table_...    order and table   n and n * n bytes by rows, the byte at i * n + j being the product of i and j. Refusals 21 to 25.

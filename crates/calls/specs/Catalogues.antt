@@ -1,4 +1,4 @@
--- A catalogue in bytes that C lends, and the answer of a call on it as one number, by the rules, "Catalogues".
+-- A catalogue in bytes that C lends, and the answer of a call on it as one number, by R12.
 use mathlib.Core.Bool.{Bool, cond}
 use mathlib.Core.List.{List, _∷_, _++_}
 use Prim.Native.Nat.{ℕ, _+_, _*_}

@@ -1,4 +1,4 @@
--- What a call on a catalogue answers, what the catalogue is behind it, and what the lent room holds then, by the rules, "Catalogues".
+-- What a call on a catalogue answers, what the catalogue is behind it, and what the lent room holds then, by R12.
 use mathlib.Core.Bool.{Bool, cond}
 use mathlib.Core.List.{List, [], _∷_}
 use Prim.Native.Nat.{ℕ}

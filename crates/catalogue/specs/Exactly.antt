@@ -30,7 +30,7 @@ use Rattle.catalogue.specs.declared.Answer.the-variants.{LongPiece, Afte
 
 -- ---- refusals
 -- What was taken is no refusal.
-never-refused : (taken : ℕ) (lines : List (List ℕ)) (out : List ℕ) → (toldBy taken lines out ≡ LongPiece → ⊥) × (toldBy taken lines out ≡ AfterEnd → ⊥)
+pub never-refused : (taken : ℕ) (lines : List (List ℕ)) (out : List ℕ) → (toldBy taken lines out ≡ LongPiece → ⊥) × (toldBy taken lines out ≡ AfterEnd → ⊥)
 never-refused taken [] out = ((λ e. let z : _≡_ {A = ℕ} 0 1 = cc in absurd (omega arith)), λ e. let z : _≡_ {A = ℕ} 0 1 = cc in absurd (omega arith))
 never-refused taken (line ∷ lines) out = ((λ e. let z : _≡_ {A = ℕ} 0 1 = cc in absurd (omega arith)), λ e. let z : _≡_ {A = ℕ} 0 1 = cc in absurd (omega arith))
 

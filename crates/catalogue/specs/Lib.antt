@@ -3,3 +3,4 @@ pub mod Answers
 pub mod Steps
 pub mod Calls
 pub mod Exactly
+pub mod Numbered

@@ -10,3 +10,4 @@ pub mod Answers
 pub mod Comparison
 pub mod Exactly
 pub mod Told
+pub mod Numbered

@@ -1,4 +1,4 @@
--- Lines to try, in one table: what the definitions answer for each. They are the worked cases of the rule on lines.
+-- Lines to try, in one table: what the definitions answer for each. They are the worked cases of R10.
 use mathlib.Core.Path.{_≡_, refl}
 use mathlib.Core.List.{List, [], _∷_, map}
 use Prim.Native.Nat.{ℕ}

@@ -1,4 +1,4 @@
--- How operation lines are spelt, as the rule on lines says it: three parts between commas, each of one or more terms, each term a sign and a letter
+-- How operation lines are spelt, as R10 says it: three parts between commas, each of one or more terms, each term a sign and a letter
 -- or a fraction. Nothing here reads: these are the rules that the reader and the writer are held against.
 use mathlib.Core.Path.{_≡_}
 use mathlib.Core.Bool.{Bool, true, false, cond, _||_}

@@ -1,4 +1,4 @@
--- How an operation is written as a line, by the rule on lines: in each part the letters ascend, no plus leads, a fraction in lowest terms comes last
+-- How an operation is written as a line, by R10: in each part the letters ascend, no plus leads, a fraction in lowest terms comes last
 -- if the translation is not 0; no spaces.
 use mathlib.Core.Bool.{Bool, true, false, cond}
 use mathlib.Core.List.{List, [], _∷_, _++_}
