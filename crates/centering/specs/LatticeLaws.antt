@@ -105,7 +105,8 @@ letters-capital = tt
 -- Every letter's byte is that of a capital.
 pub letter-capital : (c : Centering) → (64 < byteOf c) × (byteOf c < 91)
 letter-capital c =
-    let (low, high) = and-eq-true-iff (ltb 64 (byteOf c)) _ .0 (holds .0 (all-member (λ c. ltb 64 (byteOf c) && ltb (byteOf c) 91) letters-capital (listed c))) in
+    let (low, high) =
+    and-eq-true-iff (ltb 64 (byteOf c)) _ .0 (holds .0 (all-member (λ c. ltb 64 (byteOf c) && ltb (byteOf c) 91) letters-capital (listed c))) in
     (ltb-true 64 (byteOf c) low, ltb-true (byteOf c) 91 high)
 
 pub byte-injective : (c d : Centering) → byteOf c ≡ byteOf d → c ≡ d

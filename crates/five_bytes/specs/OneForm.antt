@@ -1,4 +1,5 @@
--- Five bytes and the operation they say determine one another: every operation with entries in −1..1 and coordinates below 12 is said by its bytes and no others.
+-- Five bytes and the operation they say determine one another: every operation with entries in −1..1 and coordinates below 12 is said by its bytes and no
+-- others.
 use mathlib.Core.Path.{_≡_, refl, sym, _∙_, ap, ap₂}
 use mathlib.Core.Bool.{Bool, true, false, _&&_, and-eq-true-iff}
 use mathlib.Core.List.{List, [], _∷_}
@@ -40,7 +41,8 @@ below-twelve t h =
     (ltb-true _ 12 q, ltb-true _ 12 r, ltb-true _ 12 s)
 
 -- Of five bytes with coordinates below 12 the code decides.
-pub code-decides : (bytes : List ℕ) → length bytes ≡ 5 → belowTwelve (translationIn bytes) ≡ true → withTranslation (decodedOf (codeIn bytes)) (translationIn bytes) ≡ fiveBytesOf bytes
+pub code-decides : (bytes : List ℕ) → length bytes ≡ 5 → belowTwelve (translationIn bytes) ≡ true
+    → withTranslation (decodedOf (codeIn bytes)) (translationIn bytes) ≡ fiveBytesOf bytes
 unfolding fiveBytesOf
 code-decides bytes five below = rw (eq-eqb (length bytes) 5 five, below) refl
 
@@ -49,7 +51,8 @@ decoded-inside : (c : ℕ) (t : Translation) → c < 19683 → withTranslation (
 decoded-inside c t h = rw (lt-ltb c 19683 h) refl
 
 -- Any two bytes that make a code that fits, with coordinates below 12, say the operation of that code.
-pub five-said : (p q x y z : ℕ) → p * 256 + q < 19683 → x < 12 → y < 12 → z < 12 → fiveBytesOf (p ∷ q ∷ x ∷ y ∷ z ∷ []) ≡ Is (record { rotation = rotationOf (p * 256 + q); translation = record { x = x; y = y; z = z } })
+pub five-said : (p q x y z : ℕ) → p * 256 + q < 19683 → x < 12 → y < 12 → z < 12
+    → fiveBytesOf (p ∷ q ∷ x ∷ y ∷ z ∷ []) ≡ Is (record { rotation = rotationOf (p * 256 + q); translation = record { x = x; y = y; z = z } })
 unfolding fiveBytesOf
 five-said p q x y z h i j k =
     rw (twelve-below (record { x = x; y = y; z = z }) i j k) (decoded-inside (p * 256 + q) _ h)
@@ -84,7 +87,8 @@ wrong-is-none f e = let z : _≡_ {A = ℕ} 0 1 = ap mark e in absurd (omega ari
     mark Wrong = 0
 
 -- Bytes that say an operation are its five bytes.
-inside-said : (p q x y z : ℕ) (f : Operation) → q < 256 → p * 256 + q < 19683 → x < 12 → y < 12 → z < 12 → fiveBytesOf (p ∷ q ∷ x ∷ y ∷ z ∷ []) ≡ Is f → Said (p ∷ q ∷ x ∷ y ∷ z ∷ []) f
+inside-said : (p q x y z : ℕ) (f : Operation) → q < 256 → p * 256 + q < 19683 → x < 12 → y < 12 → z < 12 → fiveBytesOf (p ∷ q ∷ x ∷ y ∷ z ∷ []) ≡ Is f
+    → Said (p ∷ q ∷ x ∷ y ∷ z ∷ []) f
 unfolding operationBytes
 inside-said p q x y z f low h i j k e = rw (← same) (bytes, record { digits = rotation-digits (p * 256 + q); x = i; y = j; z = k })
   where

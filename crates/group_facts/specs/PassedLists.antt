@@ -55,7 +55,8 @@ member-entry (suc n) entry (here p) = (zero, omega arith, sym p)
 member-entry (suc n) entry (there m) = let (i, h, e) = member-entry n (λ i. entry (suc i)) m in (suc i, omega arith, e)
 
 -- Entries whose codes differ are entries with each code once.
-codes-once : (n : ℕ) (entry : ℕ → Operation) → ((i j : ℕ) → i < n → j < i → codeOf (entry i .rotation) ≡ codeOf (entry j .rotation) → ⊥) → Distinct sameCode (entriesFrom n entry)
+codes-once : (n : ℕ) (entry : ℕ → Operation) → ((i j : ℕ) → i < n → j < i → codeOf (entry i .rotation) ≡ codeOf (entry j .rotation) → ⊥)
+    → Distinct sameCode (entriesFrom n entry)
 unfolding entriesFrom
 codes-once zero entry apart = nil
 codes-once (suc n) entry apart =
@@ -63,7 +64,8 @@ codes-once (suc n) entry apart =
     (λ t.
     let (o, m, s) = has-member sameCode (entry zero) (entriesFrom n (λ i. entry (suc i))) t in
     let (i, h, e) = member-entry n (λ i. entry (suc i)) m in
-    apart (suc i) zero (omega arith) (omega arith) (ap (λ (o : Operation). codeOf (o .rotation)) e ∙ sym (eqb→eq (codeOf (entry zero .rotation)) (codeOf (o .rotation)) s)))
+    apart (suc i) zero (omega arith) (omega arith)
+    (ap (λ (o : Operation). codeOf (o .rotation)) e ∙ sym (eqb→eq (codeOf (entry zero .rotation)) (codeOf (o .rotation)) s)))
     (codes-once n (λ i. entry (suc i)) (λ i j h k. apart (suc i) (suc j) (omega arith) (omega arith)))
 
 -- ---- one form
@@ -83,7 +85,8 @@ module _ (c : Centering) where
       → recordOf c l ≡ recordOf c k
   unfolding recordOf recordIn
   one-form L K into back =
-      ap (writtenIn firstEdition (byteOf c)) (unique CodeBefore (key-strict codeKey) (listed-form c L .ascend) (listed-form c K .ascend) (form-within L K into) (form-within K L back))
+      ap (writtenIn firstEdition (byteOf c))
+      (unique CodeBefore (key-strict codeKey) (listed-form c L .ascend) (listed-form c K .ascend) (form-within L K into) (form-within K L back))
 
 -- ---- a list that passed
 module _ (text list : List ℕ) (A : AcceptedText text) (well : WellFormed list) (W : Whole (A .letter) (A .generators) (entryCount list) (entryAt list)) where
@@ -119,11 +122,17 @@ module _ (text list : List ℕ) (A : AcceptedText text) (well : WellFormed list)
   apart i j h k e =
       let (o, m, near) = entry-listed i h in
       let (p, l, close) = entry-listed j (omega arith) in
-      let same : entry i .rotation ≡ entry j .rotation = code-injective (entry i .rotation) (entry j .rotation) (entry-whole i h) (entry-whole j (omega arith)) e in
+      let same : entry i .rotation ≡ entry j .rotation =
+      code-injective (entry i .rotation) (entry j .rotation) (entry-whole i h) (entry-whole j (omega arith)) e in
       let turns : matrixOf (o .rotation) ≡ matrixOf (p .rotation) = sym (near .0) ∙ ap matrixOf same ∙ close .0 in
       let one : o ≡ p = told-by-rotation listing m l (matrix-injective (o .rotation) (p .rotation) (listing .entries o m) (listing .entries p l) turns) in
       let nearer : Alike c (motionOf (entry i)) (motionOf p) = rw (← one) near in
-      W .once i h (j, k, alike-transitive c (motionOf (entry i)) (motionOf p) (motionOf (entry j)) nearer (alike-symmetric c (motionOf (entry j)) (motionOf p) close))
+      W .once i h (
+        j,
+        k,
+        alike-transitive c (motionOf (entry i)) (motionOf p) (motionOf (entry j)) nearer
+            (alike-symmetric c (motionOf (entry j)) (motionOf p) close),
+      )
 
   -- So the entries are a listing,
   entries-listing : Listing (entriesOf list)
@@ -137,7 +146,8 @@ module _ (text list : List ℕ) (A : AcceptedText text) (well : WellFormed list)
   entries-record : recordOf c (entriesOf list) ≡ recordOf c (A .operations)
   entries-record =
       one-form c entries-listing listing
-      (λ f m. let (i, h, e) = member-entry n entry m in let (o, l, near) = entry-listed i h in (o, l, subst (λ (f : Operation). Alike c (motionOf f) (motionOf o)) e near))
+      (λ f m. let (i, h, e) = member-entry n entry m in let (o, l, near) = entry-listed i h in
+      (o, l, subst (λ (f : Operation). Alike c (motionOf f) (motionOf o)) e near))
       (λ o m. let (i, h, near) = listed-entry o m in (entry i, entry-member n entry i h, near))
 
 -- A list that passed, sorted and reduced, is the symbol's record,

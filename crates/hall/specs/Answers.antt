@@ -66,7 +66,8 @@ lines-writable (line ∷ other ∷ lines) h = absurd (omega arith)
 
 -- ---- what the lines' room hands over
 -- It is the first line of those that are handed over.
-handed-line : (lines : List (List ℕ)) → length lines ≤ 1 → cond (anyLine lines) (take (lineIn (firstLine lines) .length) (lineIn (firstLine lines) .bytes) ∷ []) [] ≡ lines
+handed-line : (lines : List (List ℕ)) → length lines ≤ 1
+    → cond (anyLine lines) (take (lineIn (firstLine lines) .length) (lineIn (firstLine lines) .bytes) ∷ []) [] ≡ lines
 unfolding lineIn
 handed-line [] h = refl
 handed-line (line ∷ []) h = ap (λ (l : List ℕ). l ∷ []) (take-at line (drop (length line) zeros) (length line) refl)
@@ -74,12 +75,15 @@ handed-line (line ∷ other ∷ lines) h = absurd (omega arith)
 
 module _ (k : Kept) (piece : List ℕ) where
   -- So the text of a part is that of what is handed over on it,
-  pub answered-part : (t : Taken) → t ≡ takenFrom k piece → (text : AnswerText) → text ≡ textsInRoom (cond (t .finished) (take (t .line .length) (t .line .bytes) ∷ []) []) → record { text = text; kept = t .kept; taken = t .taken } ≡ answeredFrom k piece
+  pub answered-part : (t : Taken) → t ≡ takenFrom k piece → (text : AnswerText)
+      → text ≡ textsInRoom (cond (t .finished) (take (t .line .length) (t .line .bytes) ∷ []) [])
+      → record { text = text; kept = t .kept; taken = t .taken } ≡ answeredFrom k piece
   unfolding takenFrom answeredFrom
   answered-part t e text said =
       let lines = handedOver (held k) (take (takenOf piece) piece) in
       ap₂ (λ (a : AnswerText) (u : Taken). record { text = a; kept = u .kept; taken = u .taken })
-      (said ∙ ap (λ (u : Taken). textsInRoom (cond (u .finished) (take (u .line .length) (u .line .bytes) ∷ []) [])) e ∙ ap textsInRoom (handed-line lines (handed-once (held k) piece)))
+      (said ∙ ap (λ (u : Taken). textsInRoom (cond (u .finished) (take (u .line .length) (u .line .bytes) ∷ []) [])) e
+      ∙ ap textsInRoom (handed-line lines (handed-once (held k) piece)))
       e
 
   -- and it can be written.
@@ -95,7 +99,8 @@ last-once [] = omega arith
 last-once (b ∷ line) = omega arith
 
 -- The same of the last line.
-pub last-part : (k : Kept) (l : Last) → l ≡ lastOf k → (text : AnswerText) → text ≡ textsInRoom (cond (l .finished) (take (l .line .length) (l .line .bytes) ∷ []) []) → text ≡ textsInRoom (lastLine (held k))
+pub last-part : (k : Kept) (l : Last) → l ≡ lastOf k → (text : AnswerText)
+    → text ≡ textsInRoom (cond (l .finished) (take (l .line .length) (l .line .bytes) ∷ []) []) → text ≡ textsInRoom (lastLine (held k))
 unfolding lastOf
 last-part k l e text said =
     said ∙ ap (λ (u : Last). textsInRoom (cond (u .finished) (take (u .line .length) (u .line .bytes) ∷ []) [])) e

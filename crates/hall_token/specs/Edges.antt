@@ -81,7 +81,8 @@ digit-first f s h k l =
 
 -- Each letter behind adds what it moves by, modulo 12.
 pub letter-added : (f : Fold) (run : List ℕ) (b : ℕ) → noScrew (runByteOf b) ≡ true
-    → translationOf f (run ++ (b ∷ [])) ≡ triple ((translationOf f run .x + by b .x) % 12) ((translationOf f run .y + by b .y) % 12) ((translationOf f run .z + by b .z) % 12)
+    → translationOf f (run ++ (b ∷ []))
+    ≡ triple ((translationOf f run .x + by b .x) % 12) ((translationOf f run .y + by b .y) % 12) ((translationOf f run .z + by b .z) % 12)
 unfolding translationOf rise sumX sumY sumZ
 letter-added f run b h =
     let x : sumX (run ++ (b ∷ [])) % 12 ≡ (sumX run % 12 + by b .x) % 12 = let e = along-x run in omega arith in

@@ -101,7 +101,9 @@ unfolding keptBehind handedOver
 handed-parts kept [] rest = refl
 handed-parts kept (b ∷ part) rest = by-byte (eqb b 10) refl (handed-parts (keptAfter kept b) part rest)
   where
-    by-byte : (t : Bool) → eqb b 10 ≡ t → handedOver (keptAfter kept b) part ++ handedOver (keptBehind (keptAfter kept b) part) rest ≡ handedOver (keptAfter kept b) (part ++ rest) → handedOver kept (b ∷ part) ++ handedOver (keptBehind kept (b ∷ part)) rest ≡ handedOver kept ((b ∷ part) ++ rest)
+    by-byte : (t : Bool) → eqb b 10 ≡ t
+        → handedOver (keptAfter kept b) part ++ handedOver (keptBehind (keptAfter kept b) part) rest ≡ handedOver (keptAfter kept b) (part ++ rest)
+        → handedOver kept (b ∷ part) ++ handedOver (keptBehind kept (b ∷ part)) rest ≡ handedOver kept ((b ∷ part) ++ rest)
     by-byte true e more = rw e (ap (λ (l : List (List ℕ)). kept ∷ l) more)
     by-byte false e more = rw e more
 
@@ -129,7 +131,8 @@ joined-first line b = by-length (leb (length line) most) refl
         ap (λ (l : List ℕ). shortened (l ++ (b ∷ []))) (long-shortened line long)
         ∙ long-shortened (kept ++ (b ∷ [])) (omega (arith, length-append kept (b ∷ []), long-length line long))
         ∙ ap (λ (l : List ℕ). l ++ (0 ∷ []))
-        (ap (take most) (append-assoc front (0 ∷ []) (b ∷ [])) ∙ take-append-le most front (0 ∷ b ∷ []) (omega arith) ∙ take-take most most line (omega arith) ∙ sym (take-append-le most line (b ∷ []) (omega arith)))
+        (ap (take most) (append-assoc front (0 ∷ []) (b ∷ [])) ∙ take-append-le most front (0 ∷ b ∷ []) (omega arith) ∙ take-take most most line (omega arith)
+        ∙ sym (take-append-le most line (b ∷ []) (omega arith)))
         ∙ sym (long-shortened (line ++ (b ∷ [])) (omega (arith, length-append line (b ∷ []))))
 
 -- A last line counts or not, whether it is shortened or not.
@@ -152,7 +155,9 @@ unfolding allHandedOver handedOver keptBehind keptAfter linesFrom shortened
 from-lines line [] = last-first line
 from-lines line (b ∷ text) = by-byte (eqb b 10) refl (from-lines [] text) (from-lines (line ++ (b ∷ [])) text)
   where
-    by-byte : (t : Bool) → eqb b 10 ≡ t → allHandedOver (shortened []) text ≡ map shortened (linesFrom [] text) → allHandedOver (shortened (line ++ (b ∷ []))) text ≡ map shortened (linesFrom (line ++ (b ∷ [])) text) → allHandedOver (shortened line) (b ∷ text) ≡ map shortened (linesFrom line (b ∷ text))
+    by-byte : (t : Bool) → eqb b 10 ≡ t → allHandedOver (shortened []) text ≡ map shortened (linesFrom [] text)
+        → allHandedOver (shortened (line ++ (b ∷ []))) text ≡ map shortened (linesFrom (line ++ (b ∷ [])) text)
+        → allHandedOver (shortened line) (b ∷ text) ≡ map shortened (linesFrom line (b ∷ text))
     by-byte true e ended longer = rw e (ap (λ (l : List (List ℕ)). shortened line ∷ l) ended)
     by-byte false e ended longer = rw (e, joined-first line b) longer
 

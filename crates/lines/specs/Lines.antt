@@ -54,7 +54,9 @@ unfolding linesFrom
 from-spelled line [] u = rw (append-nil line) (last-spelled line u)
 from-spelled line (b ∷ text) u = by-byte (eqb b 10) refl (from-spelled [] text tt) (λ e. from-spelled (line ++ (b ∷ [])) text (unended-next line b u e))
   where
-    by-byte : (t : Bool) → eqb b 10 ≡ t → Spelled text (linesFrom [] text) → (eqb b 10 ≡ false → Spelled ((line ++ (b ∷ [])) ++ text) (linesFrom (line ++ (b ∷ [])) text)) → Spelled (line ++ (b ∷ text)) (linesFrom line (b ∷ text))
+    by-byte : (t : Bool) → eqb b 10 ≡ t → Spelled text (linesFrom [] text)
+        → (eqb b 10 ≡ false → Spelled ((line ++ (b ∷ [])) ++ text) (linesFrom (line ++ (b ∷ [])) text))
+        → Spelled (line ++ (b ∷ text)) (linesFrom line (b ∷ text))
     by-byte true e ended joined = let ten = eqb-true b 10 e in rw (e, ten) (next line u ended)
     by-byte false e ended joined = rw (e, ← append-assoc line (b ∷ []) text) (joined e)
 

@@ -75,7 +75,8 @@ module _ (bytes : List ℕ) (whole : length bytes ≡ most) where
           let long = leb-false (length line) most e in
           let front = take most line in
           let full = length-take-le most line (omega arith) in
-          rw e (ap (λ (l : List ℕ). l ++ (0 ∷ [])) (take-append-le most front (drop (length line) bytes) (omega arith) ∙ take-all most front (omega arith)) ∙ sym (long-shortened line long) ∙ h)
+          rw e (ap (λ (l : List ℕ). l ++ (0 ∷ [])) (take-append-le most front (drop (length line) bytes) (omega arith) ∙ take-all most front (omega arith))
+          ∙ sym (long-shortened line long) ∙ h)
 
   -- What is stored over a shorter line is stored as it is.
   pub stored-again : (line more : List ℕ) → length line ≤ length more → length more ≤ 81 → stored (stored bytes line .bytes) more ≡ stored bytes more
@@ -96,7 +97,8 @@ module _ (bytes : List ℕ) (whole : length bytes ≡ most) where
       by-length false e =
           let long = leb-false (length line) most e in
           let all = stored-whole line (omega arith) in
-          drop-of-length-le (take most line ++ drop (length line) bytes) {i = length more} (omega arith) ∙ sym (drop-of-length-le bytes {i = length more} (omega arith))
+          drop-of-length-le (take most line ++ drop (length line) bytes) {i = length more} (omega arith)
+          ∙ sym (drop-of-length-le bytes {i = length more} (omega arith))
 
 module _ (k : Kept) (whole : length (k .bytes) ≡ most) where
   -- What is held, by the status.
@@ -142,7 +144,8 @@ module _ (k : Kept) (whole : length (k .bytes) ≡ most) where
   full-stored =
       let size = length-append (k .bytes) (0 ∷ []) in
       ap₂ kept (omega arith)
-      (sym (ap₂ _++_ (take-at (k .bytes) (0 ∷ []) most whole) (drop-of-length-le (k .bytes) {i = length (k .bytes ++ (0 ∷ []))} (omega arith)) ∙ append-nil (k .bytes)))
+      (sym (ap₂ _++_ (take-at (k .bytes) (0 ∷ []) most whole) (drop-of-length-le (k .bytes) {i = length (k .bytes ++ (0 ∷ []))} (omega arith))
+      ∙ append-nil (k .bytes)))
 
   -- A status over 81 says no more than 81.
   pub counted-over : most < k .status → kept 81 (k .bytes) ≡ stored (k .bytes) (held k)
@@ -155,7 +158,8 @@ module _ (k : Kept) (whole : length (k .bytes) ≡ most) where
       let size = few-length h in
       rw (held-few h)
       (ap₂ kept (sym size)
-      (sym (ap₂ _++_ (take-all most (take (k .status) (k .bytes)) (omega arith)) (ap (λ (n : ℕ). drop n (k .bytes)) size) ∙ take-append-drop (k .status) (k .bytes))))
+      (sym (ap₂ _++_ (take-all most (take (k .status) (k .bytes)) (omega arith)) (ap (λ (n : ℕ). drop n (k .bytes)) size)
+      ∙ take-append-drop (k .status) (k .bytes))))
 
   -- ---- handing over
   -- The line as it is handed over: with a status over 80, all 80 bytes and a zero,
@@ -201,7 +205,8 @@ module _ (k : Kept) (whole : length (k .bytes) ≡ most) where
         let front = take n (k .bytes) in
         let size = few-length (omega arith) in
         let more : length (front ++ (b ∷ [])) ≡ suc n = length-append front (b ∷ []) ∙ omega arith in
-        let whole-line : shortened (held k ++ (b ∷ [])) ≡ front ++ (b ∷ []) = ap (λ (l : List ℕ). shortened (l ++ (b ∷ []))) (held-few (omega arith)) ∙ short-whole (front ++ (b ∷ [])) (omega arith) in
+        let whole-line : shortened (held k ++ (b ∷ [])) ≡ front ++ (b ∷ []) =
+        ap (λ (l : List ℕ). shortened (l ++ (b ∷ []))) (held-few (omega arith)) ∙ short-whole (front ++ (b ∷ [])) (omega arith) in
         rw whole-line
         (ap₂ kept (omega arith)
         (set-split (k .bytes) n b (omega arith) ∙ sym (append-snoc front b (drop (suc n) (k .bytes)))

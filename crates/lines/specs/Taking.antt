@@ -19,7 +19,9 @@ use Rattle.lines.specs.declared.Last.{Last}
 
 module _ (k : Kept) (piece : List ℕ) where
   -- What a call makes of a piece, by what is handed over and kept on it.
-  made-of : (n : ℕ) (behind : List ℕ) (over : List (List ℕ)) → takenOf piece ≡ n → keptBehind (held k) (take n piece) ≡ behind → handedOver (held k) (take n piece) ≡ over → record { kept = stored (k .bytes) behind; taken = n; finished = anyLine over; line = lineIn (firstLine over) } ≡ takenFrom k piece
+  made-of : (n : ℕ) (behind : List ℕ) (over : List (List ℕ)) → takenOf piece ≡ n → keptBehind (held k) (take n piece) ≡ behind
+      → handedOver (held k) (take n piece) ≡ over
+      → record { kept = stored (k .bytes) behind; taken = n; finished = anyLine over; line = lineIn (firstLine over) } ≡ takenFrom k piece
   unfolding takenFrom
   made-of n behind over taken kept handed = rw (taken, kept, handed)
 
@@ -103,7 +105,8 @@ module _ (k : Kept) (piece : List ℕ) where
               kept-on =
                   e ∙ ap (λ (l : List ℕ). stored (line .bytes) (joined l byte)) held-so-far
                   ∙ ap (λ (m : Kept). stored (m .bytes) (joined (soFar i) byte)) (T .kept-on)
-                  ∙ stored-again (k .bytes) whole (soFar i) (joined (soFar i) byte) (joined-longer (soFar i) byte (T .handy)) (handy-length (joined (soFar i) byte) handy-more)
+                  ∙ stored-again (k .bytes) whole (soFar i) (joined (soFar i) byte) (joined-longer (soFar i) byte (T .handy))
+                  (handy-length (joined (soFar i) byte) handy-more)
                   ∙ ap (stored (k .bytes)) (sym next);
               handy = rw next handy-more;
             }
@@ -156,7 +159,8 @@ unfolding handedOver
 first-handy line [] h = none-handy
 first-handy line (b ∷ bytes) h = by-byte (eqb b 10) (first-handy (keptAfter line b) bytes (after-handy line b))
   where
-    by-byte : (t : Bool) → Handy (firstLine (handedOver (keptAfter line b) bytes)) → Handy (firstLine (cond t (line ∷ handedOver (keptAfter line b) bytes) (handedOver (keptAfter line b) bytes)))
+    by-byte : (t : Bool) → Handy (firstLine (handedOver (keptAfter line b) bytes))
+        → Handy (firstLine (cond t (line ∷ handedOver (keptAfter line b) bytes) (handedOver (keptAfter line b) bytes)))
     by-byte true more = h
     by-byte false more = more
 
@@ -183,6 +187,7 @@ unfolding handedOver takenOf
 handed-once line [] = omega arith
 handed-once line (b ∷ piece) = by-byte (eqb b 10) refl (handed-once (keptAfter line b) piece)
   where
-    by-byte : (t : Bool) → eqb b 10 ≡ t → length (handedOver (keptAfter line b) (take (takenOf piece) piece)) ≤ 1 → length (handedOver line (take (takenOf (b ∷ piece)) (b ∷ piece))) ≤ 1
+    by-byte : (t : Bool) → eqb b 10 ≡ t → length (handedOver (keptAfter line b) (take (takenOf piece) piece)) ≤ 1
+        → length (handedOver line (take (takenOf (b ∷ piece)) (b ∷ piece))) ≤ 1
     by-byte true e more = rw (e, e) (omega arith)
     by-byte false e more = rw (e, e) more

@@ -64,7 +64,8 @@ module _ (c : Centering) (count : ℕ) (operation : ℕ → Operation) (list : L
     entries-answer h = rw (length-right list .1 right, le-ltb (first (wrongAt list) (entryCount list)) (entryCount list) h) refl
 
 -- ---- what the code finds
-module _ (c : Centering) (count : ℕ) (operations : List Operation) (list : List ℕ) (right : RightLength list) (w : ℕ) (e : w ≡ first (wrongAt list) (entryCount list)) where
+module _ (c : Centering) (count : ℕ) (operations : List Operation) (list : List ℕ) (right : RightLength list) (w : ℕ) (e : w
+    ≡ first (wrongAt list) (entryCount list)) where
   pub wrong-found : w < entryCount list → Refused (WrongEntry w) ≡ listAnswer c count (slotAt operations) list
   wrong-found h =
       ap (λ (k : ℕ). Refused (WrongEntry k)) e ∙ sym (range-answer c count (slotAt operations) list right (omega arith))
@@ -80,11 +81,14 @@ module _ (c : Centering) (count : ℕ) (operations : List Operation) (list : Lis
         ap Entry found ∙ sym (off-answer c count (slotAt operations) (entryCount list) (entryAt list) (omega arith)) ∙ sym compared
 
     -- What was not seen is missing.
-    pub rest-found : entryCount list ≤ r .at → (code : ℕ) → code ≡ lowestUnseen count operations (r .seen) → missingAnswer code ≡ listAnswer c count (slotAt operations) list
+    pub rest-found : entryCount list ≤ r .at → (code : ℕ) → code ≡ lowestUnseen count operations (r .seen)
+        → missingAnswer code ≡ listAnswer c count (slotAt operations) list
     unfolding lowestUnseen missingAt
     rest-found h code e =
         let found = C .found in
-        let same = lowest-same (λ k. not (member (r .seen) k)) (missingAt c (entryCount list) (entryAt list) (slotAt operations)) (λ k. turnOf (slotAt operations k)) count (λ k l. ap not (C .seen h k l)) in
+        let same =
+        lowest-same (λ k. not (member (r .seen) k)) (missingAt c (entryCount list) (entryAt list) (slotAt operations))
+        (λ k. turnOf (slotAt operations k)) count (λ k l. ap not (C .seen h k l)) in
         ap missingAnswer (e ∙ same) ∙ sym (on-answer c count (slotAt operations) (entryCount list) (entryAt list) (omega arith)) ∙ sym compared
 
 -- ---- the symbol
@@ -98,7 +102,8 @@ turns =
     }
 
 -- In a list with each rotation once, the code tells the index.
-distinct-index : {l : List Operation} → Distinct sameTurn l → (d : Operation) (i j : ℕ) → i < length l → j < length l → T (sameTurn (getD l i d) (getD l j d)) → i ≡ j
+distinct-index : {l : List Operation} → Distinct sameTurn l → (d : Operation) (i j : ℕ) → i < length l → j < length l → T (sameTurn (getD l i d) (getD l j d))
+    → i ≡ j
 distinct-index nil d i j h k s = absurd (omega arith)
 distinct-index (cons new D) d zero zero h k s = refl
 distinct-index (cons {x} {l} new D) d zero (suc j) h k s =

@@ -93,7 +93,8 @@ matrix-tells : (r s : Rotation) → Digits r → Digits s → matrixOf r ≡ mat
 matrix-tells r s d e p = sym (digits-again r d) ∙ ap digitsOf p ∙ digits-again s e
 
 -- The test on two operations says that their motions differ by a translation of L.
-alike-motions : (c : Centering) (f g : Operation) → Digits (f .rotation) → Digits (g .rotation) → (alike c f g ≡ true) ↔ Alike (pointsOf c) (motionOf f) (motionOf g)
+alike-motions : (c : Centering) (f g : Operation) → Digits (f .rotation) → Digits (g .rotation) → (alike c f g ≡ true)
+    ↔ Alike (pointsOf c) (motionOf f) (motionOf g)
 unfolding motionOf
 alike-motions c f g d e = (
   (λ t. let (p, q) = alike-parts c f g .0 t in (ap matrixOf (code-injective (f .rotation) (g .rotation) d e p), q)),
@@ -144,7 +145,9 @@ module _
     (digits : (i : ℕ) → i < n → Digits (entry i .rotation))
   where
     listed-digits : (k : ℕ) → k < count → Digits (operation k .rotation)
-    listed-digits k h = digits-entries (operation k .rotation) .1 (A .small (matrixOf (operation k .rotation)) (rotation-generated c gens operations steps A (operation k) (listed k h)))
+    listed-digits k h =
+        digits-entries (operation k .rotation) .1
+        (A .small (matrixOf (operation k .rotation)) (rotation-generated c gens operations steps A (operation k) (listed k h)))
 
     -- To be alike is an equivalence of motions.
     near-symmetric : (f g : SpaceMotion) → Alike (pointsOf c) f g → Alike (pointsOf c) g f
@@ -188,7 +191,8 @@ module _
             in-set (motionOf (entry i)) .1 (k, l, alike-motions c (entry i) (operation k) (digits i h) (listed-digits k l) .0 t)),
         λ s.
             let (k, l, near) = in-set (motionOf (entry i)) .0 s in
-            ap not (passes-some (λ k. alike c (entry i) (operation k)) count k l (alike-motions c (entry i) (operation k) (digits i h) (listed-digits k l) .1 near)),
+            ap not (passes-some (λ k. alike c (entry i) (operation k)) count k l
+            (alike-motions c (entry i) (operation k) (digits i h) (listed-digits k l) .1 near)),
       )
 
       -- and that for repeated ones.
@@ -198,7 +202,8 @@ module _
         (λ e.
             let (j, l, t) = some-passes (λ j. alike c (entry i) (entry j)) i e in
             (j, l, alike-motions c (entry i) (entry j) (digits i h) (digits j (omega arith)) .0 t)),
-        λ (j, l, near). passes-some (λ j. alike c (entry i) (entry j)) i j l (alike-motions c (entry i) (entry j) (digits i h) (digits j (omega arith)) .1 near),
+        λ (j, l, near). passes-some (λ j. alike c (entry i) (entry j)) i j l
+            (alike-motions c (entry i) (entry j) (digits i h) (digits j (omega arith)) .1 near),
       )
 
       -- Both together.
@@ -241,11 +246,13 @@ module _
       (λ e.
           let (i, l, t) = some-passes (λ i. alike c (operation k) (entry i)) n (not-false _ e) in
           (i, l, alike-motions c (operation k) (entry i) (listed-digits k h) (digits i l) .0 t)),
-      λ (i, l, near). ap not (passes-some (λ i. alike c (operation k) (entry i)) n i l (alike-motions c (operation k) (entry i) (listed-digits k h) (digits i l) .1 near)),
+      λ (i, l, near). ap not (passes-some (λ i. alike c (operation k) (entry i)) n i l
+          (alike-motions c (operation k) (entry i) (listed-digits k h) (digits i l) .1 near)),
     )
 
     -- Where no entry is off, the rotation of a missing operation is lacking:
-    missing-lacks : ((i : ℕ) → i < n → offAt c count operation entry i ≡ false) → (k : ℕ) → k < count → missingAt c n entry operation k ≡ true → Lacking c gens n entry (operation k .rotation)
+    missing-lacks : ((i : ℕ) → i < n → offAt c count operation entry i ≡ false) → (k : ℕ) → k < count → missingAt c n entry operation k ≡ true
+        → Lacking c gens n entry (operation k .rotation)
     unfolding motionOf
     missing-lacks on k h e =
         record {
@@ -253,7 +260,9 @@ module _
           there = (motionOf (operation k), in-set (motionOf (operation k)) .1 (k, h, near-reflexive (motionOf (operation k))), refl);
           absent = λ i l p.
               let (j, b, near) = in-set (motionOf (entry i)) .0 (on-in-set i l (on i l)) in
-              let same = rotation-tells j k b h (matrix-tells (operation j .rotation) (operation k .rotation) (listed-digits j b) (listed-digits k h) (sym (near .0) ∙ p)) in
+              let same =
+              rotation-tells j k b h
+              (matrix-tells (operation j .rotation) (operation k .rotation) (listed-digits j b) (listed-digits k h) (sym (near .0) ∙ p)) in
               let close : Alike (pointsOf c) (motionOf (entry i)) (motionOf (operation k)) = rw (← same) near in
               true≢false (sym e ∙ not-missing k h .1 (i, l, near-symmetric (motionOf (entry i)) (motionOf (operation k)) close));
         }
@@ -374,7 +383,8 @@ module _
     yes-said = (
       (λ e. elim (first-cases off n) [
         | inl f ↦ absurd (let d = sym (answer-off f) ∙ e in let z : _≡_ {A = ℕ} 0 1 = cc in omega arith)
-        | inr f ↦ whole (f .1) (nothing-missing (none-low (lowest missing code count) (ltb (lowest missing code count) noCode) refl (sym (answer-on (f .0)) ∙ e)))
+        | inr f ↦ whole (f .1) (nothing-missing
+            (none-low (lowest missing code count) (ltb (lowest missing code count) noCode) refl (sym (answer-on (f .0)) ∙ e)))
       ]),
       back,
     )
@@ -409,7 +419,8 @@ module _
             ])
 
             there : (k : ℕ) → k < count → missing k ≡ false
-            there k h = not-missing k h .1 (W .set (motionOf (operation k)) .0 (in-set (motionOf (operation k)) .1 (k, h, near-reflexive (motionOf (operation k)))))
+            there k h =
+                not-missing k h .1 (W .set (motionOf (operation k)) .0 (in-set (motionOf (operation k)) .1 (k, h, near-reflexive (motionOf (operation k)))))
 
             high : noCode ≤ lowest missing code count
             high = elim (decLt (lowest missing code count) noCode) [

@@ -70,7 +70,8 @@ length-wrong list = (forth, back)
 
 -- ---- five bytes
 -- What they are, by their numbers.
-right-five : (bytes : List ℕ) → length bytes ≡ 5 → codeIn bytes < 19683 → translationIn bytes .x < 12 → translationIn bytes .y < 12 → translationIn bytes .z < 12
+right-five : (bytes : List ℕ) → length bytes ≡ 5 → codeIn bytes < 19683 → translationIn bytes .x < 12 → translationIn bytes .y < 12
+    → translationIn bytes .z < 12
     → fiveBytesOf bytes ≡ Is (record { rotation = rotationOf (codeIn bytes); translation = translationIn bytes })
 unfolding fiveBytesOf
 right-five bytes long h x y z = rw (eq-eqb (length bytes) 5 long, twelve-below (translationIn bytes) x y z, lt-ltb (codeIn bytes) 19683 h) refl
@@ -100,7 +101,8 @@ module _ (list : List ℕ) (i : ℕ) (inside : 5 * i + 5 ≤ length list) where
   first-byte = byte-at 0 (omega arith) ∙ ap (λ (k : ℕ). getD list k 0) (add-zero (5 * i))
 
   -- An entry in range says the operation of its code and coordinates,
-  pub entry-said : InRange list i → fiveBytesOf (bytesAt list i) ≡ Is (record { rotation = rotationOf (codeIn (bytesAt list i)); translation = translationIn (bytesAt list i) })
+  pub entry-said : InRange list i → fiveBytesOf (bytesAt list i)
+      ≡ Is (record { rotation = rotationOf (codeIn (bytesAt list i)); translation = translationIn (bytesAt list i) })
   entry-said r =
       let a = first-byte in
       let b = byte-at 1 (omega arith) in

@@ -48,7 +48,9 @@ module _ (text : List ℕ) (T : AcceptedText text) where
 
   -- A slot in use holds an operation of the list,
   listed : (k : ℕ) → k < count → Mem (operation k) (T .operations)
-  listed k h = subst (λ (o : Operation). Mem o (T .operations)) (slot-listed text T k h) (member-at (T .operations) k identityOperation (let e = T .same-count in omega arith))
+  listed k h =
+      subst (λ (o : Operation). Mem o (T .operations)) (slot-listed text T k h) (member-at (T .operations) k identityOperation (let e = T .same-count in
+      omega arith))
 
   -- and each of the list is in one.
   indexed : (o : Operation) → Mem o (T .operations) → (k : ℕ) × (k < count) × (operation k ≡ o)
@@ -126,7 +128,8 @@ module _ (c : Centering) (count : ℕ) (operation : ℕ → Operation) (list : L
   -- The comparison refuses nothing,
   never-refused : (n : ℕ) (entry : ℕ → Operation) (r : Refusal) → ¬ (entriesAnswer c count operation n entry ≡ Refused r)
   unfolding entriesAnswer
-  never-refused n entry r = by-tests (ltb (first (offAt c count operation entry) n) n) (ltb (lowest (missingAt c n entry operation) (λ k. turnOf (operation k)) count) noCode) _ _
+  never-refused n entry r =
+      by-tests (ltb (first (offAt c count operation entry) n) n) (ltb (lowest (missingAt c n entry operation) (λ k. turnOf (operation k)) count) noCode) _ _
     where
       by-tests : (a b : Bool) (i k : ℕ) → ¬ (cond a (Entry i) (cond b (Missing k) Yes) ≡ Refused r)
       by-tests true b i k e = let z : _≡_ {A = ℕ} 0 1 = cc in omega arith
@@ -162,12 +165,14 @@ module _ (c : Centering) (count : ℕ) (operation : ℕ → Operation) (list : L
 module _ (text list : List ℕ) where
   -- An answer that is not the symbol's refusal is that of the list for the symbol that the text spells.
   by-symbol : (x : Checked) → ((r : symbol-refusal.Refusal) → ¬ (Refused (Symbol r) ≡ x)) → (P : Centering → List Operation → Type 0)
-      → ((T : AcceptedText text) → (listAnswer (symbolAnswer text .centering) (symbolAnswer text .count) (slotAt (symbolAnswer text .operations)) list ≡ x) ↔ P (T .letter) (T .generators))
+      → ((T : AcceptedText text) → (listAnswer (symbolAnswer text .centering) (symbolAnswer text .count) (slotAt (symbolAnswer text .operations)) list ≡ x)
+      ↔ P (T .letter) (T .generators))
       → (checkedOf text list ≡ x) ↔ ((c : Centering) × (gens : List Operation) × Accepts text c gens × P c gens)
   unfolding checkedOf
   by-symbol x other P exactly = (by-answer (symbolAnswer text .answer) refl, back)
     where
-      by-answer : (a : Answer) → symbolAnswer text .answer ≡ a → checkedBy a (symbolAnswer text) list ≡ x → (c : Centering) × (gens : List Operation) × Accepts text c gens × P c gens
+      by-answer : (a : Answer) → symbolAnswer text .answer ≡ a → checkedBy a (symbolAnswer text) list ≡ x
+          → (c : Centering) × (gens : List Operation) × Accepts text c gens × P c gens
       by-answer Group a e =
           let T = accepted-text text a in
           let A = T .accepted in
@@ -204,25 +209,30 @@ module _ (text list : List ℕ) where
       by-symbol Yes (λ r e. let z : _≡_ {A = ℕ} 0 1 = cc in omega arith) (λ c gens. WellFormed list × Whole c gens (entryCount list) (entryAt list))
       (λ T. well-formed T Yes (λ r e. let z : _≡_ {A = ℕ} 0 1 = cc in omega arith) (λ e. let z : _≡_ {A = ℕ} 0 1 = cc in omega arith)
       (Whole (T .letter) (T .generators) (entryCount list) (entryAt list))
-      (λ well. yes-said (T .letter) (T .generators) (T .operations) (T .steps) (T .accepted) (count text T) (operation text T) (listed text T) (indexed text T) (entryCount list) (entryAt list) (ranged-digits T well)))
+      (λ well. yes-said (T .letter) (T .generators) (T .operations) (T .steps) (T .accepted) (count text T) (operation text T) (listed text T) (indexed text T)
+      (entryCount list) (entryAt list) (ranged-digits T well)))
 
   -- Entry i: exactly if all that is well, and i is the first entry that is no motion of the set or differs from an entry before it by a translation of L.
   pub entry-exactly : (i : ℕ) → (checkedOf text list ≡ Entry i)
       ↔ ((c : Centering) × (gens : List Operation) × Accepts text c gens × (WellFormed list × FirstOffEntry c gens (entryCount list) (entryAt list) i))
   entry-exactly i =
-      by-symbol (Entry i) (λ r e. let z : _≡_ {A = ℕ} 0 1 = cc in omega arith) (λ c gens. WellFormed list × FirstOffEntry c gens (entryCount list) (entryAt list) i)
+      by-symbol (Entry i) (λ r e. let z : _≡_ {A = ℕ} 0 1 = cc in
+      omega arith) (λ c gens. WellFormed list × FirstOffEntry c gens (entryCount list) (entryAt list) i)
       (λ T. well-formed T (Entry i) (λ r e. let z : _≡_ {A = ℕ} 0 1 = cc in omega arith) (λ e. let z : _≡_ {A = ℕ} 0 1 = cc in omega arith)
       (FirstOffEntry (T .letter) (T .generators) (entryCount list) (entryAt list) i)
-      (λ well. entry-named (T .letter) (T .generators) (T .operations) (T .steps) (T .accepted) (count text T) (operation text T) (listed text T) (indexed text T) (entryCount list) (entryAt list) (ranged-digits T well) i))
+      (λ well. entry-named (T .letter) (T .generators) (T .operations) (T .steps) (T .accepted) (count text T) (operation text T) (listed text T)
+      (indexed text T) (entryCount list) (entryAt list) (ranged-digits T well) i))
 
   -- Missing: exactly if no entry is so, and this is the lowest code of a rotation of the set that no entry has.
   pub missing-exactly : (code : ℕ) → (checkedOf text list ≡ Missing code)
       ↔ ((c : Centering) × (gens : List Operation) × Accepts text c gens × (WellFormed list × LowestLacking c gens (entryCount list) (entryAt list) code))
   missing-exactly m =
-      by-symbol (Missing m) (λ r e. let z : _≡_ {A = ℕ} 0 1 = cc in omega arith) (λ c gens. WellFormed list × LowestLacking c gens (entryCount list) (entryAt list) m)
+      by-symbol (Missing m) (λ r e. let z : _≡_ {A = ℕ} 0 1 = cc in
+      omega arith) (λ c gens. WellFormed list × LowestLacking c gens (entryCount list) (entryAt list) m)
       (λ T. well-formed T (Missing m) (λ r e. let z : _≡_ {A = ℕ} 0 1 = cc in omega arith) (λ e. let z : _≡_ {A = ℕ} 0 1 = cc in omega arith)
       (LowestLacking (T .letter) (T .generators) (entryCount list) (entryAt list) m)
-      (λ well. missing-named (T .letter) (T .generators) (T .operations) (T .steps) (T .accepted) (count text T) (operation text T) (listed text T) (indexed text T) (entryCount list) (entryAt list) (ranged-digits T well) m))
+      (λ well. missing-named (T .letter) (T .generators) (T .operations) (T .steps) (T .accepted) (count text T) (operation text T) (listed text T)
+      (indexed text T) (entryCount list) (entryAt list) (ranged-digits T well) m))
 
   -- 43: exactly if the text is accepted, and the length is no multiple of five or over 240.
   pub length-exactly : (checkedOf text list ≡ Refused Length) ↔ ((c : Centering) × (gens : List Operation) × Accepts text c gens × WrongLength list)
@@ -231,7 +241,8 @@ module _ (text list : List ℕ) where
       (λ T. length-refused (symbolAnswer text .centering) (count text T) (operation text T) list)
 
   -- 44 at i: exactly if the text is accepted, the length is right, and i is the first entry with a code over 19682 or a coordinate over 11.
-  pub range-exactly : (i : ℕ) → (checkedOf text list ≡ Refused (WrongEntry i)) ↔ ((c : Centering) × (gens : List Operation) × Accepts text c gens × FirstWrong list i)
+  pub range-exactly : (i : ℕ) → (checkedOf text list ≡ Refused (WrongEntry i))
+      ↔ ((c : Centering) × (gens : List Operation) × Accepts text c gens × FirstWrong list i)
   range-exactly i =
       by-symbol (Refused (WrongEntry i)) (λ r e. let z : _≡_ {A = ℕ} 0 1 = cc in omega arith) (λ c gens. FirstWrong list i)
       (λ T. entry-refused (symbolAnswer text .centering) (count text T) (operation text T) list i)
@@ -244,7 +255,8 @@ module _ (text list : List ℕ) where
       by-answer : (a : Answer) → checkedBy a (symbolAnswer text) list ≡ Refused (Symbol r) → a ≡ NoGroup r
       by-answer Group e = absurd (not-symbol e)
         where
-          not-symbol : listAnswer (symbolAnswer text .centering) (symbolAnswer text .count) (slotAt (symbolAnswer text .operations)) list ≡ Refused (Symbol r) → ⊥
+          not-symbol : listAnswer (symbolAnswer text .centering) (symbolAnswer text .count) (slotAt (symbolAnswer text .operations)) list
+              ≡ Refused (Symbol r) → ⊥
           not-symbol e = elim (cases (symbolAnswer text .centering) (symbolAnswer text .count) (slotAt (symbolAnswer text .operations)) list) [
             | inl w ↦ let d = sym (length-answer _ _ _ list w) ∙ e in let z : _≡_ {A = ℕ} 0 1 = cc in omega arith
             | inr rest ↦ elim rest [

@@ -29,13 +29,15 @@ use Rattle.list_check.specs.declared.comparing.Compared.{Compared}
 
 -- ---- one operation modulo the lattice
 -- The test says: one code, and translations that differ by a vector of L.
-pub alike-parts : (c : Centering) (f g : Operation) → (alike c f g ≡ true) ↔ ((turnOf f ≡ turnOf g) × Congruent (pointsOf c) (vectorOf (f .translation)) (vectorOf (g .translation)))
+pub alike-parts : (c : Centering) (f g : Operation) → (alike c f g ≡ true)
+    ↔ ((turnOf f ≡ turnOf g) × Congruent (pointsOf c) (vectorOf (f .translation)) (vectorOf (g .translation)))
 unfolding alike
 alike-parts c f g = (
   (λ e.
       let (p, q) = and-both (eqb (turnOf f) (turnOf g)) (congruentOf c (f .translation) (g .translation)) e in
       (eqb-true (turnOf f) (turnOf g) p, congruent-lattice c (f .translation) (g .translation) .0 q)),
-  λ (p, q). both-and (eqb (turnOf f) (turnOf g)) (congruentOf c (f .translation) (g .translation)) (eq-eqb (turnOf f) (turnOf g) p) (congruent-lattice c (f .translation) (g .translation) .1 q),
+  λ (p, q). both-and (eqb (turnOf f) (turnOf g)) (congruentOf c (f .translation) (g .translation)) (eq-eqb (turnOf f) (turnOf g) p)
+      (congruent-lattice c (f .translation) (g .translation) .1 q),
 )
 
 -- Codes that differ settle it, and else the translations do.
@@ -164,7 +166,9 @@ module _ (c : Centering) (count : ℕ) (operation entry : ℕ → Operation) (on
         -- Not seen before, it is neither foreign nor repeated,
         pub new-on : member seen place ≡ false → offAt c count operation entry i ≡ false
         unfolding offAt foreignAt repeatedAt
-        new-on e = both-fail (not (some (λ k. alike c (entry i) (operation k)) count)) _ (ap not (passes-some (λ k. alike c (entry i) (operation k)) count place within at-place)) (all-fail (λ j. alike c (entry i) (entry j)) i none)
+        new-on e =
+            both-fail (not (some (λ k. alike c (entry i) (operation k)) count)) _
+            (ap not (passes-some (λ k. alike c (entry i) (operation k)) count place within at-place)) (all-fail (λ j. alike c (entry i) (entry j)) i none)
           where
             both-fail : (a b : Bool) → a ≡ false → b ≡ false → (a || b) ≡ false
             both-fail true b p q = absurd (true≢false p)
@@ -183,7 +187,8 @@ module _ (c : Centering) (count : ℕ) (operation entry : ℕ → Operation) (on
           where
             apart : (place ≡ k → ⊥) → alike c (operation k) (entry i) ≡ false
             apart differ = not-passing (alike c (operation k) (entry i)) (λ f.
-                differ (once place k within h (sym (alike-parts c (operation k) (operation place) .0 (alike-transitive c (operation k) (entry i) (operation place) f at-place) .0))))
+                differ (once place k within h
+                (sym (alike-parts c (operation k) (operation place) .0 (alike-transitive c (operation k) (entry i) (operation place) f at-place) .0))))
 
             here : eqb place k ≡ alike c (operation k) (entry i)
             here = elim (ℕ-discrete place k) [

@@ -62,7 +62,9 @@ next-digit : (q c : ℕ) → q ≡ c / 3 → c ≡ q * 3 + c % 3
 next-digit q c h = omega arith
 
 -- A number put together again from its digits, lowest first.
-put-together : (a b c d e f g h i : ℕ) (b′ c′ d′ e′ f′ g′ h′ : ℕ) {n : ℕ} → n ≡ h′ * 3 + i → h′ ≡ g′ * 3 + h → g′ ≡ f′ * 3 + g → f′ ≡ e′ * 3 + f → e′ ≡ d′ * 3 + e → d′ ≡ c′ * 3 + d → c′ ≡ b′ * 3 + c → b′ ≡ a * 3 + b → a * 3 ^ 8 + b * 3 ^ 7 + c * 3 ^ 6 + (d * 3 ^ 5 + e * 3 ^ 4 + f * 3 ^ 3) + (g * 3 ^ 2 + h * 3 ^ 1 + i * 3 ^ 0) ≡ n
+put-together : (a b c d e f g h i : ℕ) (b′ c′ d′ e′ f′ g′ h′ : ℕ) {n : ℕ} → n ≡ h′ * 3 + i → h′ ≡ g′ * 3 + h → g′ ≡ f′ * 3 + g → f′ ≡ e′ * 3 + f
+    → e′ ≡ d′ * 3 + e → d′ ≡ c′ * 3 + d → c′ ≡ b′ * 3 + c → b′ ≡ a * 3 + b
+    → a * 3 ^ 8 + b * 3 ^ 7 + c * 3 ^ 6 + (d * 3 ^ 5 + e * 3 ^ 4 + f * 3 ^ 3) + (g * 3 ^ 2 + h * 3 ^ 1 + i * 3 ^ 0) ≡ n
 put-together a b c d e f g h i b′ c′ d′ e′ f′ g′ h′ hh hg hf he hd hc hb ha = omega arith
 
 -- The code of a code's digits is the code.

@@ -45,7 +45,8 @@ chosen-outside true k e = let z : _≡_ {A = ℕ} 0 1 = cc in absurd (omega arit
 chosen-outside false k e = refl
 
 -- Inside: the answer is the composed motion, its translation modulo 12.
-pub product-inside : (f g h : Operation) → productOf f g ≡ Inside h → Entries (compose (motionOf f) (motionOf g) .rotation) × Reduces (compose (motionOf f) (motionOf g)) h
+pub product-inside : (f g h : Operation) → productOf f g ≡ Inside h
+    → Entries (compose (motionOf f) (motionOf g) .rotation) × Reduces (compose (motionOf f) (motionOf g)) h
 unfolding productOf
 product-inside f g h e =
     let m = compose (motionOf f) (motionOf g) in
@@ -62,6 +63,7 @@ product-outside f g =
       λ n. from (allInside (m .rotation)) refl n,
     )
   where
-    from : (b : Bool) → allInside (compose (motionOf f) (motionOf g) .rotation) ≡ b → ¬ Entries (compose (motionOf f) (motionOf g) .rotation) → cond b (Inside (operationOf (compose (motionOf f) (motionOf g)))) Outside ≡ Outside
+    from : (b : Bool) → allInside (compose (motionOf f) (motionOf g) .rotation) ≡ b → ¬ Entries (compose (motionOf f) (motionOf g) .rotation)
+        → cond b (Inside (operationOf (compose (motionOf f) (motionOf g)))) Outside ≡ Outside
     from true t n = absurd (n (all-entries _ .0 t))
     from false t n = refl

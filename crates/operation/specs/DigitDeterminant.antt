@@ -84,17 +84,23 @@ factor-narrows : (a b c : ℕ) → a ≤ 2 → b ≤ 2 → c ≤ 2 → digitOfPr
 factor-narrows a b c ha hb hc = leb-true _ _ (every _ (every _ (every _ factor-test a ha) b hb) c hc)
 
 -- The fact of `cofactors`, at all pairs of rows.
-cofactor-test : everyDigit (λ a. everyDigit (λ b. everyDigit (λ c. everyDigit (λ d. everyDigit (λ e. everyDigit (λ f. leb (gap (digitOfProduct b f) (digitOfProduct c e) + gap (digitOfProduct c d) (digitOfProduct a f) + gap (digitOfProduct a e) (digitOfProduct b d)) 4)))))) ≡ true
+cofactor-test : everyDigit (λ a. everyDigit (λ b.
+    everyDigit (λ c. everyDigit (λ d. everyDigit
+    (λ e. everyDigit (λ f. leb (gap (digitOfProduct b f) (digitOfProduct c e) + gap (digitOfProduct c d) (digitOfProduct a f) + gap (digitOfProduct a e)
+    (digitOfProduct b d)) 4)))))) ≡ true
 unfolding allBelow digitOfProduct
 cofactor-test = refl
 
 -- The cofactors of a row have absolute values that add up to 4 at most.
-cofactors : (a b c d e f : ℕ) → a ≤ 2 → b ≤ 2 → c ≤ 2 → d ≤ 2 → e ≤ 2 → f ≤ 2 → gap (digitOfProduct b f) (digitOfProduct c e) + gap (digitOfProduct c d) (digitOfProduct a f) + gap (digitOfProduct a e) (digitOfProduct b d) ≤ 4
+cofactors : (a b c d e f : ℕ) → a ≤ 2 → b ≤ 2 → c ≤ 2 → d ≤ 2 → e ≤ 2 → f ≤ 2
+    → gap (digitOfProduct b f) (digitOfProduct c e) + gap (digitOfProduct c d) (digitOfProduct a f) + gap (digitOfProduct a e) (digitOfProduct b d) ≤ 4
 cofactors a b c d e f ha hb hc hd he hf =
     leb-true _ _ (every _ (every _ (every _ (every _ (every _ (every _ cofactor-test a ha) b hb) c hc) d hd) e he) f hf)
 
 -- Two terms with a common factor are no further apart than the products of the other two.
-terms-apart : (a b c d e : ℕ) → a ≤ 2 → b ≤ 2 → c ≤ 2 → d ≤ 2 → e ≤ 2 → (digitOfTriple a b c ≤ digitOfTriple a d e + gap (digitOfProduct b c) (digitOfProduct d e)) × (digitOfTriple a d e ≤ digitOfTriple a b c + gap (digitOfProduct b c) (digitOfProduct d e))
+terms-apart : (a b c d e : ℕ) → a ≤ 2 → b ≤ 2 → c ≤ 2 → d ≤ 2 → e ≤ 2
+    → (digitOfTriple a b c ≤ digitOfTriple a d e + gap (digitOfProduct b c) (digitOfProduct d e))
+    × (digitOfTriple a d e ≤ digitOfTriple a b c + gap (digitOfProduct b c) (digitOfProduct d e))
 terms-apart a b c d e ha hb hc hd he =
     let p = product-range b c hb hc .2 in
     let q = product-range d e hd he .2 in
@@ -112,7 +118,9 @@ terms-range r h =
     (omega arith, omega arith)
 
 -- The determinant written out: three terms added, three taken off.
-determinant-terms : (A : Matrix) → determinant A ≡ A .xx *ℤ (A .yy *ℤ A .zz) +ℤ A .xy *ℤ (A .yz *ℤ A .zx) +ℤ A .xz *ℤ (A .yx *ℤ A .zy) ⊖ (A .xx *ℤ (A .yz *ℤ A .zy) +ℤ A .xy *ℤ (A .yx *ℤ A .zz) +ℤ A .xz *ℤ (A .yy *ℤ A .zx))
+determinant-terms : (A : Matrix) → determinant A
+    ≡ A .xx *ℤ (A .yy *ℤ A .zz) +ℤ A .xy *ℤ (A .yz *ℤ A .zx) +ℤ A .xz *ℤ (A .yx *ℤ A .zy) ⊖
+    (A .xx *ℤ (A .yz *ℤ A .zy) +ℤ A .xy *ℤ (A .yx *ℤ A .zz) +ℤ A .xz *ℤ (A .yy *ℤ A .zx))
 unfolding determinant
 determinant-terms A = simp outer (cross _ _ _ _ (simp ring))
 
@@ -177,7 +185,8 @@ small-entry zero = refl
 small-entry (suc n) = ap (λ e. leb (natAbs e) 1) (-ℤ-one (pos (suc n))) ∙ sym (leb·suc-suc n 1)
 
 -- All entries are in −1..1 exactly if the rows are digits.
-pub small-matrix : (r : Rotation) → allInside (matrixOf r) ≡ (areDigits (r .xx) (r .xy) (r .xz) && areDigits (r .yx) (r .yy) (r .yz) && areDigits (r .zx) (r .zy) (r .zz))
+pub small-matrix : (r : Rotation) → allInside (matrixOf r)
+    ≡ (areDigits (r .xx) (r .xy) (r .xz) && areDigits (r .yx) (r .yy) (r .yz) && areDigits (r .zx) (r .zy) (r .zz))
 unfolding allInside rowInside matrixOf areDigits
 small-matrix r = simp small-entry
 

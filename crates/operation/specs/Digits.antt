@@ -9,7 +9,8 @@ use Rattle.laws.specs.Residue.{residue, residue-add, residue-mul, residue-pos, 
 use Rattle.operation.specs.Meaning.{entryOf, digitOf, digitAbove}
 
 -- The same identity over the integers: Σ(a−1)(x−1) + 1 is Σax + 4 less Σ(a+x).
-dot-less-ones : (a b c x y z : ℤ) → (a ⊖ one) *ℤ (x ⊖ one) +ℤ (b ⊖ one) *ℤ (y ⊖ one) +ℤ (c ⊖ one) *ℤ (z ⊖ one) +ℤ one ≡ (a *ℤ x +ℤ b *ℤ y +ℤ c *ℤ z +ℤ (one +ℤ one +ℤ one +ℤ one)) ⊖ (a +ℤ b +ℤ c +ℤ x +ℤ y +ℤ z)
+dot-less-ones : (a b c x y z : ℤ) → (a ⊖ one) *ℤ (x ⊖ one) +ℤ (b ⊖ one) *ℤ (y ⊖ one) +ℤ (c ⊖ one) *ℤ (z ⊖ one) +ℤ one
+    ≡ (a *ℤ x +ℤ b *ℤ y +ℤ c *ℤ z +ℤ (one +ℤ one +ℤ one +ℤ one)) ⊖ (a +ℤ b +ℤ c +ℤ x +ℤ y +ℤ z)
 dot-less-ones a b c x y z = simp outer (cross _ _ _ _ (simp ring))
 
 -- Naturals and integers add and multiply alike.
@@ -21,7 +22,8 @@ unfolding one
 cast-products a b c x y z = refl
 
 -- A row times a column, plus one, as a difference of two naturals.
-dot-above : (a b c x y z : ℕ) → dot (entryOf a) (entryOf b) (entryOf c) (entryOf x) (entryOf y) (entryOf z) +ℤ one ≡ pos (a * x + b * y + c * z + 4) -ℤ pos (a + b + c + x + y + z)
+dot-above : (a b c x y z : ℕ) → dot (entryOf a) (entryOf b) (entryOf c) (entryOf x) (entryOf y) (entryOf z) +ℤ one
+    ≡ pos (a * x + b * y + c * z + 4) -ℤ pos (a + b + c + x + y + z)
 unfolding entryOf _⊖_
 dot-above a b c x y z =
     dot-less-ones (pos a) (pos b) (pos c) (pos x) (pos y) (pos z) ∙ ap₂ (λ p q. p -ℤ q) (cast-products a b c x y z) (cast-sums a b c x y z)
@@ -71,7 +73,8 @@ entry-times-residue a u =
     residue-mul (entryOf a) (pos u) ∙ rw (entry-residue a, residue-pos u) (remainder-product (a + 11) u)
 
 -- One coordinate of Ru + t modulo 12.
-pub moved-residue : (a b c x y z t : ℕ) → residue (dot (entryOf a) (entryOf b) (entryOf c) (pos x) (pos y) (pos z) +ℤ pos t) ≡ (a * x + b * y + c * z + t + 11 * (x + y + z)) % 12
+pub moved-residue : (a b c x y z t : ℕ)
+    → residue (dot (entryOf a) (entryOf b) (entryOf c) (pos x) (pos y) (pos z) +ℤ pos t) ≡ (a * x + b * y + c * z + t + 11 * (x + y + z)) % 12
 moved-residue a b c x y z t = termwise ∙ ap (λ n. n % 12) elevens
   where
     termwise : residue (dot (entryOf a) (entryOf b) (entryOf c) (pos x) (pos y) (pos z) +ℤ pos t) ≡ ((a + 11) * x + (b + 11) * y + (c + 11) * z + t) % 12

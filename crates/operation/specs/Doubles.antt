@@ -106,7 +106,8 @@ values-at f (suc n) i (suc k) h = values-at f n (suc i) k (omega arith) ∙ ap f
 -- The pattern at place k is that of k / 12.
 pattern-at : (k : ℕ) → k < 12 → getD patterns k 0 ≡ toBits binary64 (quotient k)
 pattern-at k h =
-    ap (λ (l : List ℕ). getD l k 0) patterns-right ∙ values-at (λ k. toBits binary64 (quotient k)) 12 0 k h ∙ ap (λ (n : ℕ). toBits binary64 (quotient n)) (omega arith)
+    ap (λ (l : List ℕ). getD l k 0) patterns-right ∙ values-at (λ k. toBits binary64 (quotient k)) 12 0 k h
+    ∙ ap (λ (n : ℕ). toBits binary64 (quotient n)) (omega arith)
 
 -- ---- there and back
 -- The fact of `number-of-quotient`, at all twelve.
@@ -125,7 +126,8 @@ there-and-back t hx hy hz =
     simp (number-of-quotient (t .x) hx, number-of-quotient (t .y) hy, number-of-quotient (t .z) hz, lt-ltb _ _ hx, lt-ltb _ _ hy, lt-ltb _ _ hz)
 
 -- One step of `place-found`: the head is hit, or the place is one further in the rest.
-found-step : (hit : Bool) (p b : ℕ) (ps : List ℕ) → eqb b p ≡ hit → (placeIn ps b < length ps → getD ps (placeIn ps b) 0 ≡ b) → cond hit 0 (suc (placeIn ps b)) < suc (length ps) → getD (p ∷ ps) (cond hit 0 (suc (placeIn ps b))) 0 ≡ b
+found-step : (hit : Bool) (p b : ℕ) (ps : List ℕ) → eqb b p ≡ hit → (placeIn ps b < length ps → getD ps (placeIn ps b) 0 ≡ b)
+    → cond hit 0 (suc (placeIn ps b)) < suc (length ps) → getD (p ∷ ps) (cond hit 0 (suc (placeIn ps b))) 0 ≡ b
 found-step true p b ps h rest l = sym (eqb-true b p h)
 found-step false p b ps h rest l = rest (omega arith)
 

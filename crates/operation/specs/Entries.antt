@@ -68,7 +68,8 @@ below-three zero h = omega arith
 below-three (suc zero) h = omega arith
 below-three (suc (suc zero)) h = omega arith
 below-three (suc (suc (suc d))) h =
-    let large : digitOf (entryOf (suc (suc (suc d)))) ≡ 3 = digit-next (entryOf (suc (suc (suc d)))) ∙ ap (λ e. digitAbove (sucℤ e)) (-ℤ-one (pos (suc (suc (suc d))))) in
+    let large : digitOf (entryOf (suc (suc (suc d)))) ≡ 3 =
+    digit-next (entryOf (suc (suc (suc d)))) ∙ ap (λ e. digitAbove (sucℤ e)) (-ℤ-one (pos (suc (suc (suc d))))) in
     absurd (omega (arith, entry-digit _ h))
 
 -- The test of an entry, by its digit.

@@ -33,7 +33,8 @@ unfoldable pub foursOf : ℕ → ℕ
 foursOf n = n - (n % 4 + n / 2097152 % 4 * 2097152 + n / 4398046511104 % 4 * 4398046511104)
 
 -- Of bytes it is neither cut off at 0 nor too large for a lane.
-pub raised-sum : (a b c x y z : ℕ) → a ≤ 255 → b ≤ 255 → c ≤ 255 → x ≤ 255 → y ≤ 255 → z ≤ 255 → raised a b c x y z + (a + b + c + x + y + z) ≡ a * x + b * y + c * z + 2052
+pub raised-sum : (a b c x y z : ℕ) → a ≤ 255 → b ≤ 255 → c ≤ 255 → x ≤ 255 → y ≤ 255 → z ≤ 255
+    → raised a b c x y z + (a + b + c + x + y + z) ≡ a * x + b * y + c * z + 2052
 unfolding raised
 raised-sum a b c x y z ha hb hc hx hy hz = omega arith
 
@@ -45,7 +46,8 @@ raised-small a b c x y z ha hb hc hx hy hz =
     omega (arith, raised-sum a b c x y z ha hb hc hx hy hz, byte-product a x ha hx, byte-product b y hb hy, byte-product c z hc hz)
 
 -- What one coordinate of a moved translation sums up to leaves room in its lane.
-pub moved-small : (a b c x y z t : ℕ) → a ≤ 255 → b ≤ 255 → c ≤ 255 → x ≤ 255 → y ≤ 255 → z ≤ 255 → t ≤ 255 → a * x + b * y + c * z + t + 11 * (x + y + z) < 261120
+pub moved-small : (a b c x y z t : ℕ) → a ≤ 255 → b ≤ 255 → c ≤ 255 → x ≤ 255 → y ≤ 255 → z ≤ 255 → t ≤ 255
+    → a * x + b * y + c * z + t + 11 * (x + y + z) < 261120
 moved-small a b c x y z t ha hb hc hx hy hz ht =
     omega (arith, byte-product a x ha hx, byte-product b y hb hy, byte-product c z hc hz)
 
@@ -56,7 +58,8 @@ lanes-times x y z a = omega arith
 pub moved-lanes : (p q r x y z k : ℕ) → lanesOf p q r + lanesOf x y z + k * 48378534690827 ≡ lanesOf (p + x + 11 * k) (q + y + 11 * k) (r + z + 11 * k)
 moved-lanes p q r x y z k = omega arith
 
-less-lanes : (p q r s t u k x y z : ℕ) → s + t * 2097152 + u * 4398046511104 ≤ 9024795744143364 → x + (s + k) ≡ p + 2052 → y + (t + k) ≡ q + 2052 → z + (u + k) ≡ r + 2052
+less-lanes : (p q r s t u k x y z : ℕ) → s + t * 2097152 + u * 4398046511104 ≤ 9024795744143364 → x + (s + k) ≡ p + 2052 → y + (t + k) ≡ q + 2052
+    → z + (u + k) ≡ r + 2052
     → lanesOf p q r + (9024795744143364 - lanesOf s t u) - k * 4398048608257 ≡ lanesOf x y z
 less-lanes p q r s t u k x y z h hx hy hz = omega arith
 

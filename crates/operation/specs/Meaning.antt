@@ -74,7 +74,8 @@ pub record Digits (r : Rotation) : Type 0 where
   pub zy : r .zy ≤ 2
   pub zz : r .zz ≤ 2
 
-pub rotation≡ : {r s : Rotation} → r .xx ≡ s .xx → r .xy ≡ s .xy → r .xz ≡ s .xz → r .yx ≡ s .yx → r .yy ≡ s .yy → r .yz ≡ s .yz → r .zx ≡ s .zx → r .zy ≡ s .zy → r .zz ≡ s .zz → r ≡ s
+pub rotation≡ : {r s : Rotation} → r .xx ≡ s .xx → r .xy ≡ s .xy → r .xz ≡ s .xz → r .yx ≡ s .yx → r .yy ≡ s .yy → r .yz ≡ s .yz → r .zx ≡ s .zx → r .zy ≡ s .zy
+    → r .zz ≡ s .zz → r ≡ s
 rotation≡ xx xy xz yx yy yz zx zy zz =
     λ i. record { xx = xx i; xy = xy i; xz = xz i; yx = yx i; yy = yy i; yz = yz i; zx = zx i; zy = zy i; zz = zz i }
 

@@ -44,7 +44,8 @@ column-refusal : (b : Bool) (x y z : ℕ) → cond b (ColumnInside x y z) Column
 column-refusal true x y z e = let h : _≡_ {A = ℕ} 0 1 = cc in absurd (omega arith)
 column-refusal false x y z e = refl
 
-pub column-inside : (p q r : ℤ) (a b c : ℕ) → columnOf p q r ≡ ColumnInside a b c → (rowInside p q r ≡ true) × (a ≡ digitOf p) × (b ≡ digitOf q) × (c ≡ digitOf r)
+pub column-inside : (p q r : ℤ) (a b c : ℕ) → columnOf p q r ≡ ColumnInside a b c
+    → (rowInside p q r ≡ true) × (a ≡ digitOf p) × (b ≡ digitOf q) × (c ≡ digitOf r)
 unfolding columnOf
 column-inside p q r a b c e = column-answer (rowInside p q r) (digitOf p) (digitOf q) (digitOf r) a b c e
 

@@ -34,7 +34,8 @@ sameRow a b c x y z = same a x && same b y && same c z
 -- Whether a matrix is the unit.
 isUnit : Matrix → Bool
 isUnit A =
-    sameRow (A .xx) (A .xy) (A .xz) (pos 1) (pos 0) (pos 0) && sameRow (A .yx) (A .yy) (A .yz) (pos 0) (pos 1) (pos 0) && sameRow (A .zx) (A .zy) (A .zz) (pos 0) (pos 0) (pos 1)
+    sameRow (A .xx) (A .xy) (A .xz) (pos 1) (pos 0) (pos 0) && sameRow (A .yx) (A .yy) (A .yz) (pos 0) (pos 1) (pos 0)
+    && sameRow (A .zx) (A .zy) (A .zz) (pos 0) (pos 0) (pos 1)
 
 -- P is A to the power n: the first power from there on that is the unit, or 0 where none is within the steps.
 orderFrom : (steps n : ℕ) → Matrix → Matrix → ℕ
@@ -56,7 +57,8 @@ unfolding turns identified allInside rowInside inside trace determinant _⊖_ lo
 turns-identified = refl
 
 -- So has its negative.
-pub negatives-identified : map (λ A. identified (negative A)) turns ≡ given RotoInversion1 ∷ given RotoInversion2 ∷ given RotoInversion3 ∷ given RotoInversion4 ∷ given RotoInversion6 ∷ []
+pub negatives-identified : map (λ A. identified (negative A)) turns
+    ≡ given RotoInversion1 ∷ given RotoInversion2 ∷ given RotoInversion3 ∷ given RotoInversion4 ∷ given RotoInversion6 ∷ []
 unfolding turns identified allInside rowInside inside trace determinant _⊖_ lookup pairs scaled
 negatives-identified = refl
 

@@ -1,4 +1,5 @@
--- Three coordinates in lanes modulo 12 without a remainder: 1020, which is 85 times 12, is taken off as often as 1024 fits, and then 12 as often as it fits. How
+-- Three coordinates in lanes modulo 12 without a remainder: 1020, which is 85 times 12, is taken off as often as 1024 fits, and then 12 as often as it fits.
+-- How
 -- often that is, one division by a power of 2 finds for all three lanes.
 use mathlib.Core.Path.{_≡_, refl, sym, _∙_, ap, subst}
 use mathlib.Core.Bool.{true}
@@ -162,6 +163,8 @@ module _ (n : ℕ) (lanes : SmallLanes n) where
   unfolding reducedOf x y z
   steps-reduce =
       let px : left % 256 ≡ x % 12 = ap (λ m. m % 256) left-lanes ∙ first-byte (x % 12) (y % 12) (z % 12) (omega arith) (omega arith) ∙ omega arith in
-      let py : left / 2097152 % 256 ≡ y % 12 = ap (λ m. m / 2097152 % 256) left-lanes ∙ second-byte (x % 12) (y % 12) (z % 12) (omega arith) (omega arith) ∙ omega arith in
-      let pz : left / 4398046511104 % 256 ≡ z % 12 = ap (λ m. m / 4398046511104 % 256) left-lanes ∙ third-byte (x % 12) (y % 12) (z % 12) (omega arith) (omega arith) ∙ omega arith in
+      let py : left / 2097152 % 256 ≡ y % 12 =
+      ap (λ m. m / 2097152 % 256) left-lanes ∙ second-byte (x % 12) (y % 12) (z % 12) (omega arith) (omega arith) ∙ omega arith in
+      let pz : left / 4398046511104 % 256 ≡ z % 12 =
+      ap (λ m. m / 4398046511104 % 256) left-lanes ∙ third-byte (x % 12) (y % 12) (z % 12) (omega arith) (omega arith) ∙ omega arith in
       λ i. record { x = px i; y = py i; z = pz i }

@@ -37,10 +37,12 @@ abbrev Has : ℤ → ℤ → List Pair → Type 0
 Has t d l = (p : Pair) × Mem p l × (t ≡ p .trace) × (d ≡ p .determinant)
 
 -- One step of `lookup-has`: the first line fits, or a later one does.
-has-step : (b : Bool) (t d : ℤ) (q p : Pair) (l : List Pair) → same t (q .trace) && same d (q .determinant) ≡ b → Mem p (q ∷ l) → t ≡ p .trace → d ≡ p .determinant → (Mem p l → (k : RotationType) × (lookup t d l ≡ given k)) → (k : RotationType) × (cond b (given (q .type)) (lookup t d l) ≡ given k)
+has-step : (b : Bool) (t d : ℤ) (q p : Pair) (l : List Pair) → same t (q .trace) && same d (q .determinant) ≡ b → Mem p (q ∷ l) → t ≡ p .trace
+    → d ≡ p .determinant → (Mem p l → (k : RotationType) × (lookup t d l ≡ given k)) → (k : RotationType) × (cond b (given (q .type)) (lookup t d l) ≡ given k)
 has-step true t d q p l e m x y rest = (q .type, refl)
 has-step false t d q p l e (here h) x y rest =
-    let hit : same t (q .trace) && same d (q .determinant) ≡ true = rw (equal-same t (q .trace) (x ∙ ap (λ (r : Pair). r .trace) h), equal-same d (q .determinant) (y ∙ ap (λ (r : Pair). r .determinant) h)) in
+    let hit : same t (q .trace) && same d (q .determinant) ≡ true =
+    rw (equal-same t (q .trace) (x ∙ ap (λ (r : Pair). r .trace) h), equal-same d (q .determinant) (y ∙ ap (λ (r : Pair). r .determinant) h)) in
     absurd (true≢false (sym hit ∙ e))
 has-step false t d q p l e (there n) x y rest = rest n
 
@@ -52,7 +54,8 @@ lookup-has t d (q ∷ l) (p, m, x, y) =
     has-step (same t (q .trace) && same d (q .determinant)) t d q p l refl m x y (λ n. lookup-has t d l (p, n, x, y))
 
 -- One step of `lookup-none`.
-none-step : (b : Bool) (t d : ℤ) (q : Pair) (l : List Pair) → same t (q .trace) && same d (q .determinant) ≡ b → ¬ Has t d (q ∷ l) → lookup t d l ≡ refused 15 0 tt → cond b (given (q .type)) (lookup t d l) ≡ refused 15 0 tt
+none-step : (b : Bool) (t d : ℤ) (q : Pair) (l : List Pair) → same t (q .trace) && same d (q .determinant) ≡ b → ¬ Has t d (q ∷ l)
+    → lookup t d l ≡ refused 15 0 tt → cond b (given (q .type)) (lookup t d l) ≡ refused 15 0 tt
 none-step true t d q l e none rest =
     let (x, y) = and-eq-true-iff (same t (q .trace)) (same d (q .determinant)) .0 e in
     absurd (none (q, here refl, same-equal t (q .trace) x, same-equal d (q .determinant) y))
@@ -99,12 +102,14 @@ pairs-known t d = ((λ (p, m, x, y). rw (x, y) (forth p m)), back t d)
 -- ---- the refusal
 module _ (A : Matrix) where
   -- By the test of the entries: a known pair has a type,
-  typed : (b : Bool) → allInside A ≡ b → Entries A → Known (trace A) (determinant A) → (k : RotationType) × (cond b (lookup (trace A) (determinant A) pairs) unknown ≡ given k)
+  typed : (b : Bool) → allInside A ≡ b → Entries A → Known (trace A) (determinant A)
+      → (k : RotationType) × (cond b (lookup (trace A) (determinant A) pairs) unknown ≡ given k)
   typed true e inside known = lookup-has (trace A) (determinant A) pairs (pairs-known (trace A) (determinant A) .1 known)
   typed false e inside known = absurd (true≢false (sym (all-entries A .1 inside) ∙ e))
 
   -- and anything else is refused.
-  untyped : (b : Bool) → allInside A ≡ b → ¬ (Entries A × Known (trace A) (determinant A)) → cond b (lookup (trace A) (determinant A) pairs) unknown ≡ refused 15 0 tt
+  untyped : (b : Bool) → allInside A ≡ b → ¬ (Entries A × Known (trace A) (determinant A))
+      → cond b (lookup (trace A) (determinant A) pairs) unknown ≡ refused 15 0 tt
   untyped true e never =
       lookup-none (trace A) (determinant A) pairs (λ h. never (all-entries A .0 e, pairs-known (trace A) (determinant A) .0 h))
   untyped false e never = refl
@@ -113,7 +118,8 @@ module _ (A : Matrix) where
   never-both k number place p q = let h : _≡_ {A = ℕ} 0 1 = cc in absurd (omega arith)
 
   -- 15 at 0 and nothing else, exactly if an entry or the pair is unknown.
-  pub unknown-exactly : (number place : ℕ) → (identified A ≡ refused number place tt) ↔ ((number ≡ 15) × (place ≡ 0) × ¬ (Entries A × Known (trace A) (determinant A)))
+  pub unknown-exactly : (number place : ℕ) → (identified A ≡ refused number place tt)
+      ↔ ((number ≡ 15) × (place ≡ 0) × ¬ (Entries A × Known (trace A) (determinant A)))
   unfolding identified
   unknown-exactly number place = (forth, λ (n, p, never). rw (n, p) (untyped (allInside A) refl never))
     where

@@ -77,7 +77,8 @@ unfolding used
 used-fraction m d n e [] = refl
 used-fraction m d n e (t ∷ ts) = go (t .body) (used-fraction m d n e ts)
   where
-    go : (b : Body) → used (fraction m d) ts ≡ used (fraction n e) ts → (clash (fraction m d) b || used (fraction m d) ts) ≡ (clash (fraction n e) b || used (fraction n e) ts)
+    go : (b : Body) → used (fraction m d) ts ≡ used (fraction n e) ts
+        → (clash (fraction m d) b || used (fraction m d) ts) ≡ (clash (fraction n e) b || used (fraction n e) ts)
     go (letter l) below = below
     go (fraction p q) below = refl
 
@@ -198,7 +199,8 @@ module _ (text : List ℕ) (s : Reading) (b : ℕ) (h : Begun text s) where
   unfolding withNumerator
   numerator-good n m is small f = go (eqb m 0) refl (used (fraction m 12) (s .terms)) refl
     where
-      go : (t : Bool) → eqb m 0 ≡ t → (w : Bool) → used (fraction m 12) (s .terms) ≡ w → Good (text ++ (b ∷ [])) (cond t stopped (cond w stopped (ending s (Numerator n m))))
+      go : (t : Bool) → eqb m 0 ≡ t → (w : Bool) → used (fraction m 12) (s .terms) ≡ w
+          → Good (text ++ (b ∷ [])) (cond t stopped (cond w stopped (ending s (Numerator n m))))
       go true d w e = tt
       go false d true e = tt
       go false d false e =
@@ -212,7 +214,8 @@ module _ (text : List ℕ) (s : Reading) (b : ℕ) (h : Begun text s) where
             most = omega arith;
           })
 
-  begun-good : (n : Bool) (y : Symbol) → ByteOf y b → Front (h .part) (s .terms) n → (b ≡ 32 → Begun (text ++ (b ∷ [])) s) → Good (text ++ (b ∷ [])) (begun s n y)
+  begun-good : (n : Bool) (y : Symbol) → ByteOf y b → Front (h .part) (s .terms) n → (b ≡ 32 → Begun (text ++ (b ∷ [])) s)
+      → Good (text ++ (b ∷ [])) (begun s n y)
   unfolding begun
   begun-good n Space is f k = k is
   begun-good n (Sign m) is f k = tt
@@ -245,7 +248,8 @@ module _ (text : List ℕ) (s : Reading) (b : ℕ) (h : Begun text s) where
       go Comma is = tt
       go Foreign is = tt
 
-  owed-good : (n : Bool) (y : Symbol) → ByteOf y b → Front (h .part) (s .terms) n → full (s .terms) ≡ false → s .mode ≡ Owed n → Good (text ++ (b ∷ [])) (begun s n y)
+  owed-good : (n : Bool) (y : Symbol) → ByteOf y b → Front (h .part) (s .terms) n → full (s .terms) ≡ false → s .mode ≡ Owed n
+      → Good (text ++ (b ∷ [])) (begun s n y)
   owed-good n y is f e m = begun-good n y is f (λ byte. stay (Owed n) m 32 byte (space-front f, e))
 
   term-good : (y : Symbol) → ByteOf y b → Part (h .part) (s .terms) → s .mode ≡ Told → Good (text ++ (b ∷ [])) (afterTerm s y)
@@ -276,7 +280,8 @@ module _ (text : List ℕ) (s : Reading) (b : ℕ) (h : Begun text s) where
 
   module _ (n : Bool) (m : ℕ) where
     -- The bytes of a fraction with one more.
-    within : (digits next : List ℕ) (m′ : ℕ) → 1 ≤ m′ → m′ ≤ 11 → digits ++ (b ∷ []) ≡ next → InFraction (h .part) (s .terms) n m digits → InFraction (h .part ++ (b ∷ [])) (s .terms) n m′ next
+    within : (digits next : List ℕ) (m′ : ℕ) → 1 ≤ m′ → m′ ≤ 11 → digits ++ (b ∷ []) ≡ next → InFraction (h .part) (s .terms) n m digits
+        → InFraction (h .part ++ (b ∷ [])) (s .terms) n m′ next
     within digits next m′ least most e f =
         record {
           front = f .front;
@@ -298,7 +303,8 @@ module _ (text : List ℕ) (s : Reading) (b : ℕ) (h : Begun text s) where
         go true one true small =
             on (s .terms) (Numerator n (10 + d))
             (within (numeral m) (numeral (10 + d)) (10 + d) (omega arith) (omega (arith, ltb-true d 2 small))
-            (ap (λ (k : ℕ). numeral k ++ (b ∷ [])) (eqb-true m 1 one) ∙ ap (λ (c : ℕ). numeral 1 ++ (c ∷ [])) (is .0) ∙ sym (numeral-two d (ltb-true d 2 small)))
+            (ap (λ (k : ℕ). numeral k ++ (b ∷ [])) (eqb-true m 1 one) ∙ ap (λ (c : ℕ). numeral 1 ++ (c ∷ [])) (is .0)
+            ∙ sym (numeral-two d (ltb-true d 2 small)))
             f)
         go true one false small = tt
         go false one w small = tt
@@ -308,7 +314,8 @@ module _ (text : List ℕ) (s : Reading) (b : ℕ) (h : Begun text s) where
     numerator-more Foreign is f = tt
 
     -- A denominator's last byte.
-    completes : (tail : List ℕ) (d : ℕ) → Mem d denominators → tail ++ (b ∷ []) ≡ 47 ∷ numeral d → InFraction (h .part) (s .terms) n m (numeral m ++ tail) → Good (text ++ (b ∷ [])) (withFraction s n m d)
+    completes : (tail : List ℕ) (d : ℕ) → Mem d denominators → tail ++ (b ∷ []) ≡ 47 ∷ numeral d → InFraction (h .part) (s .terms) n m (numeral m ++ tail)
+        → Good (text ++ (b ∷ [])) (withFraction s n m d)
     unfolding withFraction
     completes tail d member e f = go (ltb m d) refl
       where
@@ -331,7 +338,8 @@ module _ (text : List ℕ) (s : Reading) (b : ℕ) (h : Begun text s) where
     slash-more (Named l) is f = tt
     slash-more (Digit d) is f = go (eqb d 1) refl (oneDigit d) refl
       where
-        go : (t : Bool) → eqb d 1 ≡ t → (w : Bool) → oneDigit d ≡ w → Good (text ++ (b ∷ [])) (cond t (ending s (Twelfth n m)) (cond w (withFraction s n m d) stopped))
+        go : (t : Bool) → eqb d 1 ≡ t → (w : Bool) → oneDigit d ≡ w
+            → Good (text ++ (b ∷ [])) (cond t (ending s (Twelfth n m)) (cond w (withFraction s n m d) stopped))
         go true one w e =
             on (s .terms) (Twelfth n m)
             (within (numeral m ++ (47 ∷ [])) (numeral m ++ (47 ∷ 49 ∷ [])) m (f .least) (f .most)
@@ -379,7 +387,8 @@ unfolding reach onwards
 good-reach text [] s h = subst (λ (l : List ℕ). Begun l s) (sym (append-nil text)) h
 good-reach text (b ∷ bs) s h = go (step s b) (good-step text s b h) (λ s′. good-reach (text ++ (b ∷ [])) bs s′)
   where
-    go : (r : Reached) → Good (text ++ (b ∷ [])) r → ((s′ : Reading) → Begun (text ++ (b ∷ [])) s′ → Good ((text ++ (b ∷ [])) ++ bs) (reach bs s′)) → Good (text ++ (b ∷ bs)) (onwards r (reach bs))
+    go : (r : Reached) → Good (text ++ (b ∷ [])) r → ((s′ : Reading) → Begun (text ++ (b ∷ [])) s′ → Good ((text ++ (b ∷ [])) ++ bs) (reach bs s′))
+        → Good (text ++ (b ∷ bs)) (onwards r (reach bs))
     go (at s′) g next = subst (λ (l : List ℕ). Good l (reach bs s′)) (append-assoc text (b ∷ []) bs) (next s′ g)
     go stopped g next = tt
 

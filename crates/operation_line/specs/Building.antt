@@ -105,7 +105,8 @@ fraction-short first (suc k) =
 -- A part has at most twelve bytes,
 letters-short : (ts : List Term) (l : Letter) (d : ℕ) → length (plainBytes (letterTerm l d ++ ts)) ≤ length (plainBytes ts) + 2
 letters-short ts l d =
-    rw (← letter-more ts l d) (rw (length-append (plainBytes ts) (letterBytes (isEmpty ts) (letterByte l) d)) (omega (arith, letter-short (isEmpty ts) (letterByte l) d)))
+    rw (← letter-more ts l d) (rw (length-append (plainBytes ts) (letterBytes (isEmpty ts) (letterByte l) d))
+    (omega (arith, letter-short (isEmpty ts) (letterByte l) d)))
 
 pub part-short : (a b c k : ℕ) → length (plainBytes (rowTerms a b c k)) ≤ 12
 unfolding rowTerms lettersOf
@@ -113,7 +114,8 @@ part-short a b c k =
     let x = letterTerm X a in
     let y = letterTerm Y b ++ x in
     let z = letterTerm Z c ++ y in
-    rw (← fraction-more z k) (rw (length-append (plainBytes z) (fractionBytes (isEmpty z) k)) (omega (arith, first-short, letters-short x Y b, letters-short y Z c, fraction-short (isEmpty z) k)))
+    rw (← fraction-more z k) (rw (length-append (plainBytes z) (fractionBytes (isEmpty z) k))
+    (omega (arith, first-short, letters-short x Y b, letters-short y Z c, fraction-short (isEmpty z) k)))
   where
     first-short : length (plainBytes (letterTerm X a)) ≤ 2
     first-short = rw (← first-letter X a) (letter-short true 120 a)
@@ -132,16 +134,19 @@ first-place (t ∷ ts) at end e = ne-eqb end at (λ same. longer (rw length-appe
     longer e same = absurd (omega (arith, body-some (t .body), length-append (signBytes (isEmpty ts) (t .negative)) (bodyBytes (t .body))))
 
 -- ---- a letter, and the fraction, written behind the terms that stand
-pub put-letter-more : {a b c : List ℕ} {at mid end : ℕ} (ts : List Term) (l : Letter) (d : ℕ) → Put a at (plainBytes ts) b mid → Put b mid (letterBytes (eqb mid at) (letterByte l) d) c end → Put a at (plainBytes (letterTerm l d ++ ts)) c end
+pub put-letter-more : {a b c : List ℕ} {at mid end : ℕ} (ts : List Term) (l : Letter) (d : ℕ) → Put a at (plainBytes ts) b mid
+    → Put b mid (letterBytes (eqb mid at) (letterByte l) d) c end → Put a at (plainBytes (letterTerm l d ++ ts)) c end
 put-letter-more {at = at} {mid = mid} ts l d p q =
     put-named (ap (λ f. plainBytes ts ++ letterBytes f (letterByte l) d) (first-place ts at mid (p .place)) ∙ letter-more ts l d) (put-then p q)
 
-pub put-fraction-more : {a b c : List ℕ} {at mid end : ℕ} (ts : List Term) (k : ℕ) → Put a at (plainBytes ts) b mid → Put b mid (fractionBytes (eqb mid at) k) c end → Put a at (plainBytes (fractionTerm k ++ ts)) c end
+pub put-fraction-more : {a b c : List ℕ} {at mid end : ℕ} (ts : List Term) (k : ℕ) → Put a at (plainBytes ts) b mid
+    → Put b mid (fractionBytes (eqb mid at) k) c end → Put a at (plainBytes (fractionTerm k ++ ts)) c end
 put-fraction-more {at = at} {mid = mid} ts k p q =
     put-named (ap (λ f. plainBytes ts ++ fractionBytes f k) (first-place ts at mid (p .place)) ∙ fraction-more ts k) (put-then p q)
 
 -- ---- a line copied to the front
-pub copy-next : (line out : List ℕ) (i : ℕ) → i < length line → i < length out → set (take i line ++ drop i out) i (getD line i 0) ≡ take (i + 1) line ++ drop (i + 1) out
+pub copy-next : (line out : List ℕ) (i : ℕ) → i < length line → i < length out
+    → set (take i line ++ drop i out) i (getD line i 0) ≡ take (i + 1) line ++ drop (i + 1) out
 copy-next line out i h k =
     ap (λ (l : List ℕ). set (take i line ++ l) i (getD line i 0)) (drop-cons out i 0 k)
     ∙ set-at (take i line) (getD out i 0) (drop (suc i) out) (getD line i 0) i (length-take-le i line (omega arith))

@@ -80,7 +80,8 @@ module _ (x y z : List Term) where
     whole-held = ap (λ (d : Decoded). decodedThen d twelfths) line-decoded ∙ ap decided line-numbered
 
 -- Behind a term.
-told-held : (size : ℕ) (front q : List ℕ) (done : List (List Term)) (ts : List Term) → Done front done → length done ≤ 2 → Ends q ts Told → wholeNumbers size (numbersOf (record { done = done; terms = ts; mode = Told })) ≡ wholeLine size done ts
+told-held : (size : ℕ) (front q : List ℕ) (done : List (List Term)) (ts : List Term) → Done front done → length done ≤ 2 → Ends q ts Told
+    → wholeNumbers size (numbersOf (record { done = done; terms = ts; mode = Told })) ≡ wholeLine size done ts
 unfolding wholeNumbers wholeLine
 told-held size front q [] ts h few p = refl
 told-held size front q (y ∷ []) ts h few p = refl
@@ -133,7 +134,8 @@ readable-stop [] b q s r e h =
     ap (λ (w : Reached). passed w (readable q)) (ap (λ (t : Reading). step t b) same ∙ h)
 readable-stop (a ∷ rest) b q s r e h = go (step s a) e (λ s′ e′. readable-stop rest b q s′ r e′ h)
   where
-    go : (w : Reached) → onwards w (reach rest) ≡ at r → ((s′ : Reading) → reach rest s′ ≡ at r → readable (rest ++ (b ∷ q)) s′ ≡ length rest) → passed w (readable (rest ++ (b ∷ q))) ≡ suc (length rest)
+    go : (w : Reached) → onwards w (reach rest) ≡ at r → ((s′ : Reading) → reach rest s′ ≡ at r → readable (rest ++ (b ∷ q)) s′ ≡ length rest)
+        → passed w (readable (rest ++ (b ∷ q))) ≡ suc (length rest)
     go (at s′) e′ below = ap suc (below s′ e′)
     go stopped e′ below = let z : _≡_ {A = ℕ} 0 1 = cc in absurd (omega arith)
 
@@ -168,7 +170,9 @@ module _ (line : List ℕ) (i : ℕ) (state : State) (h : Holds line i state) wh
             record {
               within = omega arith;
               reading = s;
-              reached = rw (add-one i, take-suc line i 0 more) (reach-append (take i line) (byte ∷ []) begin (h .reading) (h .reached) ∙ reach-one byte (h .reading) ∙ is);
+              reached =
+                  rw (add-one i, take-suc line i 0 more)
+                  (reach-append (take i line) (byte ∷ []) begin (h .reading) (h .reached) ∙ reach-one byte (h .reading) ∙ is);
               numbers = cc;
             }
         go stopped is same = let z : _≡_ {A = ℕ} 0 1 = cc in absurd (omega arith)

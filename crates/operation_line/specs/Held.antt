@@ -84,7 +84,8 @@ unfolding used digitIn digitThen
 used-letter l [] = refl
 used-letter l (t ∷ ts) = go (t .body) (used-letter l ts)
   where
-    go : (b : Body) → used (letter l) ts ≡ not (eqb (digitIn l ts) 1) → (clash (letter l) b || used (letter l) ts) ≡ not (eqb (digitThen l (t .negative) b (digitIn l ts)) 1)
+    go : (b : Body) → used (letter l) ts ≡ not (eqb (digitIn l ts) 1)
+        → (clash (letter l) b || used (letter l) ts) ≡ not (eqb (digitThen l (t .negative) b (digitIn l ts)) 1)
     go (letter k) below = by (sameLetter l k)
       where
         by : (e : Bool) → (e || used (letter l) ts) ≡ not (eqb (cond e (signDigit (t .negative)) (digitIn l ts)) 1)
@@ -131,7 +132,8 @@ unfolding used twelfthsIn twelfthsThen
 used-twelfths m d [] h = refl
 used-twelfths m d (t ∷ ts) (proper, h) = go (t .body) proper (used-twelfths m d ts h)
   where
-    go : (b : Body) → Proper b → used (fraction m d) ts ≡ not (eqb (twelfthsIn ts) 0) → (clash (fraction m d) b || used (fraction m d) ts) ≡ not (eqb (twelfthsThen (t .negative) b (twelfthsIn ts)) 0)
+    go : (b : Body) → Proper b → used (fraction m d) ts ≡ not (eqb (twelfthsIn ts) 0)
+        → (clash (fraction m d) b || used (fraction m d) ts) ≡ not (eqb (twelfthsThen (t .negative) b (twelfthsIn ts)) 0)
     go (letter k) proper below = below
     go (fraction p q) proper below = sym (ap not (ne-eqb (fractionTwelfths (t .negative) p q) 0 (omega (arith, signed-range (t .negative) p q proper .0))))
 
@@ -187,7 +189,8 @@ unit-twelfths : (m d : ℕ) → oneDigit d ≡ true → (12 * m / d ≡ m * unit
 unfolding oneDigit unitOf
 unit-twelfths m d = go (eqb d 2) (eqb d 3) (eqb d 4) (eqb d 6) refl refl refl refl
   where
-    go : (a b c e : Bool) → eqb d 2 ≡ a → eqb d 3 ≡ b → eqb d 4 ≡ c → eqb d 6 ≡ e → (a || (b || (c || e))) ≡ true → (12 * m / d ≡ m * cond a 6 (cond b 4 (cond c 3 (cond e 2 0)))) × (eqb (cond a 6 (cond b 4 (cond c 3 (cond e 2 0)))) 0 ≡ false)
+    go : (a b c e : Bool) → eqb d 2 ≡ a → eqb d 3 ≡ b → eqb d 4 ≡ c → eqb d 6 ≡ e → (a || (b || (c || e))) ≡ true
+        → (12 * m / d ≡ m * cond a 6 (cond b 4 (cond c 3 (cond e 2 0)))) × (eqb (cond a 6 (cond b 4 (cond c 3 (cond e 2 0)))) 0 ≡ false)
     go true b c e is j k l h = (rw (eqb-true d 2 is) (omega arith), refl)
     go false true c e i is k l h = (rw (eqb-true d 3 is) (omega arith), refl)
     go false false true e i j is l h = (rw (eqb-true d 4 is) (omega arith), refl)
@@ -218,7 +221,8 @@ module _ (s : Reading) (proper : Propers (s .terms)) where
   last-twelfths : held .rank % 12 ≡ twelfthsIn (s .terms)
   last-twelfths = omega (arith, twelfths-small (s .terms) proper)
 
-  letter-code : (n : Bool) (l : Letter) → digitIn l (s .terms) ≡ 1 → cond n (held .code - weightOf l) (held .code + weightOf l) ≡ rowsCode (s .done) * 27 + rowCode (signed n (letter l) ∷ s .terms)
+  letter-code : (n : Bool) (l : Letter) → digitIn l (s .terms) ≡ 1
+      → cond n (held .code - weightOf l) (held .code + weightOf l) ≡ rowsCode (s .done) * 27 + rowCode (signed n (letter l) ∷ s .terms)
   unfolding digitIn digitThen
   letter-code true X e = omega arith
   letter-code true Y e = omega arith
@@ -231,7 +235,9 @@ module _ (s : Reading) (proper : Propers (s .terms)) where
   unfolding letterNumbers withLetter twelfthsIn twelfthsThen
   letter-held n l = rw (column-digit l, used-letter l (s .terms)) (go (eqb (digitIn l (s .terms)) 1) refl)
     where
-      go : (t : Bool) → eqb (digitIn l (s .terms)) 1 ≡ t → cond t (toldNumbers held (cond n (held .code - weightOf l) (held .code + weightOf l)) (held .rank)) Stop ≡ numbersNext (cond (not t) stopped (told s n (letter l)))
+      go : (t : Bool) → eqb (digitIn l (s .terms)) 1 ≡ t
+          → cond t (toldNumbers held (cond n (held .code - weightOf l) (held .code + weightOf l)) (held .rank)) Stop
+          ≡ numbersNext (cond (not t) stopped (told s n (letter l)))
       go true e = ap (λ (c : ℕ). toldNumbers held c (held .rank)) (letter-code n l (eqb-true (digitIn l (s .terms)) 1 e))
       go false e = refl
 
@@ -239,7 +245,8 @@ module _ (s : Reading) (proper : Propers (s .terms)) where
   unfolding numeratorNumbers withNumerator
   numerator-held n m = rw (last-twelfths, used-twelfths m 12 (s .terms) proper) (go (eqb m 0) (eqb (twelfthsIn (s .terms)) 0))
     where
-      go : (t w : Bool) → cond t Stop (cond w (endingNumbers held (Numerator n m)) Stop) ≡ numbersNext (cond t stopped (cond (not w) stopped (ending s (Numerator n m))))
+      go : (t w : Bool) → cond t Stop (cond w (endingNumbers held (Numerator n m)) Stop)
+          ≡ numbersNext (cond t stopped (cond (not w) stopped (ending s (Numerator n m))))
       go true w = refl
       go false true = refl
       go false false = refl
@@ -295,7 +302,8 @@ module _ (s : Reading) (proper : Propers (s .terms)) where
       twelfths : held .rank * 12 ≡ held .rank * 12 + 0
       twelfths = omega arith
 
-      go : (t : Bool) → cond t (On (record { part = length (s .done) + 1; mode = Start; code = held .code * 27 + 13; rank = held .rank * 12 })) Stop ≡ numbersNext (cond t (nextPart s) stopped)
+      go : (t : Bool) → cond t (On (record { part = length (s .done) + 1; mode = Start; code = held .code * 27 + 13; rank = held .rank * 12 })) Stop
+          ≡ numbersNext (cond t (nextPart s) stopped)
       go true = λ i. On (record { part = parts i; mode = Start; code = held .code * 27 + 13; rank = twelfths i })
       go false = refl
 
@@ -320,7 +328,8 @@ module _ (s : Reading) (proper : Propers (s .terms)) where
   numerator-on n m (Named l) = refl
   numerator-on n m (Digit d) = go (eqb m 1) (ltb d 2)
     where
-      go : (t w : Bool) → cond t (cond w (endingNumbers held (Numerator n (10 + d))) Stop) Stop ≡ numbersNext (cond (t && w) (ending s (Numerator n (10 + d))) stopped)
+      go : (t w : Bool) → cond t (cond w (endingNumbers held (Numerator n (10 + d))) Stop) Stop
+          ≡ numbersNext (cond (t && w) (ending s (Numerator n (10 + d))) stopped)
       go true true = refl
       go true false = refl
       go false w = refl
@@ -344,11 +353,14 @@ module _ (s : Reading) (proper : Propers (s .terms)) where
     unfolding overNumbers overDigit withFraction
     over-held d = go (eqb d 1) (oneDigit d) refl
       where
-        less : (w : Bool) → 12 * m / d ≡ m * unitOf d → cond w (fractionNumbers held n (m * unitOf d)) Stop ≡ numbersNext (cond w (told s n (fraction m d)) stopped)
+        less : (w : Bool) → 12 * m / d ≡ m * unitOf d
+            → cond w (fractionNumbers held n (m * unitOf d)) Stop ≡ numbersNext (cond w (told s n (fraction m d)) stopped)
         less true e = fraction-held d (m * unitOf d) e
         less false e = refl
 
-        go : (t w : Bool) → oneDigit d ≡ w → cond t (endingNumbers held (Twelfth n m)) (cond (eqb (unitOf d) 0) Stop (cond (ltb m d) (fractionNumbers held n (m * unitOf d)) Stop)) ≡ numbersNext (cond t (ending s (Twelfth n m)) (cond w (cond (ltb m d) (told s n (fraction m d)) stopped) stopped))
+        go : (t w : Bool) → oneDigit d ≡ w
+            → cond t (endingNumbers held (Twelfth n m)) (cond (eqb (unitOf d) 0) Stop (cond (ltb m d) (fractionNumbers held n (m * unitOf d)) Stop))
+            ≡ numbersNext (cond t (ending s (Twelfth n m)) (cond w (cond (ltb m d) (told s n (fraction m d)) stopped) stopped))
         go true w e = refl
         go false true e =
             let u = unit-twelfths m d e in

@@ -68,7 +68,8 @@ lowest-tested : (p q : ℕ) → Lowest p q → isLowest p q ≡ true
 unfolding isLowest parted
 lowest-tested p q l =
     let (some, less, in-list) = l .proper in
-    let each : allBelow 11 (parted p q) ≡ true = all-below 11 (parted p q) (λ d h. not-both _ _ (λ a b. l .coprime (d + 2) (omega arith) (eqb-true _ 0 a) (eqb-true _ 0 b))) in
+    let each : allBelow 11 (parted p q) ≡ true =
+    all-below 11 (parted p q) (λ d h. not-both _ _ (λ a b. l .coprime (d + 2) (omega arith) (eqb-true _ 0 a) (eqb-true _ 0 b))) in
     rw (le-leb 1 p some, lt-ltb p q less, is-in q denominators in-list, each) refl
 
 at-most-twelve : (q : ℕ) → Mem q denominators → q ≤ 12
@@ -122,7 +123,8 @@ unfolding inTable
 lowest-term p q l =
     let (some, less, in-list) = l .proper in
     let small = at-most-twelve q in-list in
-    let tested : inTable p q ≡ true = below 13 (λ q. inTable p q) (below 12 (λ p. allBelow 13 (λ q. inTable p q)) all-in-table p (omega arith)) q (omega arith) in
+    let tested : inTable p q ≡ true =
+    below 13 (λ q. inTable p q) (below 12 (λ p. allBelow 13 (λ q. inTable p q)) all-in-table p (omega arith)) q (omega arith) in
     let found = rw (lowest-tested p q l) at tested in
     let (a, r) = and-eq-true-iff (eqb (getD numerators (12 * p / q) 0) p) _ .0 found in
     let (b, s) = and-eq-true-iff (eqb (getD divisors (12 * p / q) 0) q) _ .0 r in

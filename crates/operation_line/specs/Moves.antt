@@ -112,7 +112,8 @@ module _ (v : Vector) where
       residue-pos (12 - 12 * p / q) ∙ sym (residue-neg (pos (12 * p / q)) ∙ ap (λ (k : ℕ). (12 - k) % 12) (residue-pos (12 * p / q)) ∙ omega arith)
   fraction-residue false p q h = refl
 
-  fraction-added : (n : Bool) (p q : ℕ) (ts : List Term) → Proper (fraction p q) → twelfthsIn ts ≡ 0 → residue (rowAt (signed n (fraction p q) ∷ ts)) ≡ residue (signedValue n (pos (12 * p / q)) +ℤ rowAt ts)
+  fraction-added : (n : Bool) (p q : ℕ) (ts : List Term) → Proper (fraction p q) → twelfthsIn ts ≡ 0
+      → residue (rowAt (signed n (fraction p q) ∷ ts)) ≡ residue (signedValue n (pos (12 * p / q)) +ℤ rowAt ts)
   unfolding digitIn digitThen twelfthsIn twelfthsThen
   fraction-added n p q ts proper e =
       rw e
@@ -122,7 +123,8 @@ module _ (v : Vector) where
       row : List Term → ℤ
       row ts = dot (entryOf (digitIn X ts)) (entryOf (digitIn Y ts)) (entryOf (digitIn Z ts)) (v .x) (v .y) (v .z)
 
-  body-added : (n : Bool) (b : Body) (ts : List Term) → Proper b → used b ts ≡ false → Propers ts → residue (rowAt (signed n b ∷ ts)) ≡ residue (signedValue n (bodyValue v b) +ℤ rowAt ts)
+  body-added : (n : Bool) (b : Body) (ts : List Term) → Proper b → used b ts ≡ false → Propers ts
+      → residue (rowAt (signed n b ∷ ts)) ≡ residue (signedValue n (bodyValue v b) +ℤ rowAt ts)
   body-added n (letter l) ts proper fresh below =
       ap residue (letter-added n l ts (eqb-true (digitIn l ts) 1 (not-false (eqb (digitIn l ts) 1) (sym (used-letter l ts) ∙ fresh))))
   body-added n (fraction p q) ts proper fresh below =
@@ -149,7 +151,8 @@ line-moves text l h v =
     (part-moves v (l .z) (terms-once (h .of-z .spelt)))
 
 -- So does the operation that is read.
-pub read-moves : (text : List ℕ) (f : operation.Operation) → readLine text ≡ Operation f → (l : Line) × Spells text l × ((v : Vector) → reduced (valuesAt v l) ≡ reduced (movedBy (motionOf f) v))
+pub read-moves : (text : List ℕ) (f : operation.Operation) → readLine text ≡ Operation f
+    → (l : Line) × Spells text l × ((v : Vector) → reduced (valuesAt v l) ≡ reduced (movedBy (motionOf f) v))
 read-moves text f e =
     let h = answers-exact text (Operation f) .0 e in
     (h .line, h .spells, λ v. line-moves text (h .line) (h .spells) v ∙ ap (λ (g : operation.Operation). reduced (movedBy (motionOf g) v)) (sym (h .is)))

@@ -162,7 +162,8 @@ abbrev pub decodedLine : ℕ → ℕ → ReadLine
 decodedLine c n = decodedThen (decodedOf c) n
 
 -- What the code answers for a rotation that it has decoded.
-pub decoded-answer : (c n : ℕ) (d : Decoded) (r : Rotation) (h k : Handedness) → d ≡ decodedOf c → d ≡ Inside r → h ≡ handednessOf (matrixOf r) → h ≡ k → turned (numbered r n) k ≡ decodedLine c n
+pub decoded-answer : (c n : ℕ) (d : Decoded) (r : Rotation) (h k : Handedness) → d ≡ decodedOf c → d ≡ Inside r → h ≡ handednessOf (matrixOf r) → h ≡ k
+    → turned (numbered r n) k ≡ decodedLine c n
 unfolding decodedThen
 decoded-answer c n d r h k code inside handed told =
     ap (turned (numbered r n)) (sym told ∙ handed) ∙ ap (λ (e : Decoded). decodedThen e n) (sym inside ∙ code)

@@ -34,13 +34,15 @@ pub unused-some : (ts : List Term) → full ts ≡ false → Unused ts
 unfolding full
 unused-some ts = go (used (letter X) ts) refl (used (letter Y) ts) refl (used (letter Z) ts) refl
   where
-    go : (a : Bool) → used (letter X) ts ≡ a → (b : Bool) → used (letter Y) ts ≡ b → (c : Bool) → used (letter Z) ts ≡ c → a && (b && (c && used (fraction 1 2) ts)) ≡ false → Unused ts
+    go : (a : Bool) → used (letter X) ts ≡ a → (b : Bool) → used (letter Y) ts ≡ b → (c : Bool) → used (letter Z) ts ≡ c
+        → a && (b && (c && used (fraction 1 2) ts)) ≡ false → Unused ts
     go false x b y c z e = record { body = letter X; proper = tt; fresh = x }
     go true x false y c z e = record { body = letter Y; proper = tt; fresh = y }
     go true x true y false z e = record { body = letter Z; proper = tt; fresh = z }
     go true x true y true z e = record { body = fraction 1 2; proper = (omega arith, omega arith, here refl); fresh = e }
 
-fraction-completed : (q : List ℕ) (ts : List Term) (n : Bool) (m : ℕ) (digits rest : List ℕ) → digits ++ rest ≡ bodyBytes (fraction m 12) → InFraction q ts n m digits → Completed q
+fraction-completed : (q : List ℕ) (ts : List Term) (n : Bool) (m : ℕ) (digits rest : List ℕ) → digits ++ rest ≡ bodyBytes (fraction m 12)
+    → InFraction q ts n m digits → Completed q
 fraction-completed q ts n m digits rest e f =
     record {
       rest = rest;
@@ -119,7 +121,8 @@ unfolding reach readable onwards passed
 stops [] s e = absurd (subst IsAt e tt)
 stops (b ∷ bs) s e = go (step s b) refl e (stops bs)
   where
-    go : (w : Reached) → step s b ≡ w → onwards w (reach bs) ≡ stopped → ((s′ : Reading) → reach bs s′ ≡ stopped → Stops bs s′ (readable bs s′)) → Stops (b ∷ bs) s (passed w (readable bs))
+    go : (w : Reached) → step s b ≡ w → onwards w (reach bs) ≡ stopped → ((s′ : Reading) → reach bs s′ ≡ stopped → Stops bs s′ (readable bs s′))
+        → Stops (b ∷ bs) s (passed w (readable bs))
     go (at s′) is h below =
         let t = below s′ h in
         record {

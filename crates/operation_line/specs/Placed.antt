@@ -22,7 +22,12 @@ unfolding writtenLine plainLine lineOf
 line-short f =
     let r = f .rotation in
     let t = f .translation in
-    simp length-append (omega (arith, part-short (r .xx) (r .xy) (r .xz) (t .x), part-short (r .yx) (r .yy) (r .yz) (t .y), part-short (r .zx) (r .zy) (r .zz) (t .z)))
+    simp length-append (omega (
+      arith,
+      part-short (r .xx) (r .xy) (r .xz) (t .x),
+      part-short (r .yx) (r .yy) (r .yz) (t .y),
+      part-short (r .zx) (r .zy) (r .zz) (t .z),
+    ))
 
 -- What is said of the answer and of the buffer behind it.
 abbrev pub Fitted : List ℕ → List ℕ → WrittenLine → List ℕ → Type 0
@@ -56,6 +61,7 @@ module _ (bytes out : List ℕ) where
   unfolding writeOf bufferOf
   no-determinant f e d = rw (e, d) (refl, refl)
 
-  pub by-room : (f : Operation) (answer : WrittenLine) (after : List ℕ) → fiveBytesOf bytes ≡ Is f → writable f ≡ true → Fitted (writtenLine f) out answer after → Written bytes out answer after
+  pub by-room : (f : Operation) (answer : WrittenLine) (after : List ℕ) → fiveBytesOf bytes ≡ Is f → writable f ≡ true → Fitted (writtenLine f) out answer after
+      → Written bytes out answer after
   unfolding writeOf bufferOf
   by-room f answer after e d h = rw (e, d) h

@@ -56,7 +56,8 @@ pub record ReadBack (bytes after : List ℕ) (n : ℕ) : Type 0 where
   pub is : BytesOf bytes operation
   pub same : readLine (take n after) ≡ Operation operation
 
-written-read : (bytes out : List ℕ) (answer : Answer ℕ Nothing) (after : List ℕ) (n : ℕ) → Outcome bytes out answer after → answer ≡ given n → ReadBack bytes after n
+written-read : (bytes out : List ℕ) (answer : Answer ℕ Nothing) (after : List ℕ) (n : ℕ) → Outcome bytes out answer after → answer ≡ given n
+    → ReadBack bytes after n
 written-read bytes out answer after n (no-operation h) e = let z : _≡_ {A = ℕ} 0 1 = cc in absurd (omega arith)
 written-read bytes out answer after n (no-determinant f b u) e = let z : _≡_ {A = ℕ} 0 1 = cc in absurd (omega arith)
 written-read bytes out answer after n (no-room f b u l) e = let z : _≡_ {A = ℕ} 0 1 = cc in absurd (omega arith)

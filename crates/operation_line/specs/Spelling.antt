@@ -85,7 +85,8 @@ pub data Blank : List ℕ → Type 0 where
 pub data Terms : List ℕ → List Term → Type 0 where
   blank : {s : List ℕ} → Blank s → Terms s []
   unsigned : {s v : List ℕ} → Blank s → (b : Body) → Proper b → Blank v → Terms (s ++ (bodyBytes b ++ v)) (signed false b ∷ [])
-  then : {p u v : List ℕ} {ts : List Term} → Terms p ts → (n : Bool) → Blank u → (b : Body) → Proper b → used b ts ≡ false → Blank v → Terms (p ++ (signByte n ∷ (u ++ (bodyBytes b ++ v)))) (signed n b ∷ ts)
+  then : {p u v : List ℕ} {ts : List Term} → Terms p ts → (n : Bool) → Blank u → (b : Body) → Proper b → used b ts ≡ false → Blank v
+      → Terms (p ++ (signByte n ∷ (u ++ (bodyBytes b ++ v)))) (signed n b ∷ ts)
 
 -- A part has one or more terms.
 pub record Part (text : List ℕ) (terms : List Term) : Type 0 where

@@ -28,7 +28,8 @@ unfolding reach onwards
 reach-append [] q s r e = let same : s ≡ r = cc in ap (reach q) same
 reach-append (b ∷ bs) q s r e = go (step s b) e (λ s′. reach-append bs q s′ r)
   where
-    go : (w : Reached) → onwards w (reach bs) ≡ at r → ((s′ : Reading) → reach bs s′ ≡ at r → reach (bs ++ q) s′ ≡ reach q r) → onwards w (reach (bs ++ q)) ≡ reach q r
+    go : (w : Reached) → onwards w (reach bs) ≡ at r → ((s′ : Reading) → reach bs s′ ≡ at r → reach (bs ++ q) s′ ≡ reach q r)
+        → onwards w (reach (bs ++ q)) ≡ reach q r
     go (at s′) h next = next s′ h
     go stopped h next = let z : _≡_ {A = ℕ} 0 1 = cc in absurd (omega arith)
 
@@ -116,7 +117,8 @@ module _ (s : Reading) (n : Bool) (o : Opens s n) where
       go : (t : Bool) → ltb m 10 ≡ t → (w : Bool) → ltb m 11 ≡ w → reach (numeral m) s ≡ at (state (s .done) (s .terms) (Numerator n m))
       go true h w k =
           let small : m ≤ 9 = omega (arith, ltb-true m 10 h) in
-          ap (λ (l : List ℕ). reach l s) (numeral-one m small) ∙ reach-step (48 + m) [] s (state (s .done) (s .terms) (Numerator n m)) (first-digit m least small fresh)
+          ap (λ (l : List ℕ). reach l s) (numeral-one m small)
+          ∙ reach-step (48 + m) [] s (state (s .done) (s .terms) (Numerator n m)) (first-digit m least small fresh)
       go false h true k =
           let is : 10 ≡ m = omega (arith, ltb-false m 10 h, ltb-true m 11 k) in
           subst (λ (i : ℕ). reach (numeral i) s ≡ at (state (s .done) (s .terms) (Numerator n i))) is ten
@@ -149,11 +151,13 @@ unfolding stepBy afterNumerator symbolOf symbolIn
 slash-read done ts n m = refl
 
 -- A letter or a fraction.
-body-read : (s : Reading) (n : Bool) → Opens s n → (b : Body) → Proper b → used b (s .terms) ≡ false → reach (bodyBytes b) s ≡ at (state (s .done) (signed n b ∷ s .terms) Told)
+body-read : (s : Reading) (n : Bool) → Opens s n → (b : Body) → Proper b → used b (s .terms) ≡ false
+    → reach (bodyBytes b) s ≡ at (state (s .done) (signed n b ∷ s .terms) Told)
 body-read s n o (letter l) proper fresh = letter-read s n o l fresh
 body-read s n o (fraction m d) (least, less, member) fresh =
     let most = member-most d member in
-    reach-append (numeral m) (47 ∷ numeral d) s (state (s .done) (s .terms) (Numerator n m)) (numeral-read s n o m least (omega arith) (used-fraction 1 2 m d (s .terms) ∙ fresh))
+    reach-append (numeral m) (47 ∷ numeral d) s (state (s .done) (s .terms) (Numerator n m))
+    (numeral-read s n o m least (omega arith) (used-fraction 1 2 m d (s .terms) ∙ fresh))
     ∙ reach-step 47 (numeral d) (state (s .done) (s .terms) (Numerator n m)) (state (s .done) (s .terms) (Behind n m)) (slash-read (s .done) (s .terms) n m)
     ∙ over-read (s .done) (s .terms) n m d member less
 
@@ -210,7 +214,8 @@ terms-read : (d : List (List Term)) {q : List ℕ} {ts : List Term} → Terms q 
 terms-read d (blank h) = spaces (state d [] Start) (after-space d []) h
 terms-read d (unsigned {s} {v} h b proper k) =
     reach-append s (bodyBytes b ++ v) (state d [] Start) (state d [] Start) (spaces (state d [] Start) (after-space d []) h)
-    ∙ reach-append (bodyBytes b) v (state d [] Start) (state d (signed false b ∷ []) Told) (body-read (state d [] Start) false (start-opens d []) b proper (unused b))
+    ∙ reach-append (bodyBytes b) v (state d [] Start) (state d (signed false b ∷ []) Told)
+    (body-read (state d [] Start) false (start-opens d []) b proper (unused b))
     ∙ spaces (state d (signed false b ∷ []) Told) (after-space d (signed false b ∷ [])) k
 terms-read d (then {p} {u} {v} {ts} h n g b proper fresh k) =
     reach-append p (signByte n ∷ (u ++ (bodyBytes b ++ v))) (state d [] Start) (state d ts (after ts)) (terms-read d h)

@@ -29,15 +29,19 @@ pub record BytesOf (bytes : List ℕ) (f : Operation) : Type 0 where
 pub data Outcome (bytes out : List ℕ) : Answer ℕ Nothing → List ℕ → Type 0 where
   no-operation : ((f : Operation) → ¬ BytesOf bytes f) → Outcome bytes out (refused 34 0 tt) out
   no-determinant : (f : Operation) → BytesOf bytes f → ¬ Unimodular (matrixOf (f .rotation)) → Outcome bytes out (refused 42 0 tt) out
-  no-room : (f : Operation) → BytesOf bytes f → Unimodular (matrixOf (f .rotation)) → length out < length (writtenLine f) → Outcome bytes out (refused 20 0 tt) out
-  written : (f : Operation) → BytesOf bytes f → Unimodular (matrixOf (f .rotation)) → length (writtenLine f) ≤ length out → Outcome bytes out (given (length (writtenLine f))) (writtenLine f ++ drop (length (writtenLine f)) out)
+  no-room : (f : Operation) → BytesOf bytes f → Unimodular (matrixOf (f .rotation)) → length out < length (writtenLine f)
+      → Outcome bytes out (refused 20 0 tt) out
+  written : (f : Operation) → BytesOf bytes f → Unimodular (matrixOf (f .rotation)) → length (writtenLine f) ≤ length out
+      → Outcome bytes out (given (length (writtenLine f))) (writtenLine f ++ drop (length (writtenLine f)) out)
 
 -- ---- the definition is one of these,
-fits : (bytes out : List ℕ) (f : Operation) → BytesOf bytes f → Unimodular (matrixOf (f .rotation)) → (t : Bool) → ltb (length out) (length (writtenLine f)) ≡ t → Outcome bytes out (writtenAnswer (cond t NoRoom (Length (length (writtenLine f))))) (cond t out (writtenLine f ++ drop (length (writtenLine f)) out))
+fits : (bytes out : List ℕ) (f : Operation) → BytesOf bytes f → Unimodular (matrixOf (f .rotation)) → (t : Bool) → ltb (length out) (length (writtenLine f)) ≡ t
+    → Outcome bytes out (writtenAnswer (cond t NoRoom (Length (length (writtenLine f))))) (cond t out (writtenLine f ++ drop (length (writtenLine f)) out))
 fits bytes out f b u true h = no-room f b u (ltb-true _ _ h)
 fits bytes out f b u false h = written f b u (ltb-false _ _ h)
 
-turns : (bytes out : List ℕ) (f : Operation) → BytesOf bytes f → (t : Bool) → writable f ≡ t → Outcome bytes out (writtenAnswer (cond t (fittedAnswer (writtenLine f) (length out)) Determinant)) (cond t (fitted (writtenLine f) out) out)
+turns : (bytes out : List ℕ) (f : Operation) → BytesOf bytes f → (t : Bool) → writable f ≡ t
+    → Outcome bytes out (writtenAnswer (cond t (fittedAnswer (writtenLine f) (length out)) Determinant)) (cond t (fitted (writtenLine f) out) out)
 turns bytes out f b true h = fits bytes out f b (writable-exactly f (b .sayable) .0 h) (ltb (length out) (length (writtenLine f))) refl
 turns bytes out f b false h = no-determinant f b (λ u. true≢false (sym (writable-exactly f (b .sayable) .1 u) ∙ h))
 
@@ -48,8 +52,10 @@ is-none f e = let z : _≡_ {A = ℕ} 1 0 = ap mark e in absurd (omega arith)
     mark (Is g) = 1
     mark Wrong = 0
 
-outcome-by : (bytes out : List ℕ) → Bytes bytes → (five : FiveBytes) → fiveBytesOf bytes ≡ five → Outcome bytes out (writtenAnswer (writtenBy five (length out))) (bufferBy five out)
-outcome-by bytes out g (Is f) e = let (same, sayable) = bytes-again bytes f g e in turns bytes out f (record { sayable = sayable; same = same }) (writable f) refl
+outcome-by : (bytes out : List ℕ) → Bytes bytes → (five : FiveBytes) → fiveBytesOf bytes ≡ five
+    → Outcome bytes out (writtenAnswer (writtenBy five (length out))) (bufferBy five out)
+outcome-by bytes out g (Is f) e = let (same, sayable) = bytes-again bytes f g e in
+    turns bytes out f (record { sayable = sayable; same = same }) (writable f) refl
 outcome-by bytes out g Wrong e = no-operation (λ f b. is-none f (sym (operation-again f (b .sayable)) ∙ ap fiveBytesOf (sym (b .same)) ∙ e))
 
 pub write-outcome : (bytes out : List ℕ) → Bytes bytes → Outcome bytes out (writtenAnswer (writeOf bytes (length out))) (bufferOf bytes out)
@@ -68,7 +74,8 @@ none-said : (bytes : List ℕ) → Bytes bytes → ((f : Operation) → ¬ Bytes
 none-said bytes g h (Is f) e = let (same, sayable) = bytes-again bytes f g e in absurd (h f (record { sayable = sayable; same = same }))
 none-said bytes g h Wrong e = refl
 
-pub only-outcome : (bytes out : List ℕ) → Bytes bytes → (answer : Answer ℕ Nothing) (after : List ℕ) → Outcome bytes out answer after → (answer ≡ writtenAnswer (writeOf bytes (length out))) × (after ≡ bufferOf bytes out)
+pub only-outcome : (bytes out : List ℕ) → Bytes bytes → (answer : Answer ℕ Nothing) (after : List ℕ) → Outcome bytes out answer after
+    → (answer ≡ writtenAnswer (writeOf bytes (length out))) × (after ≡ bufferOf bytes out)
 unfolding writeOf bufferOf
 only-outcome bytes out g answer after (no-operation h) = rw (none-said bytes g h (fiveBytesOf bytes) refl) (refl, refl)
 only-outcome bytes out g answer after (no-determinant f b u) =

@@ -22,7 +22,8 @@ pub data Before : Letter → Letter → Type 0 where
 -- Letters that ascend, the last first; at least one.
 pub data Ascending : List Term → Type 0 where
   one : (n : Bool) (l : Letter) → Ascending (signed n (letter l) ∷ [])
-  then : {m : Bool} {k : Letter} {ts : List Term} → Ascending (signed m (letter k) ∷ ts) → (n : Bool) (l : Letter) → Before k l → Ascending (signed n (letter l) ∷ signed m (letter k) ∷ ts)
+  then : {m : Bool} {k : Letter} {ts : List Term} → Ascending (signed m (letter k) ∷ ts) → (n : Bool) (l : Letter) → Before k l
+      → Ascending (signed n (letter l) ∷ signed m (letter k) ∷ ts)
 
 -- A fraction in lowest terms may follow, with a plus.
 pub data WrittenTerms : List Term → Type 0 where
@@ -77,7 +78,9 @@ unfolding twelfthsIn twelfthsThen
 letters-rest ts (one n l) = refl
 letters-rest ts (then a n l b) = letters-rest _ a
 
-moved-told : (us : List Term) → Ascending us → (p q : ℕ) → Lowest p q → rowTerms (digitIn X (signed false (fraction p q) ∷ us)) (digitIn Y (signed false (fraction p q) ∷ us)) (digitIn Z (signed false (fraction p q) ∷ us)) (twelfthsIn (signed false (fraction p q) ∷ us)) ≡ signed false (fraction p q) ∷ us
+moved-told : (us : List Term) → Ascending us → (p q : ℕ) → Lowest p q
+    → rowTerms (digitIn X (signed false (fraction p q) ∷ us)) (digitIn Y (signed false (fraction p q) ∷ us)) (digitIn Z (signed false (fraction p q) ∷ us))
+    (twelfthsIn (signed false (fraction p q) ∷ us)) ≡ signed false (fraction p q) ∷ us
 unfolding rowTerms digitIn digitThen twelfthsIn twelfthsThen
 moved-told us a p q l = ap₂ _++_ (lowest-term p q l) (letters-told us a)
 

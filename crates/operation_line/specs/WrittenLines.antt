@@ -161,9 +161,12 @@ unfolding writtenLine lineOf matrixOf
 written-form f s u =
     record {
       bytes = refl;
-      x = row-written (r .xx) (r .xy) (r .xz) (t .x) (s .x) (λ e. let (a, b, c) = zero-row (r .xx) (r .xy) (r .xz) e in not-nought A u (zero-first A (entry-nought _ a) (entry-nought _ b) (entry-nought _ c)));
-      y = row-written (r .yx) (r .yy) (r .yz) (t .y) (s .y) (λ e. let (a, b, c) = zero-row (r .yx) (r .yy) (r .yz) e in not-nought A u (zero-second A (entry-nought _ a) (entry-nought _ b) (entry-nought _ c)));
-      z = row-written (r .zx) (r .zy) (r .zz) (t .z) (s .z) (λ e. let (a, b, c) = zero-row (r .zx) (r .zy) (r .zz) e in not-nought A u (zero-third A (entry-nought _ a) (entry-nought _ b) (entry-nought _ c)));
+      x = row-written (r .xx) (r .xy) (r .xz) (t .x) (s .x)
+          (λ e. let (a, b, c) = zero-row (r .xx) (r .xy) (r .xz) e in not-nought A u (zero-first A (entry-nought _ a) (entry-nought _ b) (entry-nought _ c)));
+      y = row-written (r .yx) (r .yy) (r .yz) (t .y) (s .y)
+          (λ e. let (a, b, c) = zero-row (r .yx) (r .yy) (r .yz) e in not-nought A u (zero-second A (entry-nought _ a) (entry-nought _ b) (entry-nought _ c)));
+      z = row-written (r .zx) (r .zy) (r .zz) (t .z) (s .z)
+          (λ e. let (a, b, c) = zero-row (r .zx) (r .zy) (r .zz) e in not-nought A u (zero-third A (entry-nought _ a) (entry-nought _ b) (entry-nought _ c)));
     }
   where
     r : Rotation
@@ -195,7 +198,8 @@ unfolding plainBytes used
 first-spelt true l = spelling.then (spelling.blank spelling.none) true spelling.none (letter l) tt refl spelling.none
 first-spelt false l = spelling.unsigned spelling.none (letter l) tt spelling.none
 
-unused-letter : {m : Bool} {k : Letter} {ts : List Term} → Ascending (signed m (letter k) ∷ ts) → (l : Letter) → Before k l → used (letter l) (signed m (letter k) ∷ ts) ≡ false
+unused-letter : {m : Bool} {k : Letter} {ts : List Term} → Ascending (signed m (letter k) ∷ ts) → (l : Letter) → Before k l
+    → used (letter l) (signed m (letter k) ∷ ts) ≡ false
 unfolding used
 unused-letter (form.one n X) Y x-y = refl
 unused-letter (form.one n X) Z x-z = refl
@@ -217,11 +221,13 @@ some-letter : {ts : List Term} → Ascending ts → isEmpty ts ≡ false
 some-letter (form.one n l) = refl
 some-letter (form.then a n l b) = refl
 
-moved-spelt : {ts : List Term} → Ascending ts → (p q : ℕ) → Lowest p q → Terms (plainBytes (signed false (fraction p q) ∷ ts)) (signed false (fraction p q) ∷ ts)
+moved-spelt : {ts : List Term} → Ascending ts → (p q : ℕ) → Lowest p q
+    → Terms (plainBytes (signed false (fraction p q) ∷ ts)) (signed false (fraction p q) ∷ ts)
 unfolding plainBytes
 moved-spelt {ts} a p q l =
     let body = bodyBytes (fraction p q) in
-    let signed-body : 43 ∷ (body ++ []) ≡ signBytes (isEmpty ts) false ++ body = ap (λ (w : List ℕ). 43 ∷ w) (append-nil body) ∙ ap (λ (e : Bool). signBytes e false ++ body) (sym (some-letter a)) in
+    let signed-body : 43 ∷ (body ++ []) ≡ signBytes (isEmpty ts) false ++ body =
+    ap (λ (w : List ℕ). 43 ∷ w) (append-nil body) ∙ ap (λ (e : Bool). signBytes e false ++ body) (sym (some-letter a)) in
     subst (λ (w : List ℕ). Terms (plainBytes ts ++ w) (signed false (fraction p q) ∷ ts)) signed-body
     (spelling.then (letters-spelt a) false spelling.none (fraction p q) (l .proper) (unused-fraction p q a) spelling.none)
 

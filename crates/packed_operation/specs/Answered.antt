@@ -51,7 +51,8 @@ motion-short : (m : SpaceMotion) → Short (operationOf m .translation)
 unfolding operationOf
 motion-short m = record { x = residue-short _; y = residue-short _; z = residue-short _ }
 
-told : (b : Bool) (o : Operation) (flag n : ℕ) → Narrow (o .rotation) → Short (o .translation) → flag ≤ 1 → numbered (cond b (Inside o) Outside) flag ≡ answer.Inside n
+told : (b : Bool) (o : Operation) (flag n : ℕ) → Narrow (o .rotation) → Short (o .translation) → flag ≤ 1
+    → numbered (cond b (Inside o) Outside) flag ≡ answer.Inside n
     → (cond b (Inside o) Outside ≡ Inside (saidBy n)) × (flagOf n ≡ flag)
 unfolding numbered
 told true o flag n narrow short small p =
@@ -59,7 +60,8 @@ told true o flag n narrow short small p =
     (ap Inside (sym (number-says o flag narrow short) ∙ ap saidBy e), sym (ap flagOf e) ∙ flag-said o flag narrow short small)
 told false o flag n narrow short small p = let h : _≡_ {A = ℕ} 0 1 = cc in absurd (omega arith)
 
-pub inside-says : (f g : Operation) (flag n : ℕ) → flag ≤ 1 → numbered (productOf f g) flag ≡ answer.Inside n → (productOf f g ≡ Inside (saidBy n)) × (flagOf n ≡ flag)
+pub inside-says : (f g : Operation) (flag n : ℕ) → flag ≤ 1 → numbered (productOf f g) flag ≡ answer.Inside n
+    → (productOf f g ≡ Inside (saidBy n)) × (flagOf n ≡ flag)
 unfolding productOf
 inside-says f g flag n small p =
     let m = compose (motionOf f) (motionOf g) in

@@ -99,7 +99,9 @@ module _ (a b c d e f g h i : ℕ) (upper : Small a b c) (middle : Small d e f) 
       let z = rowOf g h i in
       let first = ap rowDigits (lanes-first x y z) ∙ row-fields a b c _ (upper .first) (upper .second) (upper .third) in
       let second = ap rowDigits (lanes-second x y z (row-small a b c upper)) ∙ row-fields d e f _ (middle .first) (middle .second) (middle .third) in
-      let third = ap rowDigits (lanes-third x y z (row-small a b c upper) (row-small d e f middle)) ∙ row-fields g h i 0 (lower .first) (lower .second) (lower .third) in
+      let third =
+      ap rowDigits (lanes-third x y z (row-small a b c upper) (row-small d e f middle))
+      ∙ row-fields g h i 0 (lower .first) (lower .second) (lower .third) in
       rw (first, second, third) refl
     where
       lanes-first : (x y z : ℕ) → lanesOf x y z ≡ x + (y * 64 + z * 134217728) * 32768
@@ -121,7 +123,8 @@ module _ (a b c d e f g h i : ℕ) (upper : Small a b c) (middle : Small d e f) 
   unfolding eightsOf
   eights-fields = rw key-fields (omega (arith, whole-parts))
 
-  pub eights-apart : eightsOf whole ≡ 37189899031421192 → (rowOf (a / 4) (b / 4) (c / 4) ≡ 2114) × (rowOf (d / 4) (e / 4) (f / 4) ≡ 2114) × (rowOf (g / 4) (h / 4) (i / 4) ≡ 2114)
+  pub eights-apart : eightsOf whole ≡ 37189899031421192
+      → (rowOf (a / 4) (b / 4) (c / 4) ≡ 2114) × (rowOf (d / 4) (e / 4) (f / 4) ≡ 2114) × (rowOf (g / 4) (h / 4) (i / 4) ≡ 2114)
   eights-apart t =
       apart _ _ _ (row-small _ _ _ (eighth a b c upper)) (row-small _ _ _ (eighth d e f middle)) (row-small _ _ _ (eighth g h i lower)) (sym eights-fields ∙ t)
     where
@@ -137,7 +140,8 @@ module _ (a b c d e f g h i : ℕ) (upper : Small a b c) (middle : Small d e f) 
             sym (third-lane x y z (omega arith) (omega arith)) ∙ ap (λ m. m / 4398046511104) l,
           )
 
-  pub eights-together : rowOf (a / 4) (b / 4) (c / 4) ≡ 2114 → rowOf (d / 4) (e / 4) (f / 4) ≡ 2114 → rowOf (g / 4) (h / 4) (i / 4) ≡ 2114 → eightsOf whole ≡ 37189899031421192
+  pub eights-together : rowOf (a / 4) (b / 4) (c / 4) ≡ 2114 → rowOf (d / 4) (e / 4) (f / 4) ≡ 2114 → rowOf (g / 4) (h / 4) (i / 4) ≡ 2114
+      → eightsOf whole ≡ 37189899031421192
   eights-together hx hy hz = eights-fields ∙ together _ _ _ hx hy hz
     where
       together : (x y z : ℕ) → x ≡ 2114 → y ≡ 2114 → z ≡ 2114 → lanesOf x y z * 4 ≡ 37189899031421192
@@ -167,7 +171,8 @@ module _ (p q s : ℤ) (e f g : ℕ) (first : Field p e) (second : Field q f) (t
       let sm = fields-small in
       let sn = fields-small-next in
       let (ea, fa, ga) = row-two (e / 4) (f / 4) (g / 4) (omega (arith, sm .first)) (omega (arith, sm .second)) (omega (arith, sm .third)) h in
-      let (eb, fb, gb) = row-two ((e + 1) / 4) ((f + 1) / 4) ((g + 1) / 4) (omega (arith, sn .first)) (omega (arith, sn .second)) (omega (arith, sn .third)) k in
+      let (eb, fb, gb) =
+      row-two ((e + 1) / 4) ((f + 1) / 4) ((g + 1) / 4) (omega (arith, sn .first)) (omega (arith, sn .second)) (omega (arith, sn .third)) k in
       let dp = first .digit (omega (arith, ea)) (omega (arith, ea, eb)) in
       let dq = second .digit (omega (arith, fa)) (omega (arith, fa, fb)) in
       let ds = third .digit (omega (arith, ga)) (omega (arith, ga, gb)) in

@@ -73,7 +73,8 @@ module _ (f g : Operation) (narrow : Narrow (f .rotation)) (short : Short (f .tr
       let r = f .rotation in
       let u = g .translation in
       let t = f .translation in
-      sym (λ i. lanesOf (moved-residue (r .xx) (r .xy) (r .xz) (u .x) (u .y) (u .z) (t .x) i) (moved-residue (r .yx) (r .yy) (r .yz) (u .x) (u .y) (u .z) (t .y) i) (moved-residue (r .zx) (r .zy) (r .zz) (u .x) (u .y) (u .z) (t .z) i))
+      sym (λ i. lanesOf (moved-residue (r .xx) (r .xy) (r .xz) (u .x) (u .y) (u .z) (t .x) i)
+      (moved-residue (r .yx) (r .yy) (r .yz) (u .x) (u .y) (u .z) (t .y) i) (moved-residue (r .zx) (r .zy) (r .zz) (u .x) (u .y) (u .z) (t .z) i))
 
   step : bytesOf (sumLanes f g * 683 / 8192) * 12 + movedLanes f g ≡ sumLanes f g
   step = ap (λ n. bytesOf (sumLanes f g * 683 / 8192) * 12 + n) (sym remainders-are) ∙ lanes-reduced x y z hx hy hz

@@ -14,7 +14,8 @@ use Rattle.packed_operation.specs.Fields.{first-digit, second-digit, thi
 use Rattle.packed_operation.specs.Moved.{Short}
 
 -- ---- a number of rows with something above each
-module _ (a b c d e f g h i l m n : ℕ) (whole : ℕ) (upper : whole ≡ rowOf a b c + l * 32768) (middle : whole / 2097152 ≡ rowOf d e f + m * 32768) (lower : whole / 4398046511104 ≡ rowOf g h i + n * 32768) where
+module _ (a b c d e f g h i l m n : ℕ) (whole : ℕ) (upper : whole ≡ rowOf a b c + l * 32768) (middle : whole / 2097152
+    ≡ rowOf d e f + m * 32768) (lower : whole / 4398046511104 ≡ rowOf g h i + n * 32768) where
   swapped : (k : ℕ) → k / 32 / 2097152 ≡ k / 2097152 / 32
   swapped k = omega arith
 
@@ -27,7 +28,8 @@ module _ (a b c d e f g h i l m n : ℕ) (whole : ℕ) (upper : whole ≡ rowOf 
   swapped-third-more : (k : ℕ) → k / 1024 / 4398046511104 ≡ k / 4398046511104 / 1024
   swapped-third-more k = omega arith
 
-  rows-said : (r : Rotation) → Narrow r → a ≡ r .xx → b ≡ r .xy → c ≡ r .xz → d ≡ r .yx → e ≡ r .yy → f ≡ r .yz → g ≡ r .zx → h ≡ r .zy → i ≡ r .zz → rotationSaid whole ≡ r
+  rows-said : (r : Rotation) → Narrow r → a ≡ r .xx → b ≡ r .xy → c ≡ r .xz → d ≡ r .yx → e ≡ r .yy → f ≡ r .yz → g ≡ r .zx → h ≡ r .zy → i ≡ r .zz
+      → rotationSaid whole ≡ r
   rows-said r narrow ea eb ec ed ee ef eg eh ei =
       rotation≡
       (ap (λ k. k % 4) upper ∙ first-digit a b c l sa sb sc (omega (arith, narrow .xx)) ∙ ea)
@@ -75,13 +77,16 @@ module _ (o : Operation) (flag : ℕ) (narrow : Narrow (o .rotation)) (short : S
   abbrev t : Translation
   t = o .translation
 
-  first : (x y z p q s k : ℕ) → lanesOf x y z + lanesOf p q s * 32768 + k * 9223372036854775808 ≡ x + (p + (y + q * 32768) * 64 + (z + s * 32768) * 134217728 + k * 281474976710656) * 32768
+  first : (x y z p q s k : ℕ) → lanesOf x y z + lanesOf p q s * 32768 + k * 9223372036854775808
+      ≡ x + (p + (y + q * 32768) * 64 + (z + s * 32768) * 134217728 + k * 281474976710656) * 32768
   first x y z p q s k = omega arith
 
-  second : (x y z p q s k : ℕ) → x ≤ 3171 → p ≤ 15 → (lanesOf x y z + lanesOf p q s * 32768 + k * 9223372036854775808) / 2097152 ≡ y + (q + (z + s * 32768) * 64 + k * 134217728) * 32768
+  second : (x y z p q s k : ℕ) → x ≤ 3171 → p ≤ 15
+      → (lanesOf x y z + lanesOf p q s * 32768 + k * 9223372036854775808) / 2097152 ≡ y + (q + (z + s * 32768) * 64 + k * 134217728) * 32768
   second x y z p q s k hx hp = omega arith
 
-  third : (x y z p q s k : ℕ) → x ≤ 3171 → p ≤ 15 → y ≤ 3171 → q ≤ 15 → (lanesOf x y z + lanesOf p q s * 32768 + k * 9223372036854775808) / 4398046511104 ≡ z + (s + k * 64) * 32768
+  third : (x y z p q s k : ℕ) → x ≤ 3171 → p ≤ 15 → y ≤ 3171 → q ≤ 15
+      → (lanesOf x y z + lanesOf p q s * 32768 + k * 9223372036854775808) / 4398046511104 ≡ z + (s + k * 64) * 32768
   third x y z p q s k hx hp hy hq = omega arith
 
   hx : rowOf (r .xx) (r .xy) (r .xz) ≤ 3171
@@ -115,7 +120,8 @@ module _ (o : Operation) (flag : ℕ) (narrow : Narrow (o .rotation)) (short : S
   unfolding flagOf
   flag-said h = whole _ _ _ _ _ _ flag hx hy hz (short .x) (short .y) (short .z) h
     where
-      whole : (x y z p q s k : ℕ) → x ≤ 3171 → y ≤ 3171 → z ≤ 3171 → p ≤ 15 → q ≤ 15 → s ≤ 15 → k ≤ 1 → (lanesOf x y z + lanesOf p q s * 32768 + k * 9223372036854775808) / 9223372036854775808 % 2 ≡ k
+      whole : (x y z p q s k : ℕ) → x ≤ 3171 → y ≤ 3171 → z ≤ 3171 → p ≤ 15 → q ≤ 15 → s ≤ 15 → k ≤ 1
+          → (lanesOf x y z + lanesOf p q s * 32768 + k * 9223372036854775808) / 9223372036854775808 % 2 ≡ k
       whole x y z p q s k hx hy hz hp hq hs hk =
           let e : (lanesOf x y z + lanesOf p q s * 32768 + k * 9223372036854775808) / 9223372036854775808 ≡ k = omega arith in
           rw e (omega arith)
@@ -131,9 +137,15 @@ module _ (o : Operation) (flag : ℕ) (narrow : Narrow (o .rotation)) (short : S
 
   translation-said : translationSaid (packedOf o flag) ≡ t
   translation-said =
-      let x = ap (λ k. k / 32768 % 16) (first _ _ _ _ _ _ flag) ∙ ap (λ k. k % 16) (above-row (r .xx) (r .xy) (r .xz) _ (omega (arith, narrow .xx)) (omega (arith, narrow .xy)) (omega (arith, narrow .xz))) ∙ twelfths-above flag _ _ _ (short .x) in
-      let y = ap (λ k. k % 16) (swap (packedOf o flag)) ∙ ap (λ k. k / 32768 % 16) (second _ _ _ _ _ _ flag hx (short .x)) ∙ ap (λ k. k % 16) (above-row (r .yx) (r .yy) (r .yz) _ (omega (arith, narrow .yx)) (omega (arith, narrow .yy)) (omega (arith, narrow .yz))) ∙ twelfths-above-second flag _ _ (short .y) in
-      let z = ap (λ k. k % 16) (swap-more (packedOf o flag)) ∙ ap (λ k. k / 32768 % 16) (third _ _ _ _ _ _ flag hx (short .x) hy (short .y)) ∙ ap (λ k. k % 16) (above-row (r .zx) (r .zy) (r .zz) _ (omega (arith, narrow .zx)) (omega (arith, narrow .zy)) (omega (arith, narrow .zz))) ∙ twelfths-above-third flag _ (short .z) in
+      let x = ap (λ k. k / 32768 % 16) (first _ _ _ _ _ _ flag)
+      ∙ ap (λ k. k % 16) (above-row (r .xx) (r .xy) (r .xz) _ (omega (arith, narrow .xx)) (omega (arith, narrow .xy)) (omega (arith, narrow .xz)))
+      ∙ twelfths-above flag _ _ _ (short .x) in
+      let y = ap (λ k. k % 16) (swap (packedOf o flag)) ∙ ap (λ k. k / 32768 % 16) (second _ _ _ _ _ _ flag hx (short .x))
+      ∙ ap (λ k. k % 16) (above-row (r .yx) (r .yy) (r .yz) _ (omega (arith, narrow .yx)) (omega (arith, narrow .yy)) (omega (arith, narrow .yz)))
+      ∙ twelfths-above-second flag _ _ (short .y) in
+      let z = ap (λ k. k % 16) (swap-more (packedOf o flag)) ∙ ap (λ k. k / 32768 % 16) (third _ _ _ _ _ _ flag hx (short .x) hy (short .y))
+      ∙ ap (λ k. k % 16) (above-row (r .zx) (r .zy) (r .zz) _ (omega (arith, narrow .zx)) (omega (arith, narrow .zy)) (omega (arith, narrow .zz)))
+      ∙ twelfths-above-third flag _ (short .z) in
       λ i. record { x = x i; y = y i; z = z i }
     where
       swap : (k : ℕ) → k / 32768 / 2097152 ≡ k / 2097152 / 32768
@@ -171,9 +183,15 @@ key-exactly m n = (there, λ p. key-said m ∙ ap keyed p ∙ sym (key-said n))
         let yr = row-small _ _ _ (u .yx) (u .yy) (u .yz) in
         let xs = row-small _ _ _ (v .xx) (v .xy) (v .xz) in
         let ys = row-small _ _ _ (v .yx) (v .yy) (v .yz) in
-        let (xx, xy, xz) = rows-equal _ _ _ _ _ _ (u .xx) (u .xy) (u .xz) (v .xx) (v .xy) (v .xz) (sym (first-lane _ _ _ xr yr) ∙ ap (λ k. k % 2097152) p ∙ first-lane _ _ _ xs ys) in
-        let (yx, yy, yz) = rows-equal _ _ _ _ _ _ (u .yx) (u .yy) (u .yz) (v .yx) (v .yy) (v .yz) (sym (second-lane _ _ _ xr yr) ∙ ap (λ k. k / 2097152 % 2097152) p ∙ second-lane _ _ _ xs ys) in
-        let (zx, zy, zz) = rows-equal _ _ _ _ _ _ (u .zx) (u .zy) (u .zz) (v .zx) (v .zy) (v .zz) (sym (third-lane _ _ _ xr yr) ∙ ap (λ k. k / 4398046511104) p ∙ third-lane _ _ _ xs ys) in
+        let (xx, xy, xz) =
+        rows-equal _ _ _ _ _ _ (u .xx) (u .xy) (u .xz) (v .xx) (v .xy) (v .xz)
+        (sym (first-lane _ _ _ xr yr) ∙ ap (λ k. k % 2097152) p ∙ first-lane _ _ _ xs ys) in
+        let (yx, yy, yz) =
+        rows-equal _ _ _ _ _ _ (u .yx) (u .yy) (u .yz) (v .yx) (v .yy) (v .yz)
+        (sym (second-lane _ _ _ xr yr) ∙ ap (λ k. k / 2097152 % 2097152) p ∙ second-lane _ _ _ xs ys) in
+        let (zx, zy, zz) =
+        rows-equal _ _ _ _ _ _ (u .zx) (u .zy) (u .zz) (v .zx) (v .zy) (v .zz)
+        (sym (third-lane _ _ _ xr yr) ∙ ap (λ k. k / 4398046511104) p ∙ third-lane _ _ _ xs ys) in
         rotation≡ xx xy xz yx yy yz zx zy zz
 
     there : keyOf m ≡ keyOf n → rotationSaid m ≡ rotationSaid n

@@ -45,7 +45,8 @@ pair-test = refl
 pair-range : (a x : ℕ) → a ≤ 3 → x ≤ 3 → (a + x ≤ a * x + 3) × (a * x ≤ a + x + 3)
 pair-range a x h k =
     let row = below 4 (λ a. allBelow 4 (λ x. leb (a + x) (a * x + 3) && leb (a * x) (a + x + 3))) pair-test a (omega arith) in
-    let t = and-eq-true-iff (leb (a + x) (a * x + 3)) (leb (a * x) (a + x + 3)) .0 (below 4 (λ x. leb (a + x) (a * x + 3) && leb (a * x) (a + x + 3)) row x (omega arith)) in
+    let t = and-eq-true-iff (leb (a + x) (a * x + 3)) (leb (a * x) (a + x + 3)) .0
+    (below 4 (λ x. leb (a + x) (a * x + 3) && leb (a * x) (a + x + 3)) row x (omega arith)) in
     (leb-true _ _ (t .0), leb-true _ _ (t .1))
 
 -- A field and the entry that it stands for.
@@ -75,15 +76,18 @@ module _ (a b c x y z : ℕ) (ha : a ≤ 3) (hb : b ≤ 3) (hc : c ≤ 3) (hx : 
       }
 
 -- ---- the nine sums
-less-lanes : (p q r s t u k x y z : ℕ) → (s + t * 2097152 + u * 4398046511104) * 1057 ≤ 55784848547131788 → x + (s * 1057 + k) ≡ p + 12684 → y + (t * 1057 + k) ≡ q + 12684 → z + (u * 1057 + k) ≡ r + 12684
+less-lanes : (p q r s t u k x y z : ℕ) → (s + t * 2097152 + u * 4398046511104) * 1057 ≤ 55784848547131788 → x + (s * 1057 + k) ≡ p + 12684
+    → y + (t * 1057 + k) ≡ q + 12684 → z + (u * 1057 + k) ≡ r + 12684
     → lanesOf p q r + (55784848547131788 - lanesOf s t u * 1057) - k * 4398048608257 ≡ lanesOf x y z
 less-lanes p q r s t u k x y z h hx hy hz = omega arith
 
-cover-lanes : (p q r s t u k x y z : ℕ) → (s + t * 2097152 + u * 4398046511104) * 1057 ≤ 55784848547131788 → x + (s * 1057 + k) ≡ p + 12684 → y + (t * 1057 + k) ≡ q + 12684 → z + (u * 1057 + k) ≡ r + 12684
+cover-lanes : (p q r s t u k x y z : ℕ) → (s + t * 2097152 + u * 4398046511104) * 1057 ≤ 55784848547131788 → x + (s * 1057 + k) ≡ p + 12684
+    → y + (t * 1057 + k) ≡ q + 12684 → z + (u * 1057 + k) ≡ r + 12684
     → k * 4398048608257 ≤ lanesOf p q r + (55784848547131788 - lanesOf s t u * 1057)
 cover-lanes p q r s t u k x y z h hx hy hz = omega arith
 
-pub sum-lanes : (a b c d e f g h i : ℕ) → lanesOf a b c + lanesOf d e f + lanesOf g h i ≡ lanesOf (a * 1 + d * 1 + g * 1) (b * 1 + e * 1 + h * 1) (c * 1 + f * 1 + i * 1)
+pub sum-lanes : (a b c d e f g h i : ℕ)
+    → lanesOf a b c + lanesOf d e f + lanesOf g h i ≡ lanesOf (a * 1 + d * 1 + g * 1) (b * 1 + e * 1 + h * 1) (c * 1 + f * 1 + i * 1)
 sum-lanes a b c d e f g h i = omega arith
 
 pub record Narrow (r : Rotation) : Type 0 where
@@ -121,9 +125,15 @@ module _ (s : Rotation) (narrow : Narrow s) where
   abbrev third : ℕ
   third = rowOf (s .zx) (s .zy) (s .zz)
 
-  row-sum : (a b c : ℕ) → a ≤ 3 → b ≤ 3 → c ≤ 3 → rowTimes a b c s + ((a * 1 + b * 1 + c * 1) * 1057 + (first + second + third)) ≡ (a * first + b * second + c * third) + 12684
+  row-sum : (a b c : ℕ) → a ≤ 3 → b ≤ 3 → c ≤ 3
+      → rowTimes a b c s + ((a * 1 + b * 1 + c * 1) * 1057 + (first + second + third)) ≡ (a * first + b * second + c * third) + 12684
   row-sum a b c ha hb hc =
-      omega (arith, field-sum a b c (s .xx) (s .yx) (s .zx) ha hb hc (narrow .xx) (narrow .yx) (narrow .zx), field-sum a b c (s .xy) (s .yy) (s .zy) ha hb hc (narrow .xy) (narrow .yy) (narrow .zy), field-sum a b c (s .xz) (s .yz) (s .zz) ha hb hc (narrow .xz) (narrow .yz) (narrow .zz))
+      omega (
+        arith,
+        field-sum a b c (s .xx) (s .yx) (s .zx) ha hb hc (narrow .xx) (narrow .yx) (narrow .zx),
+        field-sum a b c (s .xy) (s .yy) (s .zy) ha hb hc (narrow .xy) (narrow .yy) (narrow .zy),
+        field-sum a b c (s .xz) (s .yz) (s .zz) ha hb hc (narrow .xz) (narrow .yz) (narrow .zz),
+      )
 
   pub rows-lanes : (r : Rotation) → Narrow r
       → rowsTimes r first second third + (55784848547131788 - rowsTimes r 1 1 1 * 1057) - (first + second + third) * 4398048608257 ≡ raisedRows r s
@@ -134,7 +144,8 @@ module _ (s : Rotation) (narrow : Narrow s) where
       (row-sum _ _ _ (small .yx) (small .yy) (small .yz))
       (row-sum _ _ _ (small .zx) (small .zy) (small .zz))
 
-  rows-cover : (r : Rotation) → Narrow r → (first + second + third) * 4398048608257 ≤ rowsTimes r first second third + (55784848547131788 - rowsTimes r 1 1 1 * 1057)
+  rows-cover : (r : Rotation) → Narrow r
+      → (first + second + third) * 4398048608257 ≤ rowsTimes r first second third + (55784848547131788 - rowsTimes r 1 1 1 * 1057)
   rows-cover r small =
       cover-lanes _ _ _ _ _ _ _ _ _ _
       (omega (arith, small .xx, small .xy, small .xz, small .yx, small .yy, small .yz, small .zx, small .zy, small .zz))
@@ -143,7 +154,8 @@ module _ (s : Rotation) (narrow : Narrow s) where
       (row-sum _ _ _ (small .zx) (small .zy) (small .zz))
 
   -- The same of numbers that are these.
-  module _ (r : Rotation) (small : Narrow r) (a b c p q : ℕ) (ea : a ≡ first) (eb : b ≡ second) (ec : c ≡ third) (ep : p ≡ rowsTimes r first second third) (eq : q ≡ rowsTimes r 1 1 1) where
+  module _ (r : Rotation) (small : Narrow r) (a b c p q : ℕ) (ea : a ≡ first) (eb : b ≡ second) (ec : c ≡ third) (ep : p
+      ≡ rowsTimes r first second third) (eq : q ≡ rowsTimes r 1 1 1) where
     pub numbers-cover : (a + b + c) * 4398048608257 ≤ p + (55784848547131788 - q * 1057)
     numbers-cover = rw (ea, eb, ec, ep, eq) (rows-cover r small)
 

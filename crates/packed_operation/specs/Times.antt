@@ -159,11 +159,13 @@ module _ (f g : Operation) (flag : ℕ) (left : Narrow (f .rotation)) (right : N
   unfolding productOf product motionOf
   product-outside off = sym (refused _ _ flag (λ h. off (passes (f .rotation) (g .rotation) left right h)))
 
-  pub product-outside-next : (eightsOf (raisedRows (f .rotation) (g .rotation) + 4648737378927649) ≡ 37189899031421192 → ⊥) → answer.Outside ≡ numbered (productOf f g) flag
+  pub product-outside-next : (eightsOf (raisedRows (f .rotation) (g .rotation) + 4648737378927649) ≡ 37189899031421192 → ⊥)
+      → answer.Outside ≡ numbered (productOf f g) flag
   unfolding productOf product motionOf
   product-outside-next off = sym (refused _ _ flag (λ h. off (passes-next (f .rotation) (g .rotation) left right h)))
 
-  pub product-inside : eightsOf (raisedRows (f .rotation) (g .rotation)) ≡ 37189899031421192 → eightsOf (raisedRows (f .rotation) (g .rotation) + 4648737378927649) ≡ 37189899031421192
+  pub product-inside : eightsOf (raisedRows (f .rotation) (g .rotation)) ≡ 37189899031421192
+      → eightsOf (raisedRows (f .rotation) (g .rotation) + 4648737378927649) ≡ 37189899031421192
       → answer.Inside (keyOf (raisedRows (f .rotation) (g .rotation)) + movedLanes f g * 32768 + flag * 9223372036854775808) ≡ numbered (productOf f g) flag
   unfolding productOf product motionOf operationOf movedLanes times matrixOf
   product-inside h k =

@@ -1,5 +1,7 @@
-// An operation as one number of 64 bits, and the product of two numbers. A row of the rotation and its coordinate stand in a lane of 21 bits: three digits of two
-// bits, five bits apart, then four bits of twelfths; the highest bit is a flag. Fields are narrow, so no sum leaves its lane, and nothing is required of a number.
+// An operation as one number of 64 bits, and the product of two numbers. A row of the rotation and its coordinate stand in a lane of 21 bits: three digits of
+// two
+// bits, five bits apart, then four bits of twelfths; the highest bit is a flag. Fields are narrow, so no sum leaves its lane, and nothing is required of a
+// number.
 ghost use mathlib.Core.Path.{_≡_};
 ghost use Prim.Native.Nat.{_+_, _*_, _/_, _%_, _≤_};
 ghost use Rattle.operation.specs.Lanes.{lanesOf, rowsTimes};
@@ -147,7 +149,8 @@ fn row_sums(f: u64) -> u64
     digits(f) + digits(f / 32) + digits(f / 1024)
 }
 
-// The nine sums of a product of rotations, each in its field: Σ(a−1)(x−1) + 9 is Σax + 12 less Σ(a+x). A row of the right factor is three digits in one number, so
+// The nine sums of a product of rotations, each in its field: Σ(a−1)(x−1) + 9 is Σax + 12 less Σ(a+x). A row of the right factor is three digits in one number,
+// so
 // three multiplications make them all.
 fn rotations(f: u64, g: u64) -> u64
     ensures { λ n. ⌜ (n ≡ raisedRows (rotationSaid f) (rotationSaid g)) × (n ≤ 139462121367829470) ⌝ }

@@ -78,7 +78,8 @@ unfolding put
 put-start out at text = record { bytes = refl; place = refl }
 
 -- at each,
-pub put-next : (out : List ℕ) (at : ℕ) (text now : List ℕ) (i : ℕ) → i < length text → Put out at (take i text) now (at + i) → Put out at (take (i + 1) text) (set now (at + i) (getD text i 0)) (at + (i + 1))
+pub put-next : (out : List ℕ) (at : ℕ) (text now : List ℕ) (i : ℕ) → i < length text → Put out at (take i text) now (at + i)
+    → Put out at (take (i + 1) text) (set now (at + i) (getD text i 0)) (at + (i + 1))
 put-next out at text now i h p =
     let more : take i text ++ (getD text i 0 ∷ []) ≡ take (i + 1) text = sym (ap (λ (k : ℕ). take k text) (add-one i) ∙ take-suc text i 0 h) in
     let end : at + i + 1 ≡ at + (i + 1) = omega arith in

@@ -68,7 +68,8 @@ module _ (c : Centering) where
   off-before [] j h = absurd (omega arith)
   off-before (g ∷ gens) j h = by-test (keepsOf c (g .rotation)) refl j h (off-before gens)
     where
-      by-test : (b : Bool) → keepsOf c (g .rotation) ≡ b → (j : ℕ) → j < cond b (suc (firstOff c gens)) zero → ((k : ℕ) → k < firstOff c gens → keptAt c gens k ≡ true) → keptAt c (g ∷ gens) j ≡ true
+      by-test : (b : Bool) → keepsOf c (g .rotation) ≡ b → (j : ℕ) → j < cond b (suc (firstOff c gens)) zero
+          → ((k : ℕ) → k < firstOff c gens → keptAt c gens k ≡ true) → keptAt c (g ∷ gens) j ≡ true
       by-test true e zero h later = e
       by-test true e (suc j) h later = later j (omega arith)
       by-test false e j h later = absurd (omega arith)
@@ -79,7 +80,8 @@ module _ (c : Centering) where
   off-at [] h = absurd (omega arith)
   off-at (g ∷ gens) h = by-test (keepsOf c (g .rotation)) refl h (off-at gens)
     where
-      by-test : (b : Bool) → keepsOf c (g .rotation) ≡ b → cond b (suc (firstOff c gens)) zero < suc (length gens) → (firstOff c gens < length gens → keptAt c gens (firstOff c gens) ≡ false) → keptAt c (g ∷ gens) (cond b (suc (firstOff c gens)) zero) ≡ false
+      by-test : (b : Bool) → keepsOf c (g .rotation) ≡ b → cond b (suc (firstOff c gens)) zero < suc (length gens)
+          → (firstOff c gens < length gens → keptAt c gens (firstOff c gens) ≡ false) → keptAt c (g ∷ gens) (cond b (suc (firstOff c gens)) zero) ≡ false
       by-test true e h later = later (omega arith)
       by-test false e h later = e
 
@@ -116,7 +118,8 @@ module _ (c : Centering) where
       where
         exactly : FirstOff c gens i → firstOff c gens ≡ i
         exactly F = elim (decLt (firstOff c gens) i) [
-          | yes h ↦ let k : firstOff c gens < length gens = omega (arith, F .within) in absurd (false≢true (sym (off-at gens k) ∙ kept-onto (firstOff c gens) k .1 (F .before (firstOff c gens) h)))
+          | yes h ↦ let k : firstOff c gens < length gens = omega (arith, F .within) in
+              absurd (false≢true (sym (off-at gens k) ∙ kept-onto (firstOff c gens) k .1 (F .before (firstOff c gens) h)))
           | no h ↦ elim (decLt i (firstOff c gens)) [
             | yes k ↦ absurd (F .off (kept-onto i (F .within) .0 (off-before gens i k)))
             | no k ↦ omega arith
@@ -133,7 +136,8 @@ has-rotation f (g ∷ l) = rw (has-rotation f l)
 -- Motions with different rotations have different rotations.
 pub distinct-rotations : {l : List SpaceMotion} → Distinct sameRotation l → Distinct sameMatrix (map (λ f. f .rotation) l)
 distinct-rotations nil = nil
-distinct-rotations (cons {x = f} {l} new d) = cons (λ (t : T (has sameMatrix (f .rotation) (map (λ g. g .rotation) l))). new (rw (has-rotation f l) at t)) (distinct-rotations d)
+distinct-rotations (cons {x = f} {l} new d) =
+    cons (λ (t : T (has sameMatrix (f .rotation) (map (λ g. g .rotation) l))). new (rw (has-rotation f l) at t)) (distinct-rotations d)
 
 pub rotations-distinct : (l : List SpaceMotion) → Distinct sameMatrix (map (λ f. f .rotation) l) → Distinct sameRotation l
 rotations-distinct [] d = nil
@@ -141,7 +145,8 @@ rotations-distinct (f ∷ l) (cons new d) = cons (λ t. new (rw (has-rotation f 
 
 module _ (gens : List Operation) where
   -- Generated rotations are those of generated motions.
-  pub chosen : (l : List Matrix) → ((A : Matrix) → Mem A l → GeneratedRotation gens A) → (m : List SpaceMotion) × (map (λ f. f .rotation) m ≡ l) × ((f : SpaceMotion) → Mem f m → Generated gens f)
+  pub chosen : (l : List Matrix) → ((A : Matrix) → Mem A l → GeneratedRotation gens A)
+      → (m : List SpaceMotion) × (map (λ f. f .rotation) m ≡ l) × ((f : SpaceMotion) → Mem f m → Generated gens f)
   chosen [] each = ([], refl, λ f m. absurd (not-nil m))
   chosen (A ∷ l) each =
       let (f, r, p) = each A (here refl) in
@@ -149,7 +154,8 @@ module _ (gens : List Operation) where
       (f ∷ m, ap₂ (λ B k. B ∷ k) p q, λ g k. elim (cases k) [ inl e ↦ rw e r | inr h ↦ s g h ])
 
   -- The rotations of generated motions are generated.
-  pub rotations-generated : (m : List SpaceMotion) → ((f : SpaceMotion) → Mem f m → Generated gens f) → (R : Matrix) → Mem R (map (λ f. f .rotation) m) → GeneratedRotation gens R
+  pub rotations-generated : (m : List SpaceMotion) → ((f : SpaceMotion) → Mem f m → Generated gens f) → (R : Matrix) → Mem R (map (λ f. f .rotation) m)
+      → GeneratedRotation gens R
   rotations-generated m each R k = let (f, h, p) = mem-of-map (λ f. f .rotation) m k in (f, each f h, p)
 
   module _ (l : List SpaceMotion) (e : listing gens ≡ some l) where
@@ -171,7 +177,11 @@ module _ (c : Centering) (gens : List Operation) where
     (λ few l distinct each.
         let (m, p, s) = chosen gens l each in
         omega (arith, few m (rotations-distinct m (rw p distinct)) s, length-map m (λ f. f .rotation), ap length p)),
-    λ few m distinct s. omega (arith, length-map m (λ f. f .rotation), few (map (λ f. f .rotation) m) (distinct-rotations distinct) (rotations-generated gens m s)),
+    λ few m distinct s. omega (
+      arith,
+      length-map m (λ f. f .rotation),
+      few (map (λ f. f .rotation) m) (distinct-rotations distinct) (rotations-generated gens m s),
+    ),
   )
 
   -- entries in −1..1 are the test,
@@ -244,7 +254,8 @@ whole-accepted c gens keep l operations steps e W =
     }
 
 -- and the other way round.
-pub accepted-whole : (c : Centering) (gens operations : List Operation) (steps : List ℕ) (A : Accepted c gens operations steps) → Whole (motionGrowth c) (motions gens) 48 (A .list) steps
+pub accepted-whole : (c : Centering) (gens operations : List Operation) (steps : List ℕ) (A : Accepted c gens operations steps)
+    → Whole (motionGrowth c) (motions gens) 48 (A .list) steps
 unfolding listing
 accepted-whole c gens operations steps A =
     record {
@@ -255,13 +266,16 @@ accepted-whole c gens operations steps A =
       one = one-translation c gens .1 (A .one);
     }
 
-course-group : {c : Centering} {gens : List Operation} {o : Outcome} → Course c gens o → (operations : List Operation) (steps : List ℕ) → o ≡ group operations steps → Accepted c gens operations steps
+course-group : {c : Centering} {gens : List Operation} {o : Outcome} → Course c gens o → (operations : List Operation) (steps : List ℕ)
+    → o ≡ group operations steps → Accepted c gens operations steps
 course-group (off F) operations steps e = let z : _≡_ {A = ℕ} 0 1 = cc in absurd (omega arith)
 course-group {c} {gens} (kept keep) operations steps e =
     let (l, q, p) = group-listed (verdictOf c gens) operations steps e in
     whole-accepted c gens keep l operations steps p (listed-whole (motionGrowth c) (motions gens) (motions-keep c gens keep) 48 l steps q)
 
-course-accepted : {c : Centering} {gens : List Operation} {o : Outcome} → Course c gens o → AllKeep c gens × FewRotations gens × SmallRotations gens × OneTranslation c gens → (operations : List Operation) × (steps : List ℕ) × (o ≡ group operations steps)
+course-accepted : {c : Centering} {gens : List Operation} {o : Outcome} → Course c gens o
+    → AllKeep c gens × FewRotations gens × SmallRotations gens × OneTranslation c gens
+    → (operations : List Operation) × (steps : List ℕ) × (o ≡ group operations steps)
 course-accepted {c} {gens} (off F) (keep, few, small, one) = absurd (off-keep c gens F keep)
 course-accepted {c} {gens} (kept keep) (_, few, small, one) =
     let exactly = listed-exactly (motionGrowth c) (motions gens) (motions-keep c gens keep) 48 in
@@ -272,7 +286,8 @@ course-lattice : {c : Centering} {gens : List Operation} {o : Outcome} → Cours
 course-lattice {c} {gens} (off {i = j} F) i = ((λ e. let z : j ≡ i = cc in rw z at F), λ H. ap (λ k. refused (Lattice k)) (off-once c gens F H))
 course-lattice {c} {gens} (kept keep) i = ((λ e. absurd (never-lattice (verdictOf c gens) i e)), λ H. absurd (off-keep c gens H keep))
 
-course-rotations : {c : Centering} {gens : List Operation} {o : Outcome} → Course c gens o → (o ≡ refused Rotations) ↔ (AllKeep c gens × (¬ (FewRotations gens × SmallRotations gens)))
+course-rotations : {c : Centering} {gens : List Operation} {o : Outcome} → Course c gens o → (o ≡ refused Rotations)
+    ↔ (AllKeep c gens × (¬ (FewRotations gens × SmallRotations gens)))
 course-rotations {c} {gens} (off F) = ((λ e. let z : _≡_ {A = ℕ} 0 1 = cc in absurd (omega arith)), λ (keep, n). absurd (off-keep c gens F keep))
 course-rotations {c} {gens} (kept keep) =
     let exactly = overgrown-exactly (motionGrowth c) (motions gens) (motions-keep c gens keep) 48 in (
@@ -280,19 +295,22 @@ course-rotations {c} {gens} (kept keep) =
       λ (_, n). ap (λ v. ofVerdict (imageVerdict operationOf v)) (exactly .1 (λ (few, fine). n (few-keys c gens .0 few, fine-rotations c gens .0 fine))),
     )
 
-course-translations : {c : Centering} {gens : List Operation} {o : Outcome} → Course c gens o → (o ≡ refused Translations) ↔ (AllKeep c gens × FewRotations gens × SmallRotations gens × (¬ OneTranslation c gens))
+course-translations : {c : Centering} {gens : List Operation} {o : Outcome} → Course c gens o → (o ≡ refused Translations)
+    ↔ (AllKeep c gens × FewRotations gens × SmallRotations gens × (¬ OneTranslation c gens))
 course-translations {c} {gens} (off F) = ((λ e. let z : _≡_ {A = ℕ} 0 1 = cc in absurd (omega arith)), λ (keep, few, small, n). absurd (off-keep c gens F keep))
 course-translations {c} {gens} (kept keep) =
     let exactly = torn-exactly (motionGrowth c) (motions gens) (motions-keep c gens keep) 48 in (
       (λ e.
           let (few, fine, n) = exactly .0 (translations-torn (verdictOf c gens) e) in
           (keep, few-keys c gens .0 few, fine-rotations c gens .0 fine, λ one. n (one-translation c gens .1 one))),
-      λ (_, few, small, n). ap (λ v. ofVerdict (imageVerdict operationOf v)) (exactly .1 (few-keys c gens .1 few, fine-rotations c gens .1 small, λ one. n (one-translation c gens .0 one))),
+      λ (_, few, small, n). ap (λ v. ofVerdict (imageVerdict operationOf v))
+          (exactly .1 (few-keys c gens .1 few, fine-rotations c gens .1 small, λ one. n (one-translation c gens .0 one))),
     )
 
 module _ (c : Centering) (gens : List Operation) (small : SmallGenerators gens) where
   -- A group is answered exactly if R3.5 accepts the generators.
-  pub accepted-exactly : ((operations : List Operation) × (steps : List ℕ) × (outcomeOf c gens ≡ group operations steps)) ↔ (AllKeep c gens × FewRotations gens × SmallRotations gens × OneTranslation c gens)
+  pub accepted-exactly : ((operations : List Operation) × (steps : List ℕ) × (outcomeOf c gens ≡ group operations steps))
+      ↔ (AllKeep c gens × FewRotations gens × SmallRotations gens × OneTranslation c gens)
   accepted-exactly = (
     (λ (operations, steps, e). let A = course-group (course c gens small) operations steps e in (A .keep, A .few, A .small, A .one)),
     course-accepted (course c gens small),

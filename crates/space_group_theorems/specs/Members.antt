@@ -75,7 +75,8 @@ module _ (c : Centering) (gens operations : List Operation) (steps : List ℕ) (
 
   -- It holds at most 48.
   pub at-most-48 : length operations ≤ 48
-  at-most-48 = omega (arith, ap length (A .operations-are), length-map list operationOf, growing.at-most (motionGrowth c) (motions gens) kept 48 list steps whole)
+  at-most-48 =
+      omega (arith, ap length (A .operations-are), length-map list operationOf, growing.at-most (motionGrowth c) (motions gens) kept 48 list steps whole)
 
   -- Every generated rotation is there,
   pub rotation-there : (R : Matrix) → GeneratedRotation gens R → (o : Operation) × Mem o operations × (matrixOf (o .rotation) ≡ R)
@@ -100,7 +101,8 @@ module _ (c : Centering) (gens operations : List Operation) (steps : List ℕ) (
   translation-below o m = let (f, k, p) = member-motion o m in rw (← p) (reduced-lt (f .translation))
 
   -- Each is that of a generated motion, modulo 12.
-  pub translation-reached : (o : Operation) → Mem o operations → (f : SpaceMotion) × Generated gens f × (f .rotation ≡ matrixOf (o .rotation)) × (reduced (f .translation) ≡ tripleOf (o .translation))
+  pub translation-reached : (o : Operation) → Mem o operations
+      → (f : SpaceMotion) × Generated gens f × (f .rotation ≡ matrixOf (o .rotation)) × (reduced (f .translation) ≡ tripleOf (o .translation))
   unfolding operationOf
   translation-reached o m =
       let (f, k, p) = member-motion o m in
@@ -108,7 +110,8 @@ module _ (c : Centering) (gens operations : List Operation) (steps : List ℕ) (
       (f, r, sym (operation-rotation f (member-small f r)) ∙ ap (λ o. matrixOf (o .rotation)) p, ap (λ o. tripleOf (o .translation)) p)
 
   -- Each is right modulo L: any generated motion with the rotation differs from it by a vector of L.
-  pub translation-right : (o : Operation) → Mem o operations → (f : SpaceMotion) → Generated gens f → f .rotation ≡ matrixOf (o .rotation) → Congruent (pointsOf c) (f .translation) (vectorOf (o .translation))
+  pub translation-right : (o : Operation) → Mem o operations → (f : SpaceMotion) → Generated gens f → f .rotation ≡ matrixOf (o .rotation)
+      → Congruent (pointsOf c) (f .translation) (vectorOf (o .translation))
   unfolding motionOf
   translation-right o m f r p =
       let (g, k, q) = member-motion o m in
@@ -138,13 +141,17 @@ module _ (c : Centering) (gens operations : List Operation) (steps : List ℕ) (
   alike-keeps = keeps-alike c
 
   -- Any product of two members is, modulo L, a member.
-  pub product-member : (o p : Operation) → Mem o operations → Mem p operations → (q : Operation) × Mem q operations × Alike (pointsOf c) (compose (motionOf o) (motionOf p)) (motionOf q)
+  pub product-member : (o p : Operation) → Mem o operations → Mem p operations
+      → (q : Operation) × Mem q operations × Alike (pointsOf c) (compose (motionOf o) (motionOf p)) (motionOf q)
   product-member o p m k =
-      let (q, n, close) = growing.product-member (motionGrowth c) (motions gens) kept 48 list steps whole (operationForms c) o p (member-listed o m) (member-listed p k) in
+      let (q, n, close) =
+      growing.product-member (motionGrowth c) (motions gens) kept 48 list steps whole (operationForms c) o p (member-listed o m) (member-listed p k) in
       (q, listed-member q n, close)
 
   -- Each member has an inverse in the list, modulo L, on either side.
-  pub inverse-member : (o : Operation) → Mem o operations → (p : Operation) × Mem p operations × Alike (pointsOf c) (compose (motionOf p) (motionOf o)) identity × Alike (pointsOf c) (compose (motionOf o) (motionOf p)) identity
+  pub inverse-member : (o : Operation) → Mem o operations
+      → (p : Operation) × Mem p operations × Alike (pointsOf c) (compose (motionOf p) (motionOf o)) identity
+      × Alike (pointsOf c) (compose (motionOf o) (motionOf p)) identity
   inverse-member o m =
       let (p, k, left, right) = growing.inverse-member (motionGrowth c) (motions gens) kept 48 list steps whole (operationForms c) o (member-listed o m) in
       (p, listed-member p k, left, right)

@@ -37,11 +37,13 @@ less-sum : (v w : Vector) → plus (plus v (opposite w)) w ≡ v
 less-sum v w = plus-assoc v (opposite w) w ∙ ap (plus v) (plus-comm (opposite w) w ∙ plus-opposite w) ∙ plus-origin v
 
 -- A motion with the rotation of g, reached from g by a translation.
-translated : (f g : SpaceMotion) (v : Vector) → f .rotation ≡ g .rotation → act (g .rotation) v ≡ plus (f .translation) (opposite (g .translation)) → compose g (translationBy v) ≡ f
+translated : (f g : SpaceMotion) (v : Vector) → f .rotation ≡ g .rotation → act (g .rotation) v ≡ plus (f .translation) (opposite (g .translation))
+    → compose g (translationBy v) ≡ f
 unfolding product
 translated f g v p e =
     let turn : times (g .rotation) unit ≡ f .rotation = times-unit (g .rotation) ∙ sym p in
-    let moved : plus (act (g .rotation) v) (g .translation) ≡ f .translation = ap (λ w. plus w (g .translation)) e ∙ less-sum (f .translation) (g .translation) in
+    let moved : plus (act (g .rotation) v) (g .translation) ≡ f .translation =
+    ap (λ w. plus w (g .translation)) e ∙ less-sum (f .translation) (g .translation) in
     λ i. record { rotation = turn i; translation = moved i }
 
 -- ---- what is free
@@ -80,7 +82,9 @@ module _ (c : Centering) (gens operations : List Operation) (steps : List ℕ) (
   -- The set of motions is the listed operations with L added.
   pub set-exactly : (f : SpaceMotion) → InSet c gens f ↔ ((o : Operation) × Mem o operations × Alike (pointsOf c) f (motionOf o))
   set-exactly f =
-      let exactly = growing.set-exactly (motionGrowth c) (LatticeTranslation c) (motions gens) (translations-free c) (motions-keep c gens (A .keep)) 48 (A .list) steps (accepted-whole c gens operations steps A) (operationForms c) f in (
+      let exactly =
+      growing.set-exactly (motionGrowth c) (LatticeTranslation c) (motions gens) (translations-free c) (motions-keep c gens (A .keep)) 48 (A .list) steps
+      (accepted-whole c gens operations steps A) (operationForms c) f in (
         (λ s. let (o, m, near) = exactly .0 (in-growing c gens s) in (o, listed-member c gens operations steps A o m, near)),
         λ (o, m, near). growing-in c gens (exactly .1 (o, member-listed c gens operations steps A o m, near)),
       )

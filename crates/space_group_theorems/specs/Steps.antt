@@ -38,16 +38,19 @@ module _ (c : Centering) (gens : List SpaceMotion) (l : List SpaceMotion) where
       ∙ omega (arith, length-map gens (λ g. place sameRotation (compose x g) l), indices-length xs, suc-mul (length xs) (length gens))
 
   -- The product of motion i and generator j has its index at i·n + j.
-  index-at : (xs : List SpaceMotion) (i j : ℕ) → i < length xs → j < length gens → getD (indices xs) (i * length gens + j) 0 ≡ place sameRotation (compose (getD xs i identity) (getD gens j identity)) l
+  index-at : (xs : List SpaceMotion) (i j : ℕ) → i < length xs → j < length gens
+      → getD (indices xs) (i * length gens + j) 0 ≡ place sameRotation (compose (getD xs i identity) (getD gens j identity)) l
   unfolding stepsFrom
   index-at [] i j h k = absurd (omega arith)
   index-at (x ∷ xs) zero j h k =
       let first = map (λ g. place sameRotation (compose x g) l) gens in
       let at : 0 * length gens + j ≡ j = omega arith in
-      rw at (List·getD-append first (indices xs) 0 j (omega (arith, length-map gens (λ g. place sameRotation (compose x g) l))) ∙ image-at (λ g. place sameRotation (compose x g) l) gens j identity 0 k)
+      rw at (List·getD-append first (indices xs) 0 j (omega (arith, length-map gens (λ g. place sameRotation (compose x g) l)))
+      ∙ image-at (λ g. place sameRotation (compose x g) l) gens j identity 0 k)
   index-at (x ∷ xs) (suc i) j h k =
       let first = map (λ g. place sameRotation (compose x g) l) gens in
-      let at : suc i * length gens + j ≡ length first + (i * length gens + j) = omega (arith, suc-mul i (length gens), length-map gens (λ g. place sameRotation (compose x g) l)) in
+      let at : suc i * length gens + j ≡ length first + (i * length gens + j) =
+      omega (arith, suc-mul i (length gens), length-map gens (λ g. place sameRotation (compose x g) l)) in
       rw at (getD-append-add first (indices xs) (i * length gens + j) 0 ∙ index-at xs i j (omega arith) k)
 
 module _ (c : Centering) (gens operations : List Operation) (steps : List ℕ) (A : Accepted c gens operations steps) where
@@ -58,7 +61,8 @@ module _ (c : Centering) (gens operations : List Operation) (steps : List ℕ) (
       ∙ rw (A .operations-are, length-map (A .list) operationOf, length-map gens motionOf)
 
   -- Member i of the list, and what it is made of.
-  member-of : (i : ℕ) → i < length (A .list) → (getD operations i identityOperation ≡ operationOf (getD (A .list) i identity)) × Generated gens (getD (A .list) i identity)
+  member-of : (i : ℕ) → i < length (A .list)
+      → (getD operations i identityOperation ≡ operationOf (getD (A .list) i identity)) × Generated gens (getD (A .list) i identity)
   member-of i h = (
     ap (λ (l : List Operation). getD l i identityOperation) (A .operations-are) ∙ image-at operationOf (A .list) i identity identityOperation h,
     lists gens (A .list) (A .listed) .sound (getD (A .list) i identity) (member-at (A .list) i identity h),
@@ -67,7 +71,8 @@ module _ (c : Centering) (gens operations : List Operation) (steps : List ℕ) (
   member-alike : (i : ℕ) → i < length (A .list) → Alike (pointsOf c) (getD (A .list) i identity) (motionOf (getD operations i identityOperation))
   member-alike i h =
       let (e, r) = member-of i h in
-      subst (λ o. Alike (pointsOf c) (getD (A .list) i identity) (motionOf o)) (sym e) (operation-alike c (getD (A .list) i identity) (member-small c gens operations steps A (getD (A .list) i identity) r))
+      subst (λ o. Alike (pointsOf c) (getD (A .list) i identity) (motionOf o)) (sym e)
+      (operation-alike c (getD (A .list) i identity) (member-small c gens operations steps A (getD (A .list) i identity) r))
 
   -- The list is as long as what it is made of.
   same-length : length operations ≡ length (A .list)
@@ -113,7 +118,9 @@ module _ (c : Centering) (gens operations : List Operation) (steps : List ℕ) (
     unfolding noted
     noted-alike =
         let y = getD (A .list) noted identity in
-        let same = place-same sameRotation (compose left right) (A .list) identity (lists gens (A .list) (A .listed) .complete (compose left right) product-generated) in
+        let same =
+        place-same sameRotation (compose left right) (A .list) identity
+        (lists gens (A .list) (A .listed) .complete (compose left right) product-generated) in
         one-class c gens operations steps A (compose left right) y product-generated (member-of noted noted-lt .1) (same-rotation (compose left right) y same)
 
     -- So is the product of the operations.
@@ -123,10 +130,13 @@ module _ (c : Centering) (gens operations : List Operation) (steps : List ℕ) (
         let near = member-alike i (omega (arith, same-length)) in
         let keep = generated-keeps c gens operations steps A left left-generated in
         let keep-right = motions-keep c gens (A .keep) right right-member in
-        M .alike-right left (motionOf (getD operations i identityOperation)) right keep (alike-keeps c gens operations steps A left (motionOf (getD operations i identityOperation)) near keep) keep-right near
+        M .alike-right left (motionOf (getD operations i identityOperation)) right keep
+        (alike-keeps c gens operations steps A left (motionOf (getD operations i identityOperation)) near keep) keep-right near
 
     -- Member i times generator j is, modulo L, the member whose index is noted.
-    pub step-right : (getD steps (i * length gens + j) 0 < length operations) × Alike (pointsOf c) (compose (motionOf (getD operations i identityOperation)) right) (motionOf (getD operations (getD steps (i * length gens + j) 0) identityOperation))
+    pub step-right : (getD steps (i * length gens + j) 0 < length operations)
+        × Alike (pointsOf c) (compose (motionOf (getD operations i identityOperation)) right)
+        (motionOf (getD operations (getD steps (i * length gens + j) 0) identityOperation))
     step-right =
         let M = motions-keyed (pointsOf c) (points c) in
         let o = motionOf (getD operations i identityOperation) in

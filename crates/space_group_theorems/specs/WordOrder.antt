@@ -30,12 +30,16 @@ module _ (c : Centering) (gens operations : List Operation) (steps : List ℕ) (
   -- That of an accepted symbol is.
   pub word-ordered : WordOrdered gens operations
   word-ordered =
-      rw (A .operations-are) (growing.word-ordered (motionGrowth c) (motions gens) (motions-keep c gens (A .keep)) operationOf 48 (A .list) steps (accepted-whole c gens operations steps A))
+      rw (A .operations-are) (growing.word-ordered (motionGrowth c) (motions gens) (motions-keep c gens (A .keep)) operationOf 48 (A .list) steps
+      (accepted-whole c gens operations steps A))
 
   -- Each operation is the product along a word that comes before every other word that leads to its rotation.
-  pub least-word : (o : Operation) → Mem o operations → (w : Word) × (f : SpaceMotion) × (along-word compose identity (motions gens) w ≡ some f) × (operationOf f ≡ o) × ((v : Word) (g : SpaceMotion) → along-word compose identity (motions gens) v ≡ some g → g .rotation ≡ matrixOf (o .rotation) → AtMost Shortlex w v)
+  pub least-word : (o : Operation) → Mem o operations
+      → (w : Word) × (f : SpaceMotion) × (along-word compose identity (motions gens) w ≡ some f) × (operationOf f ≡ o)
+      × ((v : Word) (g : SpaceMotion) → along-word compose identity (motions gens) v ≡ some g → g .rotation ≡ matrixOf (o .rotation) → AtMost Shortlex w v)
   least-word o m =
       let (w, f, spells, p, least) = growing.least-word sameRotation compose identity (motions gens) operationOf word-ordered o m in
       let r = reached-by-words compose identity (motions gens) f .1 (w, spells) in
-      let turn : matrixOf (o .rotation) ≡ f .rotation = ap (λ o. matrixOf (o .rotation)) (sym p) ∙ operation-rotation f (member-small c gens operations steps A f r) in
+      let turn : matrixOf (o .rotation) ≡ f .rotation =
+      ap (λ o. matrixOf (o .rotation)) (sym p) ∙ operation-rotation f (member-small c gens operations steps A f r) in
       (w, f, spells, p, λ v g q e. least v g q (rotation-same g f (e ∙ turn)))

@@ -1,4 +1,5 @@
-// Products of operations with any bytes, and of operations as numbers, in numbers for C: a test library, so that tests/products.c can hold the product to integers, and count what it executes.
+// Products of operations with any bytes, and of operations as numbers, in numbers for C: a test library, so that tests/products.c can hold the product to
+// integers, and count what it executes.
 ghost use mathlib.Core.Path.{_≡_};
 ghost use Prim.Native.Nat.{_+_, _%_};
 ghost use Rattle.operation.specs.Product.{productOf};

@@ -39,7 +39,9 @@ same-requires-3 : tie.Need-same-requires-3
 same-requires-3 c κs = search needs
 
 returns-3 : tie.Need-returns-3
-returns-3 c = search-found _ _ (c .before .before .before .before .before .before .before .before .before .before .lattice-points .ensures) _ _ 2 (lit< tt) (sym (c .before .same3 .ensures) ∙ c .if3 .taken)
+returns-3 c =
+    search-found _ _ (c .before .before .before .before .before .before .before .before .before .before .lattice-points .ensures) _ _ 2 (lit< tt)
+    (sym (c .before .same3 .ensures) ∙ c .if3 .taken)
 
 array-copy-out-same-4 : tie.Need-array-copy-out-same-4
 array-copy-out-same-4 c = search needs

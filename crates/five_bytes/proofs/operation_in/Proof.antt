@@ -50,7 +50,10 @@ below-twelve-requires c κs = search needs
 returns-2 : tie.Need-returns-2
 unfolding fiveBytesOf
 returns-2 c =
-    simp (eq-eqb _ _ (c .before .before .before .before .before .before .before .if1 .left), sym (c .before .below-twelve .ensures) ∙ not-true _ (c .if2 .taken))
+    simp (
+      eq-eqb _ _ (c .before .before .before .before .before .before .before .if1 .left),
+      sym (c .before .below-twelve .ensures) ∙ not-true _ (c .if2 .taken),
+    )
 
 rotation-of-code-requires : tie.Need-rotation-of-code-requires
 rotation-of-code-requires c κs = search needs
@@ -63,7 +66,8 @@ returns-3 c =
     let bytes = c .before .before .before .before .before .before .before .before .before .before .before .args .bytes .now in
     c .with-translation .ensures
     ∙ ap (λ d. withTranslation d (translationIn bytes)) (c .before .rotation-of-code .ensures)
-    ∙ code-decides bytes (c .before .before .before .before .before .before .before .before .before .if1 .left) (sym (c .before .before .before .below-twelve .ensures) ∙ not-false _ (c .before .before .if2 .left))
+    ∙ code-decides bytes (c .before .before .before .before .before .before .before .before .before .if1 .left)
+    (sym (c .before .before .before .below-twelve .ensures) ∙ not-false _ (c .before .before .if2 .left))
 
 pub operation-in-spec : {M : Type 1} → statement M
 operation-in-spec =

@@ -17,7 +17,8 @@ use Rattle.lines.proofs.fresh.Reads as fresh-reads
 use Rattle.hall.proofs.write_text.Reads as write-text-reads
 
 abbrev Inv-loop : tie.InvT-loop
-Inv-loop piece line₀ from₀ line from = (from ≤ length piece) × (length (line .bytes) ≡ 80) × (keptBehind (held line) (drop from piece) ≡ keptBehind (held line₀) piece)
+Inv-loop piece line₀ from₀ line from =
+    (from ≤ length piece) × (length (line .bytes) ≡ 80) × (keptBehind (held line) (drop from piece) ≡ keptBehind (held line₀) piece)
 
 abbrev μ-loop : tie.MeasureT-loop
 μ-loop piece line₀ from₀ line from = length piece - from

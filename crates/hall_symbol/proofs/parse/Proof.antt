@@ -70,17 +70,20 @@ returns-3 c = c .refused .ensures ∙ ap answerOf (sym
 
 sub-parse-operation : tie.Need-sub-parse-operation Inv-loop μ-loop
 sub-parse-operation c =
-    let (after, ordered, reaches) = reached-word (c .before .before .before .before .before .before .loop .inv) (c .before .before .before .before .before .next-word .ensures) in
+    let (after, ordered, reaches) =
+    reached-word (c .before .before .before .before .before .before .loop .inv) (c .before .before .before .before .before .next-word .ensures) in
     ordered
 
 part-parse-operation-start : tie.Need-part-parse-operation-start Inv-loop μ-loop
 part-parse-operation-start c =
-    let (after, ordered, reaches) = reached-word (c .before .before .before .before .before .before .loop .inv) (c .before .before .before .before .before .next-word .ensures) in
+    let (after, ordered, reaches) =
+    reached-word (c .before .before .before .before .before .before .loop .inv) (c .before .before .before .before .before .next-word .ensures) in
     search needs
 
 part-parse-operation-end : tie.Need-part-parse-operation-end Inv-loop μ-loop
 part-parse-operation-end c =
-    let (after, ordered, reaches) = reached-word (c .before .before .before .before .before .before .loop .inv) (c .before .before .before .before .before .next-word .ensures) in
+    let (after, ordered, reaches) =
+    reached-word (c .before .before .before .before .before .before .loop .inv) (c .before .before .before .before .before .next-word .ensures) in
     search needs
 
 parse-operation-requires : tie.Need-parse-operation-requires Inv-loop μ-loop
@@ -103,20 +106,33 @@ add-count c = omega arith
 
 loop-less : tie.Need-loop-less Inv-loop μ-loop
 loop-less c =
-    let (after, ordered, reaches) = reached-word (c .before .before .before .before .before .before .before .before .before .before .before .before .loop .inv) (c .before .before .before .before .before .before .before .before .before .before .before .next-word .ensures) in
-    let some = reached-some (c .before .before .before .before .before .before .before .before .before .before .before .before .loop .inv) (c .before .before .before .before .before .before .before .before .before .before .before .next-word .ensures) (c .before .before .before .before .before .before .before .before .before .before .if1 .left) in
+    let (after, ordered, reaches) =
+    reached-word (c .before .before .before .before .before .before .before .before .before .before .before .before .loop .inv)
+    (c .before .before .before .before .before .before .before .before .before .before .before .next-word .ensures) in
+    let some =
+    reached-some (c .before .before .before .before .before .before .before .before .before .before .before .before .loop .inv)
+    (c .before .before .before .before .before .before .before .before .before .before .before .next-word .ensures)
+    (c .before .before .before .before .before .before .before .before .before .before .if1 .left) in
     omega arith
 
 loop-again : tie.Need-loop-again Inv-loop μ-loop
 unfolding opening
 loop-again c =
     let reached = c .before .before .before .before .before .before .before .before .before .before .before .before .loop .inv in
-    let (after, ordered, reaches) = reached-word reached (c .before .before .before .before .before .before .before .before .before .before .before .next-word .ensures) in
+    let (after, ordered, reaches) =
+    reached-word reached (c .before .before .before .before .before .before .before .before .before .before .before .next-word .ensures) in
     let parsed = c .before .before .parsed .given in
     let room : c .before .before .before .before .before .before .before .before .before .before .before .before .loop .previous .count < 8 =
     c .before .before .before .before .before .before .if3 .left in
-    let pushed = pushed-slot (c .before .before .before .before .before .before .before .before .before .before .before .before .loop .list) (parsed .0 .0) (reached .slots) (omega (arith, reached .short, room)) in
-    let step = reached-rotation reached (c .before .before .before .before .before .before .before .before .before .before .before .next-word .ensures) (c .before .before .before .before .before .before .before .before .before .before .if1 .left) (ne-eqb _ _ (c .before .before .before .before .before .before .before .before .if2 .left)) (c .before .before .before .before .before .before .if3 .left) (IsOperation (parsed .0 .0) (parsed .0 .1 .0) (parsed .0 .1 .1 .0)) (sym (parsed .1) ∙ c .before .before .before .before .parse-operation .ensures) in
+    let pushed =
+    pushed-slot (c .before .before .before .before .before .before .before .before .before .before .before .before .loop .list) (parsed .0 .0)
+    (reached .slots) (omega (arith, reached .short, room)) in
+    let step =
+    reached-rotation reached (c .before .before .before .before .before .before .before .before .before .before .before .next-word .ensures)
+    (c .before .before .before .before .before .before .before .before .before .before .if1 .left)
+    (ne-eqb _ _ (c .before .before .before .before .before .before .before .before .if2 .left))
+    (c .before .before .before .before .before .before .if3 .left) (IsOperation (parsed .0 .0) (parsed .0 .1 .0) (parsed .0 .1 .1 .0))
+    (sym (parsed .1) ∙ c .before .before .before .before .parse-operation .ensures) in
     record {
       within = reaches;
       few = omega arith;
@@ -143,7 +159,11 @@ unfolding opening
 returns-4 c =
     c .refused2 .ensures
     ∙ ap answerOf (sym (reached-rotation (c .before .before .before .before .before .before .before .before .before .before .before .before .loop .inv)
-    (c .before .before .before .before .before .before .before .before .before .before .before .next-word .ensures) (c .before .before .before .before .before .before .before .before .before .before .if1 .left) (ne-eqb _ _ (c .before .before .before .before .before .before .before .before .if2 .left)) (c .before .before .before .before .before .before .if3 .left) (IsRefused _ _) (sym (c .before .before .parsed2 .given .1) ∙ c .before .before .before .before .parse-operation .ensures)))
+    (c .before .before .before .before .before .before .before .before .before .before .before .next-word .ensures)
+    (c .before .before .before .before .before .before .before .before .before .before .if1 .left)
+    (ne-eqb _ _ (c .before .before .before .before .before .before .before .before .if2 .left))
+    (c .before .before .before .before .before .before .if3 .left) (IsRefused _ _)
+    (sym (c .before .before .parsed2 .given .1) ∙ c .before .before .before .before .parse-operation .ensures)))
 
 pub parse-spec : {M : Type 1} → statement M
 parse-spec =

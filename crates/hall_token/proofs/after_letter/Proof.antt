@@ -119,8 +119,10 @@ wrong-digit-requires c κs = search needs
 
 add-at-2 : tie.Need-add-at-2
 add-at-2 c =
-    let args = c .before .before .before .before .before .before .before .before .before .before .before .before .before .before .before .before .before .before .args in
-    let long = c .before .before .before .before .before .before .before .before .before .before .before .before .before .before .before .before .before .before .good .0 .1 in
+    let args =
+    c .before .before .before .before .before .before .before .before .before .before .before .before .before .before .before .before .before .before .args in
+    let long =
+    c .before .before .before .before .before .before .before .before .before .before .before .before .before .before .before .before .before .before .good .0 .1 in
     let axis = c .before .before .before .before .before .before .before .before .before .axis .given .0 .0 in
     let few = start-few (args .negative) (args .mark) (args .letter) in
     let within = wrong-within (args .fold) axis (args .run .now) in
@@ -138,7 +140,8 @@ returns-5 c =
     let rotation-about = c .before .before .before .before .before .before .before .rotation-about in
     let turn = c .before .before .before .before .before .turn in
     let translation-of = c .before .before .before .translation-of in
-    let run-start = c .before .before .before .before .before .before .before .before .before .before .before .before .before .before .before .before .run-start in
+    let run-start =
+    c .before .before .before .before .before .before .before .before .before .before .before .before .before .before .before .before .run-start in
     rw (
       ← spelt .ensures,
       not-false (spelt .result) (if1 .left),
@@ -159,8 +162,10 @@ first-repeat-requires c κs = search needs
 
 add-at-3 : tie.Need-add-at-3
 add-at-3 c =
-    let args = c .before .before .before .before .before .before .before .before .before .before .before .before .before .before .before .before .before .before .before .before .args in
-    let long = c .before .before .before .before .before .before .before .before .before .before .before .before .before .before .before .before .before .before .before .before .good .0 .1 in
+    let args =
+    c .before .before .before .before .before .before .before .before .before .before .before .before .before .before .before .before .before .before .before .before .args in
+    let long =
+    c .before .before .before .before .before .before .before .before .before .before .before .before .before .before .before .before .before .before .before .before .good .0 .1 in
     let few = start-few (args .negative) (args .mark) (args .letter) in
     let within = repeat-within [] (args .run .now) in
     omega (arith, long, few, within, c .before .before .before .before .before .before .before .before .before .before .before .before .before .before .before .before .before .before .run-start .ensures, c .before .first-repeat .ensures)
@@ -168,8 +173,10 @@ add-at-3 c =
 returns-6 : tie.Need-returns-6
 unfolding readRun operationOfParts axisThen turnThen movedThen onceThen
 returns-6 c =
-    let args = c .before .before .before .before .before .before .before .before .before .before .before .before .before .before .before .before .before .before .before .before .args in
-    let spelt = c .before .before .before .before .before .before .before .before .before .before .before .before .before .before .before .before .before .spelt in
+    let args =
+    c .before .before .before .before .before .before .before .before .before .before .before .before .before .before .before .before .before .before .before .before .args in
+    let spelt =
+    c .before .before .before .before .before .before .before .before .before .before .before .before .before .before .before .before .before .spelt in
     let if1 = c .before .before .before .before .before .before .before .before .before .before .before .before .before .before .before .before .if1 in
     let unprimed = c .before .before .before .before .before .before .before .before .before .before .before .before .before .before .before .unprimed in
     let if2 = c .before .before .before .before .before .before .before .before .before .before .before .before .before .before .if2 in
@@ -179,7 +186,8 @@ returns-6 c =
     let turn = c .before .before .before .before .before .before .before .turn in
     let translation-of = c .before .before .before .before .before .translation-of in
     let translation = c .before .before .before .translation in
-    let run-start = c .before .before .before .before .before .before .before .before .before .before .before .before .before .before .before .before .before .before .run-start in
+    let run-start =
+    c .before .before .before .before .before .before .before .before .before .before .before .before .before .before .before .before .before .before .run-start in
     let first-repeat = c .before .first-repeat in
     rw (
       ← spelt .ensures,
@@ -203,10 +211,13 @@ with-sign-requires c κs = search needs
 returns-7 : tie.Need-returns-7
 unfolding readRun operationOfParts axisThen turnThen movedThen onceThen
 returns-7 c =
-    let args = c .before .before .before .before .before .before .before .before .before .before .before .before .before .before .before .before .before .before .before .before .before .args in
-    let spelt = c .before .before .before .before .before .before .before .before .before .before .before .before .before .before .before .before .before .before .spelt in
+    let args =
+    c .before .before .before .before .before .before .before .before .before .before .before .before .before .before .before .before .before .before .before .before .before .args in
+    let spelt =
+    c .before .before .before .before .before .before .before .before .before .before .before .before .before .before .before .before .before .before .spelt in
     let if1 = c .before .before .before .before .before .before .before .before .before .before .before .before .before .before .before .before .before .if1 in
-    let unprimed = c .before .before .before .before .before .before .before .before .before .before .before .before .before .before .before .before .unprimed in
+    let unprimed =
+    c .before .before .before .before .before .before .before .before .before .before .before .before .before .before .before .before .unprimed in
     let if2 = c .before .before .before .before .before .before .before .before .before .before .before .before .before .before .before .if2 in
     let axis-of = c .before .before .before .before .before .before .before .before .before .before .before .before .before .before .axis-of in
     let axis = c .before .before .before .before .before .before .before .before .before .before .before .before .axis in

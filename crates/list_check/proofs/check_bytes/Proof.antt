@@ -31,7 +31,9 @@ returns-4 : tie.Need-returns-4
 returns-4 c =
     let a = c .before .before .before .before .before .before .before .before .args in
     let right : RightLength (a .list .now) = (omega arith, c .before .before .before .before .before .if2 .left) in
-    entry-found (a .c) (a .count) (a .operations) (a .list .now) right (c .before .before .before .before .first-wrong .result) (c .before .before .before .before .first-wrong .ensures) (omega arith) (c .before .before .first-off .result) (c .before .before .first-off .ensures) (omega arith)
+    entry-found (a .c) (a .count) (a .operations) (a .list .now) right (c .before .before .before .before .first-wrong .result)
+    (c .before .before .before .before .first-wrong .ensures) (omega arith) (c .before .before .first-off .result) (c .before .before .first-off .ensures)
+    (omega arith)
 
 lowest-missing-requires : tie.Need-lowest-missing-requires
 lowest-missing-requires c κs = search needs
@@ -44,7 +46,9 @@ returns-5 c =
     let a = c .before .before .before .before .before .before .before .before .before .before .args in
     let right : RightLength (a .list .now) = (omega arith, c .before .before .before .before .before .before .before .if2 .left) in
     c .missing .ensures
-    ∙ rest-found (a .c) (a .count) (a .operations) (a .list .now) right (c .before .before .before .before .before .before .first-wrong .result) (c .before .before .before .before .before .before .first-wrong .ensures) (omega arith) (c .before .before .before .before .first-off .result) (c .before .before .before .before .first-off .ensures) (omega arith) (c .before .lowest-missing .result) (c .before .lowest-missing .ensures)
+    ∙ rest-found (a .c) (a .count) (a .operations) (a .list .now) right (c .before .before .before .before .before .before .first-wrong .result)
+    (c .before .before .before .before .before .before .first-wrong .ensures) (omega arith) (c .before .before .before .before .first-off .result)
+    (c .before .before .before .before .first-off .ensures) (omega arith) (c .before .lowest-missing .result) (c .before .lowest-missing .ensures)
 
 pub check-bytes-spec : {M : Type 1} → statement M
 check-bytes-spec =

@@ -22,12 +22,14 @@ check-bytes-requires c κs =
 returns : tie.Need-returns
 returns c =
     let a = c .before .before .before .before .before .before .args in
-    symbol-answer (a .text .now) (a .list .now) (c .before .before .before .new .result) (c .before .before .before .new .ensures) (c .before .answer .given .0 .0) (c .before .answer .given .1)
+    symbol-answer (a .text .now) (a .list .now) (c .before .before .before .new .result) (c .before .before .before .new .ensures)
+    (c .before .answer .given .0 .0) (c .before .answer .given .1)
 
 returns-2 : tie.Need-returns-2
 returns-2 c =
     let a = c .before .before .before .before .before .before .before .args in
-    c .check-bytes .ensures ∙ list-answer (a .text .now) (a .list .now) (c .before .before .before .before .new .result) (c .before .before .before .before .new .ensures) (c .before .before .enum-told .given .1)
+    c .check-bytes .ensures ∙ list-answer (a .text .now) (a .list .now) (c .before .before .before .before .new .result)
+    (c .before .before .before .before .new .ensures) (c .before .before .enum-told .given .1)
 
 pub check-list-spec : {M : Type 1} → statement M
 check-list-spec =

@@ -44,7 +44,10 @@ unfolding twelfthLanes
 mul-bytes c =
     let f = c .before .before .args .f in
     let g = c .before .before .args .g in
-    let sum = (λ i. c .before .rows-times .ensures .0 i + c .twelfths .ensures .0 i + (translationSaid g .x + translationSaid g .y + translationSaid g .z) * 48378534690827) ∙ sum-is (saidBy f) (saidBy g) (said-narrow f) (said-short f) (said-short g) in
+    let sum =
+    (λ i. c .before .rows-times .ensures .0 i + c .twelfths .ensures .0 i +
+    (translationSaid g .x + translationSaid g .y + translationSaid g .z) * 48378534690827)
+    ∙ sum-is (saidBy f) (saidBy g) (said-narrow f) (said-short f) (said-short g) in
     record { fits = omega (arith, sum, sum-small (saidBy f) (saidBy g) (said-narrow f) (said-short f) (said-short g)) }
 
 bytes-requires : tie.Need-bytes-requires
@@ -58,7 +61,10 @@ unfolding twelfthLanes
 sub-result c =
     let f = c .before .before .before .args .f in
     let g = c .before .before .before .args .g in
-    let sum = (λ i. c .before .before .rows-times .ensures .0 i + c .before .twelfths .ensures .0 i + (translationSaid g .x + translationSaid g .y + translationSaid g .z) * 48378534690827) ∙ sum-is (saidBy f) (saidBy g) (said-narrow f) (said-short f) (said-short g) in
+    let sum =
+    (λ i. c .before .before .rows-times .ensures .0 i + c .before .twelfths .ensures .0 i +
+    (translationSaid g .x + translationSaid g .y + translationSaid g .z) * 48378534690827)
+    ∙ sum-is (saidBy f) (saidBy g) (said-narrow f) (said-short f) (said-short g) in
     let taken = c .bytes .ensures .0 ∙ ap (λ (n : ℕ). bytesOf (n * 683 / 8192)) sum in
     omega (arith, taken, sum, covers (saidBy f) (saidBy g) (said-narrow f) (said-short f) (said-short g))
 
@@ -67,7 +73,10 @@ unfolding twelfthLanes
 returns c =
     let f = c .before .before .before .args .f in
     let g = c .before .before .before .args .g in
-    let sum = (λ i. c .before .before .rows-times .ensures .0 i + c .before .twelfths .ensures .0 i + (translationSaid g .x + translationSaid g .y + translationSaid g .z) * 48378534690827) ∙ sum-is (saidBy f) (saidBy g) (said-narrow f) (said-short f) (said-short g) in
+    let sum =
+    (λ i. c .before .before .rows-times .ensures .0 i + c .before .twelfths .ensures .0 i +
+    (translationSaid g .x + translationSaid g .y + translationSaid g .z) * 48378534690827)
+    ∙ sum-is (saidBy f) (saidBy g) (said-narrow f) (said-short f) (said-short g) in
     let taken = c .bytes .ensures .0 ∙ ap (λ (n : ℕ). bytesOf (n * 683 / 8192)) sum in
     let left = (λ i. sum i - taken i * 12) ∙ left-is (saidBy f) (saidBy g) (said-narrow f) (said-short f) (said-short g) in
     (left, omega (arith, left, moved-small (saidBy f) (saidBy g) (said-narrow f) (said-short f) (said-short g)))

@@ -45,7 +45,17 @@ mul-result-4 c = search needs
 add-result-4 : tie.Need-add-result-4
 add-result-4 c =
     let flag : c .before .before .before .before .before .before .args .flag % 2 ≤ 1 = omega arith in
-    record { fits = omega (arith, flag, c .packed-twelfths .ensures .1, c .before .packed-row3 .ensures .1, c .before .before .packed-row2 .ensures .1, c .before .before .before .packed-row .ensures .1) }
+    record {
+      fits =
+          omega (
+            arith,
+            flag,
+            c .packed-twelfths .ensures .1,
+            c .before .packed-row3 .ensures .1,
+            c .before .before .packed-row2 .ensures .1,
+            c .before .before .before .packed-row .ensures .1,
+          );
+    }
 
 returns : tie.Need-returns
 returns c = search needs

@@ -44,7 +44,8 @@ returns-2 : tie.Need-returns-2
 returns-2 c =
     let a = c .before .before .before .before .before .args in
     product-outside-next (saidBy (a .f)) (saidBy (a .g)) _ (said-narrow (a .f)) (said-narrow (a .g))
-    (λ e. c .if2 .taken (c .before .eights2 .ensures ∙ ap (λ (n : ℕ). eightsOf (n + 4648737378927649)) (c .before .before .before .before .rotations .ensures .0) ∙ e))
+    (λ e. c .if2 .taken (c .before .eights2 .ensures
+    ∙ ap (λ (n : ℕ). eightsOf (n + 4648737378927649)) (c .before .before .before .before .rotations .ensures .0) ∙ e))
 
 key-requires : tie.Need-key-requires
 key-requires c κs = search needs
@@ -78,10 +79,13 @@ returns-3 c =
     let a = c .before .before .before .before .before .before .before .before .before .args in
     let raised = c .before .before .before .before .before .before .before .before .rotations .ensures .0 in
     let key = c .before .before .before .key .ensures .0 ∙ ap keyOf raised in
-    (λ i. Inside (key i + c .before .before .moved .ensures .0 i * 32768 + (c .before .flag .ensures .0 i + c .flag2 .ensures .0 i) % 2 * 9223372036854775808)) ∙
+    (λ i. Inside (key i + c .before .before .moved .ensures .0 i * 32768 +
+    (c .before .flag .ensures .0 i + c .flag2 .ensures .0 i) % 2 * 9223372036854775808)) ∙
     product-inside (saidBy (a .f)) (saidBy (a .g)) ((flagOf (a .f) + flagOf (a .g)) % 2) (said-narrow (a .f)) (said-narrow (a .g))
-    (sym (ap eightsOf raised) ∙ sym (c .before .before .before .before .before .before .before .eights .ensures) ∙ c .before .before .before .before .before .before .if1 .left)
-    (sym (ap (λ (n : ℕ). eightsOf (n + 4648737378927649)) raised) ∙ sym (c .before .before .before .before .before .eights2 .ensures) ∙ c .before .before .before .before .if2 .left)
+    (sym (ap eightsOf raised) ∙ sym (c .before .before .before .before .before .before .before .eights .ensures)
+    ∙ c .before .before .before .before .before .before .if1 .left)
+    (sym (ap (λ (n : ℕ). eightsOf (n + 4648737378927649)) raised) ∙ sym (c .before .before .before .before .before .eights2 .ensures)
+    ∙ c .before .before .before .before .if2 .left)
 
 pub product-spec : {M : Type 1} → statement M
 product-spec =

@@ -17,7 +17,14 @@ digits-requires c κs = search needs
 
 mul-result : tie.Need-mul-result
 mul-result c =
-    record { fits = omega (arith, mul-le-mul {n₁ = c .digits .result} {m₁ = c .before .args .a} {n₂ = 13194145824771} {m₂ = 3171} (c .digits .ensures .1) (c .before .pre)) }
+    record {
+      fits =
+          omega (
+            arith,
+            mul-le-mul {n₁ = c .digits .result} {m₁ = c .before .args .a} {n₂ = 13194145824771} {m₂ = 3171} (c .digits .ensures .1)
+                (c .before .pre),
+          );
+    }
 
 returns : tie.Need-returns
 unfolding digitLanes

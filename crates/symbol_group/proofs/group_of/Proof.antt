@@ -26,12 +26,14 @@ returns : tie.Need-returns
 returns c =
     let a = c .before .before .before .before .before .args in
     c .refused .ensures ∙ group-refused (a .centering) (take (a .n)
-    (a .generators)) (c .before .before .before .before .new .result) (c .before .before .before .before .new .ensures) (c .before .before .answer .given .0 .0) (c .before .before .answer .given .1)
+    (a .generators)) (c .before .before .before .before .new .result) (c .before .before .before .before .new .ensures) (c .before .before .answer .given .0 .0)
+    (c .before .before .answer .given .1)
 
 returns-2 : tie.Need-returns-2
 returns-2 c =
     let a = c .before .before .before .before .before .args in
-    group-made (a .centering) (take (a .n) (a .generators)) (c .before .before .before .before .new .result) (c .before .before .before .before .new .ensures) (c .before .before .enum-told .given .1)
+    group-made (a .centering) (take (a .n) (a .generators)) (c .before .before .before .before .new .result) (c .before .before .before .before .new .ensures)
+    (c .before .before .enum-told .given .1)
 
 pub group-of-spec : {M : Type 1} → statement M
 group-of-spec =

@@ -27,13 +27,22 @@ to-doubles-requires : tie.Need-to-doubles-requires
 to-doubles-requires c κs = search needs
 
 returns : tie.Need-returns
-returns c = translation-found (c .before .before .before .before .before .args .text .now) (c .before .before .before .before .before .args .index) (c .before .before .before .operation-at .result) (Refused (c .before .found .given .0 .0)) (c .before .before .before .operation-at .ensures) (c .before .found .given .1)
+returns c =
+    translation-found (c .before .before .before .before .before .args .text .now) (c .before .before .before .before .before .args .index)
+    (c .before .before .before .operation-at .result) (Refused (c .before .found .given .0 .0)) (c .before .before .before .operation-at .ensures)
+    (c .before .found .given .1)
 
 returns-2 : tie.Need-returns-2
-returns-2 c = translation-found (c .before .before .before .before .args .text .now) (c .before .before .before .before .args .index) (c .before .before .operation-at .result) PastEnd (c .before .before .operation-at .ensures) (c .enum-told .given .1)
+returns-2 c =
+    translation-found (c .before .before .before .before .args .text .now) (c .before .before .before .before .args .index)
+    (c .before .before .operation-at .result) PastEnd (c .before .before .operation-at .ensures) (c .enum-told .given .1)
 
 returns-3 : tie.Need-returns-3
-returns-3 c = ap Doubles (c .to-doubles .ensures) ∙ translation-found (c .before .before .before .before .before .before .args .text .now) (c .before .before .before .before .before .before .args .index) (c .before .before .before .before .operation-at .result) (Operation (c .before .before .found2 .given .0 .0)) (c .before .before .before .before .operation-at .ensures) (c .before .before .found2 .given .1)
+returns-3 c =
+    ap Doubles (c .to-doubles .ensures)
+    ∙ translation-found (c .before .before .before .before .before .before .args .text .now) (c .before .before .before .before .before .before .args .index)
+    (c .before .before .before .before .operation-at .result) (Operation (c .before .before .found2 .given .0 .0))
+    (c .before .before .before .before .operation-at .ensures) (c .before .before .found2 .given .1)
 
 pub translation-at-spec : {M : Type 1} → statement M
 translation-at-spec =

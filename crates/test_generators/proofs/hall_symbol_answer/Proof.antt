@@ -54,7 +54,9 @@ returns c =
 
 returns-2 : tie.Need-returns-2
 returns-2 c =
-    packed-refused (c .before .before .before .before .before .new .result) _ (c .before .number .result) (c .place .result) (c .before .before .before .answer .given .1) (c .before .number .ensures) (c .place .ensures) ∙ ap packedAnswer (c .before .before .before .before .before .new .ensures)
+    packed-refused (c .before .before .before .before .before .new .result) _ (c .before .number .result) (c .place .result)
+    (c .before .before .before .answer .given .1) (c .before .number .ensures) (c .place .ensures)
+    ∙ ap packedAnswer (c .before .before .before .before .before .new .ensures)
 
 pub hall-symbol-answer-spec : {M : Type 1} → statement M
 hall-symbol-answer-spec =

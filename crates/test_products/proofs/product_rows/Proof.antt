@@ -31,11 +31,14 @@ enum-told c = search needs
 
 returns : tie.Need-returns
 returns c =
-    c .rows .ensures ∙ ap productRows (sym (c .before .before .o .given .1) ∙ c .before .before .before .before .mul .ensures ∙ ap₂ productOf (c .before .before .before .before .before .before .operation-in .ensures) (c .before .before .before .before .before .operation-in2 .ensures))
+    c .rows .ensures ∙ ap productRows (sym (c .before .before .o .given .1) ∙ c .before .before .before .before .mul .ensures
+    ∙ ap₂ productOf (c .before .before .before .before .before .before .operation-in .ensures)
+    (c .before .before .before .before .before .operation-in2 .ensures))
 
 returns-2 : tie.Need-returns-2
 returns-2 c =
-    ap productRows (sym (c .enum-told .given .1) ∙ c .before .before .mul .ensures ∙ ap₂ productOf (c .before .before .before .before .operation-in .ensures) (c .before .before .before .operation-in2 .ensures))
+    ap productRows (sym (c .enum-told .given .1) ∙ c .before .before .mul .ensures
+    ∙ ap₂ productOf (c .before .before .before .before .operation-in .ensures) (c .before .before .before .operation-in2 .ensures))
 
 pub product-rows-spec : {M : Type 1} → statement M
 product-rows-spec =

@@ -72,7 +72,8 @@ slice-write-list c =
     let p = c .before .before .before .before .before .before .before .before .before .before .pre in
     let small : l .x < 64 = let h = p .0 .cells .limit in omega (arith, c .before .before .before .before .before .loop-test .taken) in
     let m = sym (c .before .before .before .before .contains .ensures small) ∙ not-false _ (c .before .before .before .if1 .left) in
-    let room = count-room (a .n) (product (a .n) (a .t .now)) (a .e) (a .s) (a .g) (l .x) (c .before .before .before .before .before .loop-test .taken) (p .1) m in
+    let room =
+    count-room (a .n) (product (a .n) (a .t .now)) (a .e) (a .s) (a .g) (l .x) (c .before .before .before .before .before .loop-test .taken) (p .1) m in
     let h = p .3 in
     let i = l .inv .1 in
     let q = l .inv .2 in
@@ -85,7 +86,8 @@ add-i c =
     let p = c .before .before .before .before .before .before .before .before .before .before .pre in
     let small : l .x < 64 = let h = p .0 .cells .limit in omega (arith, c .before .before .before .before .before .loop-test .taken) in
     let m = sym (c .before .before .before .before .contains .ensures small) ∙ not-false _ (c .before .before .before .if1 .left) in
-    let room = count-room (a .n) (product (a .n) (a .t .now)) (a .e) (a .s) (a .g) (l .x) (c .before .before .before .before .before .loop-test .taken) (p .1) m in
+    let room =
+    count-room (a .n) (product (a .n) (a .t .now)) (a .e) (a .s) (a .g) (l .x) (c .before .before .before .before .before .loop-test .taken) (p .1) m in
     let h = p .3 in
     let i = l .inv .1 in
     omega arith

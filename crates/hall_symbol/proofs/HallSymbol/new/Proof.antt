@@ -35,21 +35,28 @@ refused-requires-3 c κs = search needs
 returns-3 : tie.Need-returns-3
 returns-3 c = c .refused3 .ensures ∙ ap answerOf (sym
     (read-blank (c .before .before .before .before .before .before .before .args .text .now) (omega arith)
-    (c .before .before .before .before .scan .result) (c .before .before .before .before .scan .ensures) (omega arith) (c .before .before .next-word .result) (c .before .before .next-word .ensures) (omega arith)))
+    (c .before .before .before .before .scan .result) (c .before .before .before .before .scan .ensures) (omega arith) (c .before .before .next-word .result)
+    (c .before .before .next-word .ensures) (omega arith)))
 
 sub-parse-lattice : tie.Need-sub-parse-lattice
 sub-parse-lattice c =
-    let (after, ordered, reaches) = word-within (c .before .before .before .before .before .before .args .text .now) 0 (c .before .next-word .result) (c .before .next-word .ensures) (omega arith) in
+    let (after, ordered, reaches) =
+    word-within (c .before .before .before .before .before .before .args .text .now) 0 (c .before .next-word .result) (c .before .next-word .ensures)
+    (omega arith) in
     ordered
 
 part-parse-lattice-start : tie.Need-part-parse-lattice-start
 part-parse-lattice-start c =
-    let (after, ordered, reaches) = word-within (c .before .before .before .before .before .before .args .text .now) 0 (c .before .next-word .result) (c .before .next-word .ensures) (omega arith) in
+    let (after, ordered, reaches) =
+    word-within (c .before .before .before .before .before .before .args .text .now) 0 (c .before .next-word .result) (c .before .next-word .ensures)
+    (omega arith) in
     search needs
 
 part-parse-lattice-end : tie.Need-part-parse-lattice-end
 part-parse-lattice-end c =
-    let (after, ordered, reaches) = word-within (c .before .before .before .before .before .before .args .text .now) 0 (c .before .next-word .result) (c .before .next-word .ensures) (omega arith) in
+    let (after, ordered, reaches) =
+    word-within (c .before .before .before .before .before .before .args .text .now) 0 (c .before .next-word .result) (c .before .next-word .ensures)
+    (omega arith) in
     search needs
 
 parse-lattice-requires : tie.Need-parse-lattice-requires
@@ -68,14 +75,20 @@ returns-4 : tie.Need-returns-4
 returns-4 c =
     c .refused4 .ensures
     ∙ ap answerOf (sym (read-lattice (c .before .before .before .before .before .before .before .before .before .before .before .args .text .now)
-    (omega arith) (c .before .before .before .before .before .before .before .before .scan .result) (c .before .before .before .before .before .before .before .before .scan .ensures) (omega arith) (c .before .before .before .before .before .before .next-word .result) (c .before .before .before .before .before .before .next-word .ensures) (omega arith) Wrong (sym (c .before .enum-told .given .1) ∙ c .before .before .before .parse-lattice .ensures)))
+    (omega arith) (c .before .before .before .before .before .before .before .before .scan .result)
+    (c .before .before .before .before .before .before .before .before .scan .ensures) (omega arith)
+    (c .before .before .before .before .before .before .next-word .result) (c .before .before .before .before .before .before .next-word .ensures)
+    (omega arith) Wrong (sym (c .before .enum-told .given .1) ∙ c .before .before .before .parse-lattice .ensures)))
 
 leading-requires : tie.Need-leading-requires
 leading-requires c κs = search needs
 
 parse-requires : tie.Need-parse-requires
 parse-requires c κs =
-    let (after, ordered, reaches) = word-within (c .before .before .before .before .before .before .before .before .before .before .before .before .args .text .now) 0 (c .before .before .before .before .before .before .before .next-word .result) (c .before .before .before .before .before .before .before .next-word .ensures) (omega arith) in
+    let (after, ordered, reaches) =
+    word-within (c .before .before .before .before .before .before .before .before .before .before .before .before .args .text .now) 0
+    (c .before .before .before .before .before .before .before .next-word .result)
+    (c .before .before .before .before .before .before .before .next-word .ensures) (omega arith) in
     (reaches, c .leading .ensures .count)
 
 returns-5 : tie.Need-returns-5

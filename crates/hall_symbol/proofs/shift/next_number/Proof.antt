@@ -17,17 +17,20 @@ next-word-requires c κs = search needs
 
 sub-parse-number : tie.Need-sub-parse-number
 sub-parse-number c =
-    let (after, ordered, reaches) = word-within (c .before .before .args .inside .now) (c .before .before .args .at) (c .next-word .result) (c .next-word .ensures) (omega arith) in
+    let (after, ordered, reaches) =
+    word-within (c .before .before .args .inside .now) (c .before .before .args .at) (c .next-word .result) (c .next-word .ensures) (omega arith) in
     ordered
 
 part-parse-number-start : tie.Need-part-parse-number-start
 part-parse-number-start c =
-    let (after, ordered, reaches) = word-within (c .before .before .args .inside .now) (c .before .before .args .at) (c .next-word .result) (c .next-word .ensures) (omega arith) in
+    let (after, ordered, reaches) =
+    word-within (c .before .before .args .inside .now) (c .before .before .args .at) (c .next-word .result) (c .next-word .ensures) (omega arith) in
     search needs
 
 part-parse-number-end : tie.Need-part-parse-number-end
 part-parse-number-end c =
-    let (after, ordered, reaches) = word-within (c .before .before .args .inside .now) (c .before .before .args .at) (c .next-word .result) (c .next-word .ensures) (omega arith) in
+    let (after, ordered, reaches) =
+    word-within (c .before .before .args .inside .now) (c .before .before .args .at) (c .next-word .result) (c .next-word .ensures) (omega arith) in
     search needs
 
 parse-number-requires : tie.Need-parse-number-requires
@@ -42,7 +45,8 @@ enum-told c = search needs
 returns : tie.Need-returns
 returns c =
     let a = c .before .before .before .before .before .before .args in
-    let bytes = word-bytes (a .inside .now) (a .at) (c .before .before .before .before .next-word .result) (c .before .before .before .before .next-word .ensures) in
+    let bytes =
+    word-bytes (a .inside .now) (a .at) (c .before .before .before .before .next-word .result) (c .before .before .before .before .next-word .ensures) in
     let none : shiftNumber (firstWord (drop (a .at) (a .inside .now))) ≡ None =
     ap shiftNumber (sym bytes) ∙ sym (c .before .before .parse-number .ensures) ∙ c .enum-told .given .1 in
     rw none

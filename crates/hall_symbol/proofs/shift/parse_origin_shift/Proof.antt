@@ -13,7 +13,9 @@ scan-requires : tie.Need-scan-requires
 scan-requires c κs = search needs
 
 returns : tie.Need-returns
-returns c = not-closed (c .before .before .before .args .text .now) (c .before .before .before .args .bracket) (c .before .scan .result) (c .before .scan .ensures) (omega arith)
+returns c =
+    not-closed (c .before .before .before .args .text .now) (c .before .before .before .args .bracket) (c .before .scan .result) (c .before .scan .ensures)
+    (omega arith)
 
 add-scan : tie.Need-add-scan
 add-scan c = search needs
@@ -22,7 +24,9 @@ scan-requires-2 : tie.Need-scan-requires-2
 scan-requires-2 c κs = search needs
 
 returns-2 : tie.Need-returns-2
-returns-2 c = text-follows (c .before .before .before .before .before .args .text .now) (c .before .before .before .before .before .args .bracket) (c .before .before .before .scan .result) (c .before .before .before .scan .ensures) (omega arith) (omega (arith, c .before .scan2 .ensures))
+returns-2 c =
+    text-follows (c .before .before .before .before .before .args .text .now) (c .before .before .before .before .before .args .bracket)
+    (c .before .before .before .scan .result) (c .before .before .before .scan .ensures) (omega arith) (omega (arith, c .before .scan2 .ensures))
 
 sub-parse-numbers : tie.Need-sub-parse-numbers
 sub-parse-numbers c = search needs
@@ -39,7 +43,9 @@ parse-numbers-requires c κs = search needs
 returns-3 : tie.Need-returns-3
 returns-3 c =
     c .parse-numbers .ensures
-    ∙ brackets-close (c .before .before .before .before .before .before .before .args .text .now) (c .before .before .before .before .before .before .before .args .bracket) (c .before .before .before .before .before .scan .result) (c .before .before .before .before .before .scan .ensures) (omega arith) (omega (arith, c .before .before .before .scan2 .ensures))
+    ∙ brackets-close (c .before .before .before .before .before .before .before .args .text .now)
+    (c .before .before .before .before .before .before .before .args .bracket) (c .before .before .before .before .before .scan .result)
+    (c .before .before .before .before .before .scan .ensures) (omega arith) (omega (arith, c .before .before .before .scan2 .ensures))
 
 pub parse-origin-shift-spec : {M : Type 1} → statement M
 parse-origin-shift-spec =

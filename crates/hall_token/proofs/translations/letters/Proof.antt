@@ -85,7 +85,9 @@ loop-again c =
       omega arith,
       omega arith,
       loop .inv .4
-          ∙ letters-next (args .run .now) (loop .i) (loop .x) (loop .y) (loop .z) (run-byte .result) (letter-vector .result) (loop-test .taken) (test-passes noScrew _ (run-byte .result) (no-screw .result) (run-byte .ensures) (no-screw .ensures) (if1 .left)) (run-byte .ensures) (letter-vector .ensures),
+          ∙ letters-next (args .run .now) (loop .i) (loop .x) (loop .y) (loop .z) (run-byte .result) (letter-vector .result) (loop-test .taken)
+          (test-passes noScrew _ (run-byte .result) (no-screw .result) (run-byte .ensures) (no-screw .ensures) (if1 .left)) (run-byte .ensures)
+          (letter-vector .ensures),
     )
 
 returns-2 : tie.Need-returns-2 Inv-loop μ-loop

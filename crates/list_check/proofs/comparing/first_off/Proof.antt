@@ -57,7 +57,8 @@ returns-2 c =
     let s = c .before .before .before .before .before .before .before .before in
     let a = s .args in
     let l = c .before .before .before .before .before .before .loop in
-    let place = c .before .before .before .place-of .ensures ∙ at-entry (a .c) (a .count) (a .operations) (c .before .before .before .before .operation-at .ensures) in
+    let place =
+    c .before .before .before .place-of .ensures ∙ at-entry (a .c) (a .count) (a .operations) (c .before .before .before .before .operation-at .ensures) in
     let within = c .before .before .if1 .left in
     let there = ap (member (l .seen)) (sym place) ∙ sym (c .before .contains .ensures (omega arith)) ∙ c .if2 .taken in
     let off = seen-off (a .c) (a .count) (slotAt (a .operations)) (entryAt (a .list .now)) (s .pre .1) (l .i) (omega arith) (l .seen) (l .inv .2) there in
@@ -80,7 +81,9 @@ loop-again c =
     let s = c .before .before .before .before .before .before .before .before .before in
     let a = s .args in
     let l = c .before .before .before .before .before .before .before .loop in
-    let place = c .before .before .before .before .place-of .ensures ∙ at-entry (a .c) (a .count) (a .operations) (c .before .before .before .before .before .operation-at .ensures) in
+    let place =
+    c .before .before .before .before .place-of .ensures
+    ∙ at-entry (a .c) (a .count) (a .operations) (c .before .before .before .before .before .operation-at .ensures) in
     let within = c .before .before .before .if1 .left in
     let absent = ap (member (l .seen)) (sym place) ∙ sym (c .before .before .contains .ensures (omega arith)) ∙ c .before .if2 .left in
     let on = new-on (a .c) (a .count) (slotAt (a .operations)) (entryAt (a .list .now)) (s .pre .1) (l .i) (omega arith) (l .seen) (l .inv .2) absent in

@@ -15,10 +15,12 @@ rotation-code-requires : tie.Need-rotation-code-requires
 rotation-code-requires c κs = search needs
 
 returns-2 : tie.Need-returns-2
-returns-2 c = rw (sym (c .before .before .before .contains .ensures (omega arith)) ∙ c .before .before .if1 .left) (omega (arith, c .before .rotation-code .ensures))
+returns-2 c =
+    rw (sym (c .before .before .before .contains .ensures (omega arith)) ∙ c .before .before .if1 .left) (omega (arith, c .before .rotation-code .ensures))
 
 returns-3 : tie.Need-returns-3
-returns-3 c = rw (sym (c .before .before .before .contains .ensures (omega arith)) ∙ c .before .before .if1 .left) (omega (arith, c .before .rotation-code .ensures))
+returns-3 c =
+    rw (sym (c .before .before .before .contains .ensures (omega arith)) ∙ c .before .before .if1 .left) (omega (arith, c .before .rotation-code .ensures))
 
 pub lower-spec : {M : Type 1} → statement M
 lower-spec =

@@ -19,11 +19,13 @@ abbrev μ-loop : tie.MeasureT-loop
 
 -- What the test said of an operation.
 tested : (c : tie.After-alike-operations Inv-loop μ-loop)
-    → c .alike-operations .result ≡ alike (c .before .before .before .before .args .c) (c .before .before .before .before .args .e) (slotAt (c .before .before .before .before .args .t3) (c .before .before .before .loop .k))
+    → c .alike-operations .result ≡ alike (c .before .before .before .before .args .c) (c .before .before .before .before .args .e)
+    (slotAt (c .before .before .before .before .args .t3) (c .before .before .before .loop .k))
 tested c =
     let a = c .before .before .before .before .args in
     let long : length (a .t3) ≡ 48 = c .before .before .before .before .good .1 .1 .0 .1 .0 .1 in
-    c .alike-operations .ensures ∙ ap (λ (o : Operation). alike (a .c) (a .e) o) (slot-is (a .t3) (c .before .before .before .loop .k) _ (omega (arith, c .before .before .before .before .pre)))
+    c .alike-operations .ensures ∙ ap (λ
+    (o : Operation). alike (a .c) (a .e) o) (slot-is (a .t3) (c .before .before .before .loop .k) _ (omega (arith, c .before .before .before .before .pre)))
 
 loop-holds : tie.Need-loop-holds Inv-loop μ-loop
 loop-holds c = (omega arith, λ j h. absurd (omega arith))

@@ -52,7 +52,8 @@ returns-2 c =
     (lane (r .xx) (r .xy) (r .xz) (a .a) (a .b) (a .c) (omega arith) (omega arith) (omega arith) (omega arith) (omega arith) (omega arith))
     (lane (r .yx) (r .yy) (r .yz) (a .a) (a .b) (a .c) (omega arith) (omega arith) (omega arith) (omega arith) (omega arith) (omega arith))
     (lane (r .zx) (r .zy) (r .zz) (a .a) (a .b) (a .c) (omega arith) (omega arith) (omega arith) (omega arith) (omega arith) (omega arith))
-    (λ e. c .if2 .taken (c .before .fours2 .ensures ∙ ap (λ n. foursOf (n + 4398048608257)) (c .before .before .before .before .raised-column .ensures .0) ∙ e)))
+    (λ e. c .if2 .taken (c .before .fours2 .ensures ∙ ap (λ n. foursOf (n + 4398048608257)) (c .before .before .before .before .raised-column .ensures .0)
+    ∙ e)))
 
 cast-t10 : tie.Need-cast-t10
 cast-t10 c = search needs

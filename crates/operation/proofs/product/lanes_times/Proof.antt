@@ -20,7 +20,10 @@ wide-requires c κs = search needs
 
 mul-result : tie.Need-mul-result
 mul-result c =
-    record { fits = omega (arith, mul-le-mul {n₁ = c .before .lanes .result} {m₁ = c .wide .result} {n₂ = 1121502395105535} {m₂ = 255} (omega arith) (omega arith)) }
+    record {
+      fits =
+          omega (arith, mul-le-mul {n₁ = c .before .lanes .result} {m₁ = c .wide .result} {n₂ = 1121502395105535} {m₂ = 255} (omega arith) (omega arith));
+    }
 
 returns : tie.Need-returns
 returns c =

@@ -58,10 +58,14 @@ reduced-requires c κs =
     let u = a .u in
     let t = a .t in
     lanes-small-lanes _ _ _ _
-    ((λ i. c .before .before .before .before .rows-times .ensures .0 i + c .before .before .before .lanes .ensures i + (c .before .before .wide .ensures i + c .before .wide2 .ensures i + c .wide3 .ensures i) * 48378534690827) ∙ moved-lanes _ _ _ _ _ _ _)
-    (moved-small (r .xx) (r .xy) (r .xz) (u .x) (u .y) (u .z) (t .x) (omega arith) (omega arith) (omega arith) (omega arith) (omega arith) (omega arith) (omega arith))
-    (moved-small (r .yx) (r .yy) (r .yz) (u .x) (u .y) (u .z) (t .y) (omega arith) (omega arith) (omega arith) (omega arith) (omega arith) (omega arith) (omega arith))
-    (moved-small (r .zx) (r .zy) (r .zz) (u .x) (u .y) (u .z) (t .z) (omega arith) (omega arith) (omega arith) (omega arith) (omega arith) (omega arith) (omega arith))
+    ((λ i. c .before .before .before .before .rows-times .ensures .0 i + c .before .before .before .lanes .ensures i +
+    (c .before .before .wide .ensures i + c .before .wide2 .ensures i + c .wide3 .ensures i) * 48378534690827) ∙ moved-lanes _ _ _ _ _ _ _)
+    (moved-small (r .xx) (r .xy) (r .xz) (u .x) (u .y) (u .z) (t .x) (omega arith) (omega arith) (omega arith) (omega arith) (omega arith) (omega arith)
+    (omega arith))
+    (moved-small (r .yx) (r .yy) (r .yz) (u .x) (u .y) (u .z) (t .y) (omega arith) (omega arith) (omega arith) (omega arith) (omega arith) (omega arith)
+    (omega arith))
+    (moved-small (r .zx) (r .zy) (r .zz) (u .x) (u .y) (u .z) (t .z) (omega arith) (omega arith) (omega arith) (omega arith) (omega arith) (omega arith)
+    (omega arith))
 
 returns : tie.Need-returns
 unfolding reducedOf movedOf act plus matrixOf vectorOf
@@ -73,12 +77,25 @@ returns c =
     let x = r .xx * u .x + r .xy * u .y + r .xz * u .z + t .x + 11 * (u .x + u .y + u .z) in
     let y = r .yx * u .x + r .yy * u .y + r .yz * u .z + t .y + 11 * (u .x + u .y + u .z) in
     let z = r .zx * u .x + r .zy * u .y + r .zz * u .z + t .z + 11 * (u .x + u .y + u .z) in
-    let hx : x < 261120 = moved-small (r .xx) (r .xy) (r .xz) (u .x) (u .y) (u .z) (t .x) (omega arith) (omega arith) (omega arith) (omega arith) (omega arith) (omega arith) (omega arith) in
-    let hy : y < 261120 = moved-small (r .yx) (r .yy) (r .yz) (u .x) (u .y) (u .z) (t .y) (omega arith) (omega arith) (omega arith) (omega arith) (omega arith) (omega arith) (omega arith) in
-    let sum = (λ i. c .before .before .before .before .before .rows-times .ensures .0 i + c .before .before .before .before .lanes .ensures i + (c .before .before .before .wide .ensures i + c .before .before .wide2 .ensures i + c .before .wide3 .ensures i) * 48378534690827) ∙ moved-lanes _ _ _ _ _ _ _ in
-    let px = ap (λ n. n % 2097152 % 12) sum ∙ ap (λ n. n % 12) (first-lane x y z (omega arith) (omega arith)) ∙ sym (moved-residue (r .xx) (r .xy) (r .xz) (u .x) (u .y) (u .z) (t .x)) in
-    let py = ap (λ n. n / 2097152 % 2097152 % 12) sum ∙ ap (λ n. n % 12) (second-lane x y z (omega arith) (omega arith)) ∙ sym (moved-residue (r .yx) (r .yy) (r .yz) (u .x) (u .y) (u .z) (t .y)) in
-    let pz = ap (λ n. n / 4398046511104 % 12) sum ∙ ap (λ n. n % 12) (third-lane x y z (omega arith) (omega arith)) ∙ sym (moved-residue (r .zx) (r .zy) (r .zz) (u .x) (u .y) (u .z) (t .z)) in
+    let hx : x < 261120 =
+    moved-small (r .xx) (r .xy) (r .xz) (u .x) (u .y) (u .z) (t .x) (omega arith) (omega arith) (omega arith) (omega arith) (omega arith) (omega arith)
+    (omega arith) in
+    let hy : y < 261120 =
+    moved-small (r .yx) (r .yy) (r .yz) (u .x) (u .y) (u .z) (t .y) (omega arith) (omega arith) (omega arith) (omega arith) (omega arith) (omega arith)
+    (omega arith) in
+    let sum =
+    (λ i. c .before .before .before .before .before .rows-times .ensures .0 i + c .before .before .before .before .lanes .ensures i +
+    (c .before .before .before .wide .ensures i + c .before .before .wide2 .ensures i + c .before .wide3 .ensures i) * 48378534690827)
+    ∙ moved-lanes _ _ _ _ _ _ _ in
+    let px =
+    ap (λ n. n % 2097152 % 12) sum ∙ ap (λ n. n % 12) (first-lane x y z (omega arith) (omega arith))
+    ∙ sym (moved-residue (r .xx) (r .xy) (r .xz) (u .x) (u .y) (u .z) (t .x)) in
+    let py =
+    ap (λ n. n / 2097152 % 2097152 % 12) sum ∙ ap (λ n. n % 12) (second-lane x y z (omega arith) (omega arith))
+    ∙ sym (moved-residue (r .yx) (r .yy) (r .yz) (u .x) (u .y) (u .z) (t .y)) in
+    let pz =
+    ap (λ n. n / 4398046511104 % 12) sum ∙ ap (λ n. n % 12) (third-lane x y z (omega arith) (omega arith))
+    ∙ sym (moved-residue (r .zx) (r .zy) (r .zz) (u .x) (u .y) (u .z) (t .z)) in
     c .reduced .ensures ∙ λ i. record { x = px i; y = py i; z = pz i }
 
 pub moved-spec : {M : Type 1} → statement M

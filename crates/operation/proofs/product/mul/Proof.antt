@@ -38,7 +38,9 @@ enum-told-2 c = search needs
 returns-2 : tie.Need-returns-2
 unfolding productOf columnTimes motionOf matrixOf vectorOf product times act plus
 returns-2 c =
-    let first = column-inside _ _ _ _ _ _ (sym (c .before .before .before .before .before .before .column-times .ensures) ∙ c .before .before .before .before .xx .given .1) in
+    let first =
+    column-inside _ _ _ _ _ _ (sym (c .before .before .before .before .before .before .column-times .ensures)
+    ∙ c .before .before .before .before .xx .given .1) in
     simp (all-columns, first .0, column-outside _ _ _ (sym (c .before .before .column-times2 .ensures) ∙ c .enum-told2 .given .1))
 
 column-times-requires-3 : tie.Need-column-times-requires-3
@@ -53,8 +55,12 @@ enum-told-3 c = search needs
 returns-3 : tie.Need-returns-3
 unfolding productOf columnTimes motionOf matrixOf vectorOf product times act plus
 returns-3 c =
-    let first = column-inside _ _ _ _ _ _ (sym (c .before .before .before .before .before .before .before .before .before .before .column-times .ensures) ∙ c .before .before .before .before .before .before .before .before .xx .given .1) in
-    let second = column-inside _ _ _ _ _ _ (sym (c .before .before .before .before .before .before .column-times2 .ensures) ∙ c .before .before .before .before .xy .given .1) in
+    let first =
+    column-inside _ _ _ _ _ _ (sym (c .before .before .before .before .before .before .before .before .before .before .column-times .ensures)
+    ∙ c .before .before .before .before .before .before .before .before .xx .given .1) in
+    let second =
+    column-inside _ _ _ _ _ _ (sym (c .before .before .before .before .before .before .column-times2 .ensures)
+    ∙ c .before .before .before .before .xy .given .1) in
     simp (all-columns, first .0, second .0, column-outside _ _ _ (sym (c .before .before .column-times3 .ensures) ∙ c .enum-told3 .given .1))
 
 moved-requires : tie.Need-moved-requires
@@ -63,8 +69,11 @@ moved-requires c κs = search needs
 returns-4 : tie.Need-returns-4
 unfolding productOf columnTimes operationOf movedOf motionOf matrixOf vectorOf product times act plus
 returns-4 c =
-    let first = column-inside _ _ _ _ _ _ (sym (c .before .before .before .before .before .before .before .before .before .before .before .before .column-times .ensures) ∙ c .before .before .before .before .before .before .before .before .before .before .xx .given .1) in
-    let second = column-inside _ _ _ _ _ _ (sym (c .before .before .before .before .before .before .before .before .column-times2 .ensures) ∙ c .before .before .before .before .before .before .xy .given .1) in
+    let first =
+    column-inside _ _ _ _ _ _ (sym (c .before .before .before .before .before .before .before .before .before .before .before .before .column-times .ensures) ∙ c .before .before .before .before .before .before .before .before .before .before .xx .given .1) in
+    let second =
+    column-inside _ _ _ _ _ _ (sym (c .before .before .before .before .before .before .before .before .column-times2 .ensures)
+    ∙ c .before .before .before .before .before .before .xy .given .1) in
     let third = column-inside _ _ _ _ _ _ (sym (c .before .before .before .before .column-times3 .ensures) ∙ c .before .before .xz .given .1) in
     simp (
       all-columns,

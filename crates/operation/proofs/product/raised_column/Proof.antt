@@ -50,8 +50,10 @@ sub-result c = search needs
 returns : tie.Need-returns
 returns c =
     let a = c .before .before .before .before .before .args in (
-      (λ i. c .before .before .before .rows-times2 .ensures .0 i + (9024795744143364 - c .before .before .before .before .rows-times .ensures .0 i) - (c .before .before .wide .ensures i + c .before .wide2 .ensures i + c .wide3 .ensures i) * 4398048608257) ∙
-          raised-lanes (a .r) (a .a) (a .b) (a .c) (omega arith) (omega arith) (omega arith) (omega arith) (omega arith) (omega arith) (omega arith) (omega arith) (omega arith) (omega arith) (omega arith) (omega arith),
+      (λ i. c .before .before .before .rows-times2 .ensures .0 i + (9024795744143364 - c .before .before .before .before .rows-times .ensures .0 i) -
+          (c .before .before .wide .ensures i + c .before .wide2 .ensures i + c .wide3 .ensures i) * 4398048608257) ∙
+          raised-lanes (a .r) (a .a) (a .b) (a .c) (omega arith) (omega arith) (omega arith) (omega arith) (omega arith) (omega arith) (omega arith)
+          (omega arith) (omega arith) (omega arith) (omega arith) (omega arith),
       omega arith,
     )
 

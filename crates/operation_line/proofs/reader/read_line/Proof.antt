@@ -36,7 +36,8 @@ returns-2 : tie.Need-returns-2 Inv-loop μ-loop
 returns-2 c =
     let stepped = c .before .before in
     let test = stepped .before .before in
-    holds-stop _ _ _ (test .before .loop .inv) (test .loop-test .taken) (sym (stepped .step .ensures) ∙ c .enum-told .given .1) (test .before .before .if1 .left)
+    holds-stop _ _ _ (test .before .loop .inv) (test .loop-test .taken) (sym (stepped .step .ensures) ∙ c .enum-told .given .1)
+    (test .before .before .if1 .left)
 
 enum-known-next : tie.Need-enum-known-next Inv-loop μ-loop
 enum-known-next c = search needs

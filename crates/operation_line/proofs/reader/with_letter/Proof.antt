@@ -27,7 +27,8 @@ returns-2 : tie.Need-returns-2
 unfolding letterNumbers
 returns-2 c =
     let weighed = c .before .before in
-    rw (← weighed .before .before .column .ensures, eq-eqb _ _ (weighed .before .if1 .left), c .before .if2 .taken, ← weighed .weight .ensures) (c .told .ensures)
+    rw (← weighed .before .before .column .ensures, eq-eqb _ _ (weighed .before .if1 .left), c .before .if2 .taken, ← weighed .weight .ensures)
+    (c .told .ensures)
 
 add-told : tie.Need-add-told
 add-told c = omega (arith, c .before .weight .ensures, weight-small (c .before .before .before .before .args .letter))
@@ -39,7 +40,8 @@ returns-3 : tie.Need-returns-3
 unfolding letterNumbers
 returns-3 c =
     let weighed = c .before .before in
-    rw (← weighed .before .before .column .ensures, eq-eqb _ _ (weighed .before .if1 .left), c .before .if2 .left, ← weighed .weight .ensures) (c .told2 .ensures)
+    rw (← weighed .before .before .column .ensures, eq-eqb _ _ (weighed .before .if1 .left), c .before .if2 .left, ← weighed .weight .ensures)
+    (c .told2 .ensures)
 
 pub with-letter-spec : {M : Type 1} → statement M
 with-letter-spec =

@@ -34,8 +34,11 @@ loop-less c = omega arith
 loop-again : tie.Need-loop-again Inv-loop μ-loop
 loop-again c =
     let a = c .before .before .before .args in
-    let l = c .before .before .loop in
-    (omega arith, simp length-set (l .inv .1), ap (λ o. set o (l .i) (getD (a .line .now) (l .i) 0)) (l .inv .2) ∙ copy-next (a .line .now) (a .out .now) (l .i) (omega arith) (omega arith))
+    let l = c .before .before .loop in (
+      omega arith,
+      simp length-set (l .inv .1),
+      ap (λ o. set o (l .i) (getD (a .line .now) (l .i) 0)) (l .inv .2) ∙ copy-next (a .line .now) (a .out .now) (l .i) (omega arith) (omega arith),
+    )
 
 same-length : tie.Need-same-length Inv-loop μ-loop
 same-length c = c .before .loop .inv .1

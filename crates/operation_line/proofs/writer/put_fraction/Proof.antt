@@ -34,14 +34,32 @@ slice-write-out c =
     let s = c .before .before .before .before .before .before .before .before .before .before in
     let sign = c .before .before .before .before .before .before .put-sign in
     let top = c .before .before .put-numeral in
-    omega (arith, s .pre .1, sign .ensures .place, sign .kept .0, top .ensures .place, top .kept .0, sign-short (s .args .first) false, numeral-short (getD numerators (s .args .k) 0))
+    omega (
+      arith,
+      s .pre .1,
+      sign .ensures .place,
+      sign .kept .0,
+      top .ensures .place,
+      top .kept .0,
+      sign-short (s .args .first) false,
+      numeral-short (getD numerators (s .args .k) 0),
+    )
 
 add-put-numeral : tie.Need-add-put-numeral
 add-put-numeral c =
     let s = c .before .before .before .before .before .before .before .before .before .before .before in
     let sign = c .before .before .before .before .before .before .before .put-sign in
     let top = c .before .before .before .put-numeral in
-    omega (arith, s .pre .1, sign .ensures .place, sign .kept .0, top .ensures .place, top .kept .0, sign-short (s .args .first) false, numeral-short (getD numerators (s .args .k) 0))
+    omega (
+      arith,
+      s .pre .1,
+      sign .ensures .place,
+      sign .kept .0,
+      top .ensures .place,
+      top .kept .0,
+      sign-short (s .args .first) false,
+      numeral-short (getD numerators (s .args .k) 0),
+    )
 
 array-read-put-numeral-2 : tie.Need-array-read-put-numeral-2
 array-read-put-numeral-2 c = search needs
@@ -52,18 +70,34 @@ put-numeral-requires-2 c κs =
     let sign = c .before .before .before .before .before .before .before .put-sign in
     let top = c .before .before .before .put-numeral in (
       divisor-small (s .args .k) (s .pre .0),
-      simp length-set (omega (arith, s .pre .1, sign .ensures .place, sign .kept .0, top .ensures .place, top .kept .0, sign-short (s .args .first) false, numeral-short (getD numerators (s .args .k) 0))),
+      simp length-set (omega (
+        arith,
+        s .pre .1,
+        sign .ensures .place,
+        sign .kept .0,
+        top .ensures .place,
+        top .kept .0,
+        sign-short (s .args .first) false,
+        numeral-short (getD numerators (s .args .k) 0),
+      )),
     )
 
 same-length : tie.Need-same-length
 same-length c =
-    omega (arith, simp length-set at (c .before .before .put-numeral2 .kept .0), c .before .before .before .before .before .before .put-numeral .kept .0, c .before .before .before .before .before .before .before .before .before .before .put-sign .kept .0)
+    omega (
+      arith,
+      simp length-set at (c .before .before .put-numeral2 .kept .0),
+      c .before .before .before .before .before .before .put-numeral .kept .0,
+      c .before .before .before .before .before .before .before .before .before .before .put-sign .kept .0,
+    )
 
 returns-2 : tie.Need-returns-2
 returns-2 c =
     let a = c .before .before .before .before .before .before .before .before .before .before .before .before .before .before .args in
     put-named (fraction-signed (a .first) (a .k) (c .before .before .before .before .before .before .before .before .before .before .before .before .if1 .left))
-    (put-then (c .before .before .before .before .before .before .before .before .before .before .put-sign .ensures) (put-then (c .before .before .before .before .before .before .put-numeral .ensures) (put-then (put-byte _ _ _) (c .before .before .put-numeral2 .ensures))))
+    (put-then (c .before .before .before .before .before .before .before .before .before .before .put-sign .ensures)
+    (put-then (c .before .before .before .before .before .before .put-numeral .ensures)
+    (put-then (put-byte _ _ _) (c .before .before .put-numeral2 .ensures))))
 
 pub put-fraction-spec : {M : Type 1} → statement M
 put-fraction-spec =

@@ -18,10 +18,21 @@ put-sign-requires : tie.Need-put-sign-requires
 put-sign-requires c κs = search needs
 
 slice-write-out : tie.Need-slice-write-out
-slice-write-out c = omega (arith, c .before .before .put-sign .ensures .place, c .before .before .put-sign .kept .0, sign-short (c .before .before .before .before .before .before .args .first) (eqb (c .before .before .before .before .before .before .args .digit) 0))
+slice-write-out c =
+    omega (
+      arith,
+      c .before .before .put-sign .ensures .place,
+      c .before .before .put-sign .kept .0,
+      sign-short (c .before .before .before .before .before .before .args .first) (eqb (c .before .before .before .before .before .before .args .digit) 0),
+    )
 
 add-result : tie.Need-add-result
-add-result c = omega (arith, c .before .before .put-sign .ensures .place, sign-short (c .before .before .before .before .before .before .args .first) (eqb (c .before .before .before .before .before .before .args .digit) 0))
+add-result c =
+    omega (
+      arith,
+      c .before .before .put-sign .ensures .place,
+      sign-short (c .before .before .before .before .before .before .args .first) (eqb (c .before .before .before .before .before .before .args .digit) 0),
+    )
 
 same-length : tie.Need-same-length
 same-length c = search needs
@@ -29,7 +40,8 @@ same-length c = search needs
 returns-2 : tie.Need-returns-2
 returns-2 c =
     let a = c .before .before .before .before .before .before .args in
-    put-named (letter-signed (a .first) (a .letter) (a .digit) (c .before .before .before .before .if1 .left)) (put-then (c .before .before .put-sign .ensures) (put-byte _ _ _))
+    put-named (letter-signed (a .first) (a .letter) (a .digit) (c .before .before .before .before .if1 .left))
+    (put-then (c .before .before .put-sign .ensures) (put-byte _ _ _))
 
 pub put-letter-spec : {M : Type 1} → statement M
 put-letter-spec =

@@ -45,7 +45,16 @@ slice-write-out-2 c =
     let t = s .args .f .translation in
     let x = c .before .before .before .before .before .before .put-part in
     let y = c .before .before .put-part2 in
-    omega (arith, s .pre .1, x .ensures .place, x .kept .0, part-short (r .xx) (r .xy) (r .xz) (t .x), y .ensures .place, simp length-set at (y .kept .0), part-short (r .yx) (r .yy) (r .yz) (t .y))
+    omega (
+      arith,
+      s .pre .1,
+      x .ensures .place,
+      x .kept .0,
+      part-short (r .xx) (r .xy) (r .xz) (t .x),
+      y .ensures .place,
+      simp length-set at (y .kept .0),
+      part-short (r .yx) (r .yy) (r .yz) (t .y),
+    )
 
 add-put-part-2 : tie.Need-add-put-part-2
 add-put-part-2 c =
@@ -54,7 +63,16 @@ add-put-part-2 c =
     let t = s .args .f .translation in
     let x = c .before .before .before .before .before .before .before .put-part in
     let y = c .before .before .before .put-part2 in
-    omega (arith, s .pre .1, x .ensures .place, x .kept .0, part-short (r .xx) (r .xy) (r .xz) (t .x), y .ensures .place, simp length-set at (y .kept .0), part-short (r .yx) (r .yy) (r .yz) (t .y))
+    omega (
+      arith,
+      s .pre .1,
+      x .ensures .place,
+      x .kept .0,
+      part-short (r .xx) (r .xy) (r .xz) (t .x),
+      y .ensures .place,
+      simp length-set at (y .kept .0),
+      part-short (r .yx) (r .yy) (r .yz) (t .y),
+    )
 
 put-part-requires-3 : tie.Need-put-part-requires-3
 put-part-requires-3 c κs =
@@ -62,17 +80,35 @@ put-part-requires-3 c κs =
     let r = s .args .f .rotation in
     let t = s .args .f .translation in
     let x = c .before .before .before .before .before .before .before .put-part in
-    let y = c .before .before .before .put-part2 in
-    (s .pre .0 .z, simp length-set (omega (arith, s .pre .1, x .ensures .place, x .kept .0, part-short (r .xx) (r .xy) (r .xz) (t .x), y .ensures .place, simp length-set at (y .kept .0), part-short (r .yx) (r .yy) (r .yz) (t .y))))
+    let y = c .before .before .before .put-part2 in (
+      s .pre .0 .z,
+      simp length-set (omega (
+        arith,
+        s .pre .1,
+        x .ensures .place,
+        x .kept .0,
+        part-short (r .xx) (r .xy) (r .xz) (t .x),
+        y .ensures .place,
+        simp length-set at (y .kept .0),
+        part-short (r .yx) (r .yy) (r .yz) (t .y),
+      )),
+    )
 
 same-length : tie.Need-same-length
 same-length c =
-    omega (arith, simp length-set at (c .before .before .put-part3 .kept .0), simp length-set at (c .before .before .before .before .before .before .put-part2 .kept .0), c .before .before .before .before .before .before .before .before .before .before .put-part .kept .0)
+    omega (
+      arith,
+      simp length-set at (c .before .before .put-part3 .kept .0),
+      simp length-set at (c .before .before .before .before .before .before .put-part2 .kept .0),
+      c .before .before .before .before .before .before .before .before .before .before .put-part .kept .0,
+    )
 
 returns : tie.Need-returns
 unfolding lineOf plainLine writtenLine
 returns c =
-    put-then (c .before .before .before .before .before .before .before .before .before .before .put-part .ensures) (put-then (put-byte _ _ _) (put-then (c .before .before .before .before .before .before .put-part2 .ensures) (put-then (put-byte _ _ _) (c .before .before .put-part3 .ensures))))
+    put-then (c .before .before .before .before .before .before .before .before .before .before .put-part .ensures)
+    (put-then (put-byte _ _ _) (put-then (c .before .before .before .before .before .before .put-part2 .ensures)
+    (put-then (put-byte _ _ _) (c .before .before .put-part3 .ensures))))
 
 pub put-line-spec : {M : Type 1} → statement M
 put-line-spec =

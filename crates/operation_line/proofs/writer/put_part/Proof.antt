@@ -28,7 +28,16 @@ put-letter-requires-3 c κs =
     let s = c .before .before .before .before .before .before .before .before .before .before in
     let x = c .before .before .before .before .before .before .before .put-letter in
     let y = c .before .before .before .put-letter2 in
-    omega (arith, s .pre .1, x .ensures .place, x .kept .0, y .ensures .place, y .kept .0, letter-short true 120 (s .args .x), letter-short (eqb (x .result) (s .args .at)) 121 (s .args .y))
+    omega (
+      arith,
+      s .pre .1,
+      x .ensures .place,
+      x .kept .0,
+      y .ensures .place,
+      y .kept .0,
+      letter-short true 120 (s .args .x),
+      letter-short (eqb (x .result) (s .args .at)) 121 (s .args .y),
+    )
 
 put-fraction-requires : tie.Need-put-fraction-requires
 put-fraction-requires c κs =
@@ -37,7 +46,19 @@ put-fraction-requires c κs =
     let y = c .before .before .before .before .before .before .before .put-letter2 in
     let z = c .before .before .before .put-letter3 in (
       s .pre .0,
-      omega (arith, s .pre .1, x .ensures .place, x .kept .0, y .ensures .place, y .kept .0, z .ensures .place, z .kept .0, letter-short true 120 (s .args .x), letter-short (eqb (x .result) (s .args .at)) 121 (s .args .y), letter-short (eqb (y .result) (s .args .at)) 122 (s .args .z)),
+      omega (
+        arith,
+        s .pre .1,
+        x .ensures .place,
+        x .kept .0,
+        y .ensures .place,
+        y .kept .0,
+        z .ensures .place,
+        z .kept .0,
+        letter-short true 120 (s .args .x),
+        letter-short (eqb (x .result) (s .args .at)) 121 (s .args .y),
+        letter-short (eqb (y .result) (s .args .at)) 122 (s .args .z),
+      ),
     )
 
 same-length : tie.Need-same-length
@@ -50,7 +71,9 @@ returns c =
     let x = letterTerm X (a .x) in
     put-fraction-more _ (a .k)
     (put-letter-more _ Z (a .z)
-    (put-letter-more x Y (a .y) (put-named (first-letter X (a .x)) (c .before .before .before .before .before .before .before .before .before .before .before .before .before .before .put-letter .ensures)) (c .before .before .before .before .before .before .before .before .before .before .put-letter2 .ensures))
+    (put-letter-more x Y (a .y) (put-named (first-letter X (a .x))
+    (c .before .before .before .before .before .before .before .before .before .before .before .before .before .before .put-letter .ensures))
+    (c .before .before .before .before .before .before .before .before .before .before .put-letter2 .ensures))
     (c .before .before .before .before .before .before .put-letter3 .ensures))
     (c .before .before .put-fraction .ensures)
 

@@ -22,7 +22,8 @@ returns : tie.Need-returns
 returns c = let a = c .before .args in put-named (sym (ap (signBytes (a .first)) (c .if1 .taken))) (put-byte (a .out .now) (a .at) 45)
 
 returns-2 : tie.Need-returns-2
-returns-2 c = let a = c .before .before .args in put-named (sym (ap (signBytes (a .first)) (c .before .if1 .left) ∙ ap (λ f. signBytes f false) (c .if2 .taken))) (put-nothing (a .out .now) (a .at))
+returns-2 c = let a = c .before .before .args in
+    put-named (sym (ap (signBytes (a .first)) (c .before .if1 .left) ∙ ap (λ f. signBytes f false) (c .if2 .taken))) (put-nothing (a .out .now) (a .at))
 
 slice-write-out-2 : tie.Need-slice-write-out-2
 slice-write-out-2 c = search needs
@@ -34,7 +35,8 @@ same-length-2 : tie.Need-same-length-2
 same-length-2 c = search needs
 
 returns-3 : tie.Need-returns-3
-returns-3 c = let a = c .before .before .args in put-named (sym (ap (signBytes (a .first)) (c .before .if1 .left) ∙ ap (λ f. signBytes f false) (c .if2 .left))) (put-byte (a .out .now) (a .at) 43)
+returns-3 c = let a = c .before .before .args in
+    put-named (sym (ap (signBytes (a .first)) (c .before .if1 .left) ∙ ap (λ f. signBytes f false) (c .if2 .left))) (put-byte (a .out .now) (a .at) 43)
 
 pub put-sign-spec : {M : Type 1} → statement M
 put-sign-spec =

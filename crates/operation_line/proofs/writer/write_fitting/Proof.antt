@@ -35,7 +35,8 @@ same-length c = search needs
 returns-2 : tie.Need-returns-2
 returns-2 c =
     let s = c .before .before .before .before .before .before .before .before .before .before in
-    with-room (c .before .before .before .before .before .before .before .put-line .ensures) (omega (arith, line-short (s .args .f))) (s .args .out .now) _ (c .before .before .before .before .before .if1 .left) (c .before .before .copy-front .ensures)
+    with-room (c .before .before .before .before .before .before .before .put-line .ensures) (omega (arith, line-short (s .args .f))) (s .args .out .now) _
+    (c .before .before .before .before .before .if1 .left) (c .before .before .copy-front .ensures)
 
 pub write-fitting-spec : {M : Type 1} → statement M
 write-fitting-spec =

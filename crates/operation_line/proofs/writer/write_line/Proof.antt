@@ -33,12 +33,15 @@ is-writable-requires c κs = search needs
 returns-2 : tie.Need-returns-2
 returns-2 c =
     let a = c .before .before .before .before .before .before .before .before .args in
-    no-determinant (a .bytes .now) (a .out .now) _ (sym (c .before .before .before .before .before .operation-in .ensures) ∙ c .before .before .before .f .given .1) (sym (c .before .is-writable .ensures) ∙ not-true _ (c .if1 .taken))
+    no-determinant (a .bytes .now) (a .out .now) _
+    (sym (c .before .before .before .before .before .operation-in .ensures) ∙ c .before .before .before .f .given .1)
+    (sym (c .before .is-writable .ensures) ∙ not-true _ (c .if1 .taken))
 
 write-fitting-requires : tie.Need-write-fitting-requires
 write-fitting-requires c κs =
     let a = c .before .before .before .before .before .before .before .before .before .args in
-    bytes-again (a .bytes .now) _ (λ i. omega (arith, c .before .before .before .before .before .before .before .before .shared-slice-known .given i)) (sym (c .before .before .before .before .before .before .operation-in .ensures) ∙ c .before .before .before .before .f .given .1) .1
+    bytes-again (a .bytes .now) _ (λ i. omega (arith, c .before .before .before .before .before .before .before .before .shared-slice-known .given i))
+    (sym (c .before .before .before .before .before .before .operation-in .ensures) ∙ c .before .before .before .before .f .given .1) .1
 
 same-length : tie.Need-same-length
 same-length c = search needs
@@ -46,7 +49,11 @@ same-length c = search needs
 returns-3 : tie.Need-returns-3
 returns-3 c =
     let a = c .before .before .before .before .before .before .before .before .before .before .before .before .args in
-    by-room (a .bytes .now) (a .out .now) _ _ _ (sym (c .before .before .before .before .before .before .before .before .before .operation-in .ensures) ∙ c .before .before .before .before .before .before .before .f .given .1) (sym (c .before .before .before .before .before .is-writable .ensures) ∙ not-false _ (c .before .before .before .before .if1 .left)) (c .before .before .write-fitting .ensures)
+    by-room (a .bytes .now) (a .out .now) _ _ _
+    (sym (c .before .before .before .before .before .before .before .before .before .operation-in .ensures)
+    ∙ c .before .before .before .before .before .before .before .f .given .1)
+    (sym (c .before .before .before .before .before .is-writable .ensures) ∙ not-false _ (c .before .before .before .before .if1 .left))
+    (c .before .before .write-fitting .ensures)
 
 pub write-line-spec : {M : Type 1} → statement M
 write-line-spec =

@@ -65,7 +65,10 @@ loop-less : tie.Need-loop-less Inv-loop μ-loop
 loop-less c =
     let l = c .before .before .before .before .before .before .loop in
     let g = c .before .before .swept .ensures .grown (not-false _ (c .if1 .left)) in
-    let f = fewer _ (l .set) (l .waiting) (c .before .before .before .before .lowest .result) (c .before .before .before .without .result) (l .inv .small) (l .inv .waiting-inside) (c .before .before .before .before .lowest .ensures (c .before .before .before .before .before .loop-test .taken) .0) (c .before .before .before .without .ensures (c .before .before .before .before .lowest .ensures (c .before .before .before .before .before .loop-test .taken) .0)) in
+    let f = fewer _ (l .set) (l .waiting) (c .before .before .before .before .lowest .result) (c .before .before .before .without .result) (l .inv .small)
+    (l .inv .waiting-inside) (c .before .before .before .before .lowest .ensures (c .before .before .before .before .before .loop-test .taken) .0)
+    (c .before .before .before .without .ensures
+    (c .before .before .before .before .lowest .ensures (c .before .before .before .before .before .loop-test .taken) .0)) in
     omega (arith, g .1, f, ones-le _ _ (g .0 .small), ones-le _ _ (l .inv .small))
 
 loop-again : tie.Need-loop-again Inv-loop μ-loop

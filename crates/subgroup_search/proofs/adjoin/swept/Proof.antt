@@ -93,7 +93,9 @@ loop-again c =
     (l .inv .inside x (c .before .before .before .before .before .lowest .ensures
     (c .before .before .before .before .before .before .loop-test .taken) .0))) in
     let q = not-false _ (c .before .if2 .left) in
-    sweeping-step (a .n) times (a .e) (a .h) (a .g) (a .g) (a .k) (a .waiting) (a .r) (l .set) (l .rest) (l .left) x (c .without .result) (l .inv) (c .without .ensures (c .before .before .before .before .before .lowest .ensures (c .before .before .before .before .before .before .loop-test .taken) .0))
+    sweeping-step (a .n) times (a .e) (a .h) (a .g) (a .g) (a .k) (a .waiting) (a .r) (l .set) (l .rest) (l .left) x (c .without .result) (l .inv)
+    (c .without .ensures (c .before .before .before .before .before .lowest .ensures
+    (c .before .before .before .before .before .before .loop-test .taken) .0))
     (taken-grown (a .n) times (a .e) (a .h) (a .g) (a .g) (p .0 .group) (p .1) (λ x. x ≡ a .r) (l .set) (l .rest) (times (a .r) x) (l .inv .state) F
     (rw (c .before .before .before .before .cell2 .ensures .0) at (c .before .before .before .taken2 .ensures)) q)
 

@@ -49,7 +49,9 @@ returns-2 c =
     let h : a .bound < 64 = let p = c .before .before .before .before .before .before .pre .3 in let b =
     c .before .before .before .before .before .before .pre .0 .cells .limit in omega arith in
     let coset = cosetOf (a .n) (product (a .n) (a .t .now)) (a .e) (a .h) (a .p) in
-    let plain = coset-plain (a .n) (product (a .n) (a .t .now)) (a .e) (c .before .before .before .before .before .before .pre .0 .group) (a .h) (a .p) (c .before .before .before .before .before .before .pre .1) (c .before .before .before .before .before .before .pre .2) in
+    let plain =
+    coset-plain (a .n) (product (a .n) (a .t .now)) (a .e) (c .before .before .before .before .before .before .pre .0 .group) (a .h) (a .p)
+    (c .before .before .before .before .before .before .pre .1) (c .before .before .before .before .before .before .pre .2) in
     let test : eqb (bitAnd (coset % 2 ^ a .bound) (a .h)) (coset % 2 ^ a .bound) ≡ false =
     rw (← (c .before .before .coset .ensures ∙ plain), ← shifted-one 64 (a .bound) h) (sym (c .before .within .ensures) ∙ not-true _ (c .if2 .taken)) in
     let (i, l, m, new) = within-fails (a .bound) coset (a .h) test in
@@ -64,7 +66,9 @@ returns-3 c =
     let h : a .bound < 64 = let p = c .before .before .before .before .before .before .before .pre .3 in let b =
     c .before .before .before .before .before .before .before .pre .0 .cells .limit in omega arith in
     let coset = cosetOf (a .n) (product (a .n) (a .t .now)) (a .e) (a .h) (a .p) in
-    let plain = coset-plain (a .n) (product (a .n) (a .t .now)) (a .e) (c .before .before .before .before .before .before .before .pre .0 .group) (a .h) (a .p) (c .before .before .before .before .before .before .before .pre .1) (c .before .before .before .before .before .before .before .pre .2) in
+    let plain =
+    coset-plain (a .n) (product (a .n) (a .t .now)) (a .e) (c .before .before .before .before .before .before .before .pre .0 .group) (a .h) (a .p)
+    (c .before .before .before .before .before .before .before .pre .1) (c .before .before .before .before .before .before .before .pre .2) in
     let test : eqb (bitAnd (coset % 2 ^ a .bound) (a .h)) (coset % 2 ^ a .bound) ≡ true =
     rw (← (c .before .before .before .coset .ensures ∙ plain), ← shifted-one 64 (a .bound) h) (sym (c .before .before .within .ensures)
     ∙ not-false _ (c .before .if2 .left)) in

@@ -47,19 +47,24 @@ loop-less : tie.Need-loop-less Inv-loop μ-loop
 loop-less c =
     let p = c .before .before .before .before .before .before .before .before .before .pre in
     let l = c .before .before .before .before .before .before .loop in
-    let below = trying-below _ _ _ (p .0 .group) _ (p .1) (l .left) (l .best) (l .inv) (c .before .before .before .before .lowest .result) (c .before .before .before .before .lowest .ensures (c .before .before .before .before .before .loop-test .taken) .0) in
+    let below =
+    trying-below _ _ _ (p .0 .group) _ (p .1) (l .left) (l .best) (l .inv) (c .before .before .before .before .lowest .result)
+    (c .before .before .before .before .lowest .ensures (c .before .before .before .before .before .loop-test .taken) .0) in
     let plain = coset-plain _ _ _ (p .0 .group) _ (c .before .before .before .before .lowest .result) (p .1 .small) below in
     rw (
       c .outside .ensures,
       c .before .coset .ensures
           ∙ plain,
-    ) (trying-less _ _ _ (p .0 .group) _ (p .1) (l .left) (l .best) (l .inv) (c .before .before .before .before .lowest .result) (c .before .before .before .before .lowest .ensures (c .before .before .before .before .before .loop-test .taken) .0))
+    ) (trying-less _ _ _ (p .0 .group) _ (p .1) (l .left) (l .best) (l .inv) (c .before .before .before .before .lowest .result)
+    (c .before .before .before .before .lowest .ensures (c .before .before .before .before .before .loop-test .taken) .0))
 
 loop-again : tie.Need-loop-again Inv-loop μ-loop
 loop-again c =
     let p = c .before .before .before .before .before .before .before .before .before .pre in
     let l = c .before .before .before .before .before .before .loop in
-    let below = trying-below _ _ _ (p .0 .group) _ (p .1) (l .left) (l .best) (l .inv) (c .before .before .before .before .lowest .result) (c .before .before .before .before .lowest .ensures (c .before .before .before .before .before .loop-test .taken) .0) in
+    let below =
+    trying-below _ _ _ (p .0 .group) _ (p .1) (l .left) (l .best) (l .inv) (c .before .before .before .before .lowest .result)
+    (c .before .before .before .before .lowest .ensures (c .before .before .before .before .before .loop-test .taken) .0) in
     let plain = coset-plain _ _ _ (p .0 .group) _ (c .before .before .before .before .lowest .result) (p .1 .small) below in
     rw (
       c .outside .ensures,

@@ -72,7 +72,8 @@ returns c =
     let g = c .before .before .before .before .before .before .before .before .lowest in
     let low = g .ensures (c .before .before .before .before .before .before .before .before .before .loop-test .taken) in
     let below = member-below (a .n) (l .left) (g .result) (l .inv .1) (low .0) in
-    let X = extended-next (a .n) (product (a .n) (a .t .now)) (a .e) (a .classes) (p .0 .group) (a .h) (p .1) (l .left) (g .result) (a .count) (l .c) (a .sets .now) (l .sets) (c .before .before .before .before .extend-by .last .0) Full
+    let X = extended-next (a .n) (product (a .n) (a .t .now)) (a .e) (a .classes) (p .0 .group) (a .h) (p .1) (l .left) (g .result) (a .count) (l .c)
+    (a .sets .now) (l .sets) (c .before .before .before .before .extend-by .last .0) Full
     (l .inv .0) below (l .inv .2 _ (low .0)) (low .2) (l .inv .3) (rw (c .enum-told .given .1) at (c .before .before .before .before .extend-by .ensures)) in
     extended-overflow (a .n) (product (a .n) (a .t .now)) (a .e) (a .classes) (p .0 .group) (a .h) (p .1) _ (a .count) (a .sets .now) _ X
 
@@ -81,9 +82,12 @@ loop-less c =
     let a = c .before .before .before .before .before .before .before .before .before .before .before .before .before .before .before .args in
     let p = c .before .before .before .before .before .before .before .before .before .before .before .before .before .before .before .pre in
     let l = c .before .before .before .before .before .before .before .before .before .before .before .loop in
-    let i = c .before .before .before .before .before .before .before .before .before .lowest .ensures (c .before .before .before .before .before .before .before .before .before .before .loop-test .taken) .0 in
+    let i = c .before .before .before .before .before .before .before .before .before .lowest .ensures
+    (c .before .before .before .before .before .before .before .before .before .before .loop-test .taken) .0 in
     let below = member-below _ _ _ (l .inv .1) i in
-    let plain = coset-plain (a .n) (product (a .n) (a .t .now)) (a .e) (p .0 .group) (a .h) (c .before .before .before .before .before .before .before .before .before .lowest .result) (p .1 .small) below in
+    let plain =
+    coset-plain (a .n) (product (a .n) (a .t .now)) (a .e) (p .0 .group) (a .h)
+    (c .before .before .before .before .before .before .before .before .before .lowest .result) (p .1 .small) below in
     rw (
       c .before .before .before .before .before .before .before .outside .ensures,
       c .before .before .before .before .before .before .before .before .coset .ensures ∙ plain,
@@ -98,7 +102,8 @@ loop-again c =
     let g = c .before .before .before .before .before .before .before .before .before .lowest in
     let low = g .ensures (c .before .before .before .before .before .before .before .before .before .before .loop-test .taken) in
     let below = member-below (a .n) (l .left) (g .result) (l .inv .1) (low .0) in
-    let X = extended-next (a .n) (product (a .n) (a .t .now)) (a .e) (a .classes) (p .0 .group) (a .h) (p .1) (l .left) (g .result) (a .count) (l .c) (a .sets .now) (l .sets) (c .before .before .before .before .before .extend-by .last .0) (Count (c .before .k .given .0 .0))
+    let X = extended-next (a .n) (product (a .n) (a .t .now)) (a .e) (a .classes) (p .0 .group) (a .h) (p .1) (l .left) (g .result) (a .count) (l .c)
+    (a .sets .now) (l .sets) (c .before .before .before .before .before .extend-by .last .0) (Count (c .before .k .given .0 .0))
     (l .inv .0) below (l .inv .2 _ (low .0)) (low .2) (l .inv .3) (rw (c .before .k .given .1) at
     (c .before .before .before .before .before .extend-by .ensures)) in
     let same : length (c .before .before .before .before .before .extend-by .last .0) ≡ length (l .sets) = omega arith in
@@ -121,7 +126,8 @@ returns-2 c =
     let p = c .before .before .before .before .before .pre in
     let l = c .before .loop in
     let none : l .left ≡ 0 = omega arith in
-    extended-end (a .n) (product (a .n) (a .t .now)) (a .e) (a .classes) (p .0 .group) (a .h) (p .1) (l .left) (a .count) (l .c) (a .sets .now) (l .sets) none (l .inv .3)
+    extended-end (a .n) (product (a .n) (a .t .now)) (a .e) (a .classes) (p .0 .group) (a .h) (p .1) (l .left) (a .count) (l .c) (a .sets .now) (l .sets) none
+    (l .inv .3)
 
 pub extend-spec : {M : Type 1} → statement M
 extend-spec =

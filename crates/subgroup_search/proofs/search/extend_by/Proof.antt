@@ -43,7 +43,8 @@ returns-2 c =
     let E = c .before .before .before .before .before .before .before .before .adjoin .ensures .extension (omega arith) .0 in
     let same : length (c .before .before .before .before .insert .last .0)
     ≡ length (c .before .before .before .before .before .before .before .before .before .before .before .args .sets .now) = omega arith in
-    extended-present _ _ _ _ (p .0 .group) _ _ (p .1) (p .0 .cells .limit) _ _ E (p .3) (c .before .before .before .before .before .before .representative .ensures) _ _ _ (omega arith)
+    extended-present _ _ _ _ (p .0 .group) _ _ (p .1) (p .0 .cells .limit) _ _ E (p .3)
+    (c .before .before .before .before .before .before .representative .ensures) _ _ _ (omega arith)
     (rw (c .enum-told .given .1) at (c .before .before .before .before .insert .ensures (p .4)))
 
 same-length-2 : tie.Need-same-length-2
@@ -54,7 +55,8 @@ returns-3 c =
     let p = c .before .before .before .before .before .before .before .before .before .before .before .pre in
     let some = c .before .before .before .before .before .before .before .if1 .left in
     let E = c .before .before .before .before .before .before .before .before .adjoin .ensures .extension (omega arith) .0 in
-    extended-full _ _ _ _ (p .0 .group) _ _ (p .1) (p .0 .cells .limit) _ _ E (p .3) (c .before .before .before .before .before .before .representative .ensures) _ _ _
+    extended-full _ _ _ _ (p .0 .group) _ _ (p .1) (p .0 .cells .limit) _ _ E (p .3)
+    (c .before .before .before .before .before .before .representative .ensures) _ _ _
     (rw (c .enum-told2 .given .1) at (c .before .before .before .before .insert .ensures (p .4)))
 
 same-length-3 : tie.Need-same-length-3
@@ -68,7 +70,8 @@ returns-4 c =
     let I = rw (c .enum-told3 .given .1) at (c .before .before .before .before .insert .ensures (p .4)) in
     let same : length (c .before .before .before .before .insert .last .0)
     ≡ length (c .before .before .before .before .before .before .before .before .before .before .before .args .sets .now) = omega arith in
-    extended-added _ _ _ _ (p .0 .group) _ _ (p .1) (p .0 .cells .limit) _ _ E (p .3) (c .before .before .before .before .before .before .representative .ensures) _ _ _
+    extended-added _ _ _ _ (p .0 .group) _ _ (p .1) (p .0 .cells .limit) _ _ E (p .3)
+    (c .before .before .before .before .before .before .representative .ensures) _ _ _
     (let r = inserted-room I in omega arith)
     I
 

@@ -30,7 +30,10 @@ returns : tie.Need-returns
 returns c =
     let a = c .before .before .before .before .before .before .before .before .before .before .before .before .args in
     let same : length (c .before .before .before .before .before .before .before .before .search .last .0) ≡ length (a .sets .now) = omega arith in
-    answer-full (a .n) (product (a .n) (a .t .now)) (a .e) (a .classes) (a .sets .now) (c .before .before .before .before .before .before .before .before .search .last .0) _ same (rw (c .before .before .before .before .enum-told .given .1) at (c .before .before .before .before .before .before .before .before .search .ensures)) (c .before .before .clear .ensures (omega arith))
+    answer-full (a .n) (product (a .n) (a .t .now)) (a .e) (a .classes) (a .sets .now)
+    (c .before .before .before .before .before .before .before .before .search .last .0) _ same
+    (rw (c .before .before .before .before .enum-told .given .1) at (c .before .before .before .before .before .before .before .before .search .ensures))
+    (c .before .before .clear .ensures (omega arith))
 
 same-length-2 : tie.Need-same-length-2
 same-length-2 c = search needs

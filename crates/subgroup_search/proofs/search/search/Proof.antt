@@ -19,7 +19,8 @@ abbrev μ-loop : tie.MeasureT-loop
 
 returns : tie.Need-returns Inv-loop μ-loop
 returns c = none-result (c .before .before .before .args .n) (product (c .before .before .before .args .n)
-    (c .before .before .before .args .t .now)) (c .before .before .before .args .e) (c .before .before .before .args .classes) (c .before .before .before .pre .group) (c .before .before .before .pre .cells .limit) (c .before .before .before .args .sets .now) (c .if1 .taken)
+    (c .before .before .before .args .t .now)) (c .before .before .before .args .e) (c .before .before .before .args .classes)
+    (c .before .before .before .pre .group) (c .before .before .before .pre .cells .limit) (c .before .before .before .args .sets .now) (c .if1 .taken)
 
 shl-set-slot : tie.Need-shl-set-slot Inv-loop μ-loop
 shl-set-slot c = let a = c .before .before .before .before .pre .group .identity-below in let b = c .before .before .before .before .pre .cells .limit in
@@ -82,7 +83,11 @@ returns-2 c =
             c .before .before .before .before .before .before .before .before .loop-test .taken,
           )),
     ) at (c .before .before .before .before .extend .ensures) in
-    restart (a .n) (product (a .n) (a .t .now)) (a .e) (a .classes) (p .group) (p .cells .limit) (a .sets .now) (c .before .before .before .before .before .before .before .before .before .before .before .before .set-slot .last .0) _ (c .before .before .before .before .before .before .before .before .before .before .before .before .set-slot .ensures (c .before .before .before .before .before .before .before .before .before .before .before .before .before .before .if1 .left)) (c .before .before .before .before .before .before .before .before .before .before .before .before .before .before .if1 .left) _ Full
+    restart (a .n) (product (a .n) (a .t .now)) (a .e) (a .classes) (p .group) (p .cells .limit) (a .sets .now)
+    (c .before .before .before .before .before .before .before .before .before .before .before .before .set-slot .last .0) _
+    (c .before .before .before .before .before .before .before .before .before .before .before .before .set-slot .ensures
+    (c .before .before .before .before .before .before .before .before .before .before .before .before .before .before .if1 .left))
+    (c .before .before .before .before .before .before .before .before .before .before .before .before .before .before .if1 .left) _ Full
     (searching-overflow (a .n) (product (a .n) (a .t .now)) (a .e) (a .classes) (p .group) (p .cells .limit) _ (l .sets) (l .count) (l .done) (l .inv .1)
     (c .before .before .before .before .before .before .before .before .loop-test .taken) _ (l .inv .0) X)
 
@@ -118,7 +123,10 @@ returns-3 c =
     let p = c .before .before .before .before .before .before .before .before .before .pre in
     let l = c .before .loop in
     let a = c .before .before .before .before .before .before .before .before .before .args in
-    restart (a .n) (product (a .n) (a .t .now)) (a .e) (a .classes) (p .group) (p .cells .limit) (a .sets .now) (c .before .before .before .before .set-slot .last .0) _ (c .before .before .before .before .set-slot .ensures (c .before .before .before .before .before .before .if1 .left)) (c .before .before .before .before .before .before .if1 .left) _ (Count (l .count))
+    restart (a .n) (product (a .n) (a .t .now)) (a .e) (a .classes) (p .group) (p .cells .limit) (a .sets .now)
+    (c .before .before .before .before .set-slot .last .0) _
+    (c .before .before .before .before .set-slot .ensures (c .before .before .before .before .before .before .if1 .left))
+    (c .before .before .before .before .before .before .if1 .left) _ (Count (l .count))
     (searching-end (a .n) (product (a .n) (a .t .now)) (a .e) (a .classes) (p .group) (p .cells .limit) _ (l .sets) (l .count) (l .done) (l .inv .1)
     (c .loop-test .left))
 

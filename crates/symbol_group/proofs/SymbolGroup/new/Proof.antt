@@ -26,10 +26,14 @@ group-of-requires : tie.Need-group-of-requires
 group-of-requires c κs = search needs
 
 returns : tie.Need-returns
-returns c = c .refused .ensures ∙ symbol-refused (c .before .before .before .before .before .before .args .text .now) (c .before .before .before .before .new .result) (c .before .before .before .before .new .ensures) (c .before .before .answer .given .0 .0) (c .before .before .answer .given .1)
+returns c =
+    c .refused .ensures ∙ symbol-refused (c .before .before .before .before .before .before .args .text .now) (c .before .before .before .before .new .result)
+    (c .before .before .before .before .new .ensures) (c .before .before .answer .given .0 .0) (c .before .before .answer .given .1)
 
 returns-2 : tie.Need-returns-2
-returns-2 c = c .group-of .ensures ∙ symbol-read (c .before .before .before .before .before .before .args .text .now) (c .before .before .before .before .new .result) (c .before .before .before .before .new .ensures) (c .before .before .enum-told .given .1)
+returns-2 c =
+    c .group-of .ensures ∙ symbol-read (c .before .before .before .before .before .before .args .text .now) (c .before .before .before .before .new .result)
+    (c .before .before .before .before .new .ensures) (c .before .before .enum-told .given .1)
 
 pub new-spec : {M : Type 1} → statement M
 new-spec =

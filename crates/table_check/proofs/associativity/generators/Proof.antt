@@ -55,7 +55,9 @@ outside-requires c κs = search needs
 loop-less : tie.Need-loop-less Inv-loop μ-loop
 loop-less c =
     rw (c .outside .ensures) (fewer-left (c .before .before .before .before .before .before .loop .left)
-    (c .before .before .before .before .lowest .result) (c .before .before .before .without .result) (c .before .widen .result) (c .before .before .before .without .ensures (c .before .before .before .before .lowest .ensures (c .before .before .before .before .before .loop-test .taken) .0)))
+    (c .before .before .before .before .lowest .result) (c .before .before .before .without .result) (c .before .widen .result)
+    (c .before .before .before .without .ensures
+    (c .before .before .before .before .lowest .ensures (c .before .before .before .before .before .loop-test .taken) .0)))
 
 loop-again : tie.Need-loop-again Inv-loop μ-loop
 loop-again c =
@@ -69,7 +71,9 @@ loop-again c =
     )
     (generating-next _ _ _ (p .1) (product-below _ _ (p .0)) (l .found) (l .reached) (l .left) (c .before .before .before .before .lowest .result)
     (c .before .before .before .without .result) (l .inv) (c .before .before .before .before .lowest .ensures
-    (c .before .before .before .before .before .loop-test .taken) .0) (c .before .before .before .without .ensures (c .before .before .before .before .lowest .ensures (c .before .before .before .before .before .loop-test .taken) .0)))
+    (c .before .before .before .before .before .loop-test .taken) .0)
+    (c .before .before .before .without .ensures
+    (c .before .before .before .before .lowest .ensures (c .before .before .before .before .before .loop-test .taken) .0)))
 
 returns : tie.Need-returns Inv-loop μ-loop
 returns c =

@@ -87,7 +87,8 @@ loop2-holds c = (omega arith, c .before .before .loop .inv .1, λ m h. absurd (o
 cell-requires-2 : tie.Need-cell-requires-2 Inv-loop2 μ-loop2 Inv-loop μ-loop Inv-search μ-search
 cell-requires-2 c κs = (
   c .before .before .before .before .before .before .before .before .before .before .before .pre .0,
-  member-below _ _ _ (c .before .before .before .before .before .before .before .before .search .inv .1) (c .before .before .before .before .before .before .lowest .ensures (c .before .before .before .before .before .before .before .search-test .taken) .0),
+  member-below _ _ _ (c .before .before .before .before .before .before .before .before .search .inv .1)
+      (c .before .before .before .before .before .before .lowest .ensures (c .before .before .before .before .before .before .before .search-test .taken) .0),
   c .loop2-test .taken,
 )
 
@@ -153,7 +154,9 @@ returns-2 c =
     let l = c .before .before .cell3 .ensures .0 ∙ ap (λ (z : ℕ). product n t z k) (c .before .before .before .before .before .before .cell .ensures .0) in
     let r = c .before .cell4 .ensures .0 ∙ ap (product n t i) (c .before .before .before .cell2 .ensures .0) in
     let j : c .before .before .before .before .before .before .before .before .before .before .lowest .result < n =
-    member-below _ _ _ (c .before .before .before .before .before .before .before .before .before .before .before .before .search .inv .1) (c .before .before .before .before .before .before .before .before .before .before .lowest .ensures (c .before .before .before .before .before .before .before .before .before .before .before .search-test .taken) .0) in
+    member-below _ _ _ (c .before .before .before .before .before .before .before .before .before .before .before .before .search .inv .1)
+    (c .before .before .before .before .before .before .before .before .before .before .lowest .ensures
+    (c .before .before .before .before .before .before .before .before .before .before .before .search-test .taken) .0) in
     sym (fails-every _ n i (c .before .before .before .before .before .before .before .loop-test .taken)
     (fails-every _ n _ j (fails-every _ n k (c .before .before .before .before .loop2-test .taken) (ne-eqb _ _ (λ e. c .if1 .taken (l ∙ e ∙ sym r))))))
 
