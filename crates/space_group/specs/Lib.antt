@@ -8,6 +8,10 @@ pub mod Traversal
 pub mod Resuming
 -- That the two are one:
 pub mod OperationGrowth
+-- The same list as numbers, in lent slots:
+pub mod NumberGrowth
+pub mod NumberSlots
+-- The answers:
 pub mod Slots
 -- The answers by number and place:
 pub mod Told

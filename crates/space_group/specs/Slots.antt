@@ -1,9 +1,10 @@
 -- The answers slot by slot, and how they come from the growth of the list.
 use mathlib.Core.Path.{_≡_, refl, sym, _∙_, ap}
-use mathlib.Core.Bool.{true, false, false≢true}
+use mathlib.Core.Bool.{Bool, true, false, cond, false≢true}
+use mathlib.Core.Logic.{inl, inr}
 use mathlib.Core.Option.{Option, some, none}
-use mathlib.Core.List.{List, map}
-use Prim.Native.Nat.{ℕ, _+_, _≤_, _<_}
+use mathlib.Core.List.{List, [], _∷_, map, List·Memᴰ·cases-cons as cases-cons, List·Memᴰ·not-nil as not-nil}
+use Prim.Native.Nat.{ℕ, zero, suc, _+_, _≤_, _<_}
 use native.Mathlib.Numerals.{add-one}
 use native.Mathlib.Omega.{arith}
 use native.Mathlib.Decide.{decLt}
@@ -18,14 +19,16 @@ use Rattle.group_growth.specs.Verdicts as verdicts
 use Rattle.group_growth.specs.Verdicts.{Verdict, listed, overgrown, torn, imageVerdict, onGrowth}
 use Rattle.group_growth.specs.Growing.{verdict}
 use Rattle.group_growth.specs.Acceptance.{listed-length}
+use Rattle.operation.specs.Entries.{digits-entries}
 use Rattle.operation.specs.Product.{identityOperation, operationOf}
 use Rattle.operation.specs.declared.Operation.{Operation}
-use Rattle.centering.specs.Keeps.{keepsOf}
+use Rattle.centering.specs.Keeps.{keepsOf, keeps-lattice}
 use Rattle.centering.specs.declared.Centering.{Centering}
 use Rattle.centering.specs.declared.Centering.the-variants.{P}
 use Rattle.space_group.specs.Generated.{motions, firstOff, listing, isSmall, sameVectorClass, Outcome, group, refused, ofVerdict, onList, onListing, outcomeOf}
 use Rattle.space_group.specs.Traversal.{growth, padded, grownOf}
 use Rattle.space_group.specs.OperationGrowth.{motionGrowth, growth-answers}
+use Rattle.space_group.specs.NumberGrowth.{AllDigits}
 use Rattle.space_group.specs.declared.refusal.Refusal.{Refusal}
 use Rattle.space_group.specs.declared.refusal.Refusal.the-variants.{Lattice, Rotations, Translations}
 use Rattle.space_group.specs.declared.Answer.the-variants.{Group, Refused}
@@ -69,6 +72,20 @@ answer-few c n l e h = ap (λ (m : ℕ). answerOf c m (outcomeOf c (take n l))) 
 -- or as all nine.
 pub answer-all : (c : Centering) (n : ℕ) (l : List Operation) → length l ≡ 9 → 9 < n → answerOf c 9 (outcomeOf c (take 9 l)) ≡ groupAnswer c (take n l)
 answer-all c n l e h = answer-few c 9 l e (omega arith) ∙ ap (groupAnswer c) (take-all 9 l (omega arith) ∙ sym (take-all n l (omega arith)))
+
+-- Where none is off, the digits of all are 0, 1 and 2.
+digits-next : (c : Centering) (f : Operation) (gens : List Operation) (b : Bool) → keepsOf c (f .rotation) ≡ b
+    → suc (length gens) ≤ cond b (suc (firstOff c gens)) zero → (length gens ≤ firstOff c gens → AllDigits gens) → AllDigits (f ∷ gens)
+digits-next c f gens true q h rest g m = elim (cases-cons m) [
+  | inl e ↦ rw e (digits-entries (f .rotation) .1 (keeps-lattice c (f .rotation) .0 q .0))
+  | inr o ↦ rest (omega arith) g o
+]
+digits-next c f gens false q h rest g m = absurd (omega arith)
+
+pub none-off-digits : (c : Centering) (gens : List Operation) → length gens ≤ firstOff c gens → AllDigits gens
+unfolding firstOff
+none-off-digits c [] h g m = absurd (not-nil m)
+none-off-digits c (f ∷ gens) h g m = digits-next c f gens (keepsOf c (f .rotation)) refl h (none-off-digits c gens) g m
 
 -- ---- the search for a generator that is off
 module _ (c : Centering) (gens : List Operation) (i : ℕ) (h : i < length gens) where

@@ -1,22 +1,18 @@
 // The list of operations that generators give: breadth first from the identity, the right factor running over the generators in order, the first
-// translation of each rotation kept, modulo 12. Ported from `traverse` of data/hall_symbol.rs of moyo 0.21.0, and changed: every later translation is compared
-// with the kept one, the index of each product is noted, and the list ends where a 49th rotation or an entry outside −1..1 comes up.
+// translation of each rotation kept, modulo 12. Ported from `traverse` of data/hall_symbol.rs of moyo 0.21.0, and changed: operations are numbers while the
+// list grows, every later translation is compared with the kept one, the index of each product is noted, and the list ends where a 49th rotation or an
+// entry outside −1..1 comes up.
 ghost use mathlib.Core.Path.{_≡_};
-ghost use mathlib.Core.Bool.{_&&_};
 ghost use Prim.Native.Nat.{_≤_};
-ghost use lib.Dec.{eqb};
-ghost use lib.ListN.{length, take};
-ghost use Rattle.laws.specs.Growth.{place};
-ghost use Rattle.laws.specs.Lattice.{sameTriple};
-ghost use Rattle.centering.specs.Lattices.{tripleOf, congruentOf};
+ghost use lib.ListN.{take};
 ghost use Rattle.space_group.specs.Traversal.{growth, grownOf, overgrownAnswer};
+ghost use Rattle.space_group.specs.NumberGrowth.{AllDigits};
+use crate::numbers::generator_numbers;
+use crate::numbers::grow;
 use centering::Centering;
 use operation::Operation;
-use operation::Translation;
-use operation::code::rotation_code;
-use operation::product::Product;
 use operation::product::identity;
-use operation::product::mul;
+use packed_operation::said;
 
 // The first `count` operations are the list, the others the identity. The first steps are the indices of the products: those of the first operation
 // with each generator, then those of the second, and so on; the others are 0. `steady` says whether no rotation came with two translations modulo
@@ -29,48 +25,8 @@ pub struct Grown {
     pub steps: [u8; 432],
 }
 
-// The index of the first of `count` codes that is the one sought, or `count`.
-fn place_of(codes: &[u32], count: usize, code: u32) -> usize
-    requires { ⌜ count ≤ length (now codes) ⌝ }
-    ensures { λ r. ⌜ r ≡ place eqb code (take count (now (codes .entry))) ⌝ }
-{
-    let mut i = 0usize;
-    let at = loop {
-        if count <= i {
-            break i;
-        }
-        if codes[i] == code {
-            break i;
-        }
-        i += 1;
-    };
-    at
-}
-
-fn same(s: Translation, t: Translation) -> bool
-    ensures { λ r. ⌜ r ≡ sameTriple (tripleOf s) (tripleOf t) ⌝ }
-{
-    if s.x != t.x {
-        return false;
-    }
-    if s.y != t.y {
-        return false;
-    }
-    s.z == t.z
-}
-
-// Equal translations, the common case, need no look at the lattice.
-fn agrees(c: Centering, steady: bool, t: Translation, listed: Translation) -> bool
-    ensures { λ r. ⌜ r ≡ steady && congruentOf c t listed ⌝ }
-{
-    if !steady {
-        return false;
-    }
-    if same(t, listed) {
-        return true;
-    }
-    c.congruent(t, listed)
-}
+// The identity's number: digits 2 on the diagonal, else 1.
+const IDENTITY: u64 = 9152337073407010;
 
 fn overgrown() -> Grown
     ensures { λ r. ⌜ r ≡ overgrownAnswer ⌝ }
@@ -86,47 +42,28 @@ fn overgrown() -> Grown
 }
 
 pub(crate) fn traverse(c: Centering, n: usize, generators: [Operation; 9]) -> Grown
-    requires { ⌜ n ≤ 9 ⌝ }
+    requires { ⌜ (n ≤ 9) × AllDigits (take n generators) ⌝ }
     ensures { λ r. ⌜ r ≡ grownOf (growth c (take n generators)) ⌝ }
 {
-    let e = identity();
-    let mut operations = [e; 48];
-    let mut codes = [rotation_code(e.rotation); 48];
+    let mut factors = [0u64; 9];
+    generator_numbers(n, generators, &mut factors);
+    let mut numbers = [IDENTITY; 48];
     let mut steps = [0u8; 432];
-    let mut count = 1usize;
-    let mut made = 0usize;
-    let mut steady = true;
-    let mut i = 0usize;
-    let mut j = 0usize;
-    while i < count {
-        if n <= j {
-            i += 1;
-            j = 0;
-            continue;
-        }
-        let Product::Inside(p) = mul(operations[i], generators[j]) else {
-            return overgrown();
-        };
-        let code = rotation_code(p.rotation);
-        let k = place_of(&codes, count, code);
-        steps[made] = k as u8;
-        made += 1;
-        j += 1;
-        if k < count {
-            let listed = operations[k];
-            steady = agrees(c, steady, p.translation, listed.translation);
-            continue;
-        }
-        if 48 <= count {
-            return overgrown();
-        }
-        operations[count] = p;
-        codes[count] = code;
-        count += 1;
+    let ended = grow(c, n, &factors, 48, &mut numbers, &mut steps);
+    if !ended.within {
+        return overgrown();
+    }
+    let e = identity();
+    let count = ended.count;
+    let mut operations = [e; 48];
+    let mut k = 0usize;
+    while k < count {
+        operations[k] = said(numbers[k]);
+        k += 1;
     }
     Grown {
         within: true,
-        steady,
+        steady: ended.steady,
         count,
         operations,
         steps,

@@ -4,7 +4,8 @@ use native.Mathlib.Omega.{arith}
 use lib.ListN.{length, take}
 use lib.Seq.{length-take-le}
 use borrow.Author.Tests.{not-true, not-false}
-use Rattle.space_group.specs.Slots.{answer-off, answer-unbounded, answer-torn, answer-group}
+use Rattle.space_group.specs.Generated.{firstOff}
+use Rattle.space_group.specs.Slots.{none-off-digits, answer-off, answer-unbounded, answer-torn, answer-group}
 use borrow.Author.Needs.{needs}
 use Rattle.space_group.proofs.group.group_of.Statement.{statement}
 use Rattle.space_group.proofs.group.group_of.Tie as tie
@@ -32,7 +33,11 @@ returns c =
     c .refused .ensures ∙ answer-off (a .c) (a .n) (take (a .n) (a .generators)) (gens-long (c .before .before .before)) (c .before .before .first-off .result) (c .before .before .first-off .ensures) (c .before .if1 .taken)
 
 traverse-requires : tie.Need-traverse-requires
-traverse-requires c κs = search needs
+traverse-requires c κs =
+    let a = c .before .before .args in
+    let gens = take (a .n) (a .generators) in
+    let found : c .before .first-off .result ≡ firstOff (a .c) gens = c .before .first-off .ensures in
+    (c .before .before .pre, none-off-digits (a .c) gens (omega (arith, gens-long (c .before .before), found, c .if1 .left)))
 
 refused-requires-2 : tie.Need-refused-requires-2
 refused-requires-2 c κs = search needs

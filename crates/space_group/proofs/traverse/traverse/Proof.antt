@@ -1,82 +1,113 @@
--- The loop's invariant: the slots show a growth of which exactly what lies ahead is left to do. Each turn is one law of that growth: the next operation, a
--- product outside −1..1, a rotation that is listed, one too many, a new one.
-use mathlib.Core.Path.{_≡_, sym, ap₂, _∙_}
-use Prim.Native.Nat.{_≤_, _<_, _-_, _+_, _*_}
+-- The numbers grow as the operations do; the loop then lays out what each number says.
+use mathlib.Core.Path.{_≡_, refl, sym, _∙_, ap, ap₂, subst}
+use mathlib.Core.List.{_++_, map}
+use Prim.Native.Nat.{ℕ, _≤_, _<_, _-_}
 use native.Mathlib.Omega.{arith}
+use lib.ListN.{length, take, drop, set, replicate, length-map}
+use lib.Seq.{take-at, length-take-le}
 use borrow.Author.Needs.{needs}
-use mathlib.Core.Bool.{true}
-use mathlib.Core.List.{[], _∷_}
-use lib.ListN.{length, getD, take}
-use lib.Seq.{length-take-le}
-use Rattle.laws.specs.Growth.{Growth, place, place-le, recurring, lengthened}
-use Rattle.operation.specs.Product.{identityOperation, productOf}
-use Rattle.operation.specs.declared.Operation.{Operation}
-use Rattle.space_group.specs.Traversal.{sameTurn, sameClass, growth}
-use Rattle.space_group.specs.Resuming.{resume, resume-start, resume-over, resume-outside, resume-again, resume-full, resume-new, resume-end, generator-at, Shows, shows-start, shows-codes, shows-at, shows-place, shows-again, shows-new}
+use borrow.Author.Tests.{not-true, not-false}
+use Rattle.packed_operation.specs.Number.{saidBy}
+use Rattle.space_group.specs.Traversal.{grownOf}
+use Rattle.space_group.specs.NumberGrowth.{unitNumber, numberGrowth, generatorNumber, growth-numbers}
+use Rattle.space_group.specs.NumberSlots.{Ends, filled-more, laid-few, laid-none, laid-out}
 use Rattle.space_group.proofs.traverse.traverse.Statement.{statement}
 use Rattle.space_group.proofs.traverse.traverse.Tie as tie
 use Rattle.space_group.proofs.traverse.traverse.Reads as reads
 use Rattle.space_group.proofs.traverse.traverse.Lts as lts
-use Rattle.operation.proofs.code.rotation_code.Reads as rotation-code-reads
 use Rattle.operation.proofs.product.identity.Reads as identity-reads
-use Rattle.operation.proofs.product.mul.Reads as mul-reads
-use Rattle.space_group.proofs.traverse.agrees.Reads as agrees-reads
+use Rattle.packed_operation.proofs.said.Reads as said-reads
+use Rattle.space_group.proofs.numbers.generator_numbers.Reads as generator-numbers-reads
+use Rattle.space_group.proofs.numbers.grow.Reads as grow-reads
 use Rattle.space_group.proofs.traverse.overgrown.Reads as overgrown-reads
-use Rattle.space_group.proofs.traverse.place_of.Reads as place-of-reads
 
 abbrev Inv-loop : tie.InvT-loop
-Inv-loop c n generators operations₀ codes₀ steps₀ count₀ made₀ steady₀ i₀ j₀ operations codes steps count made steady i j =
-    (s : Growth Operation) × Shows s count operations codes steps steady made × (i ≤ count) × (j ≤ n) × (made ≤ 9 * i + j) × (growth c (take n generators) ≡ resume c (take n generators) i j s)
+Inv-loop n numbers steps ended count operations₀ k₀ operations k =
+    (k ≤ count) × (operations ≡ map saidBy (take k numbers) ++ drop k operations₀)
 
 abbrev μ-loop : tie.MeasureT-loop
-μ-loop c n generators operations₀ codes₀ steps₀ count₀ made₀ steady₀ i₀ j₀ operations codes steps count made steady i j =
-    10 * (48 - i) + (9 - j)
+μ-loop n numbers steps ended count operations₀ k₀ operations k = count - k
 
 -- As many generators as are used.
-gens-long : (c : tie.Start Inv-loop μ-loop) → (length (c .args .t3) ≡ 9) × (length (take (c .args .n) (c .args .t3)) ≡ c .args .n)
+gens-long : (c : tie.Start Inv-loop μ-loop) → length (take (c .args .n) (c .args .generators)) ≡ c .args .n
 gens-long c =
-    let whole : length (c .args .t3) ≡ 9 = c .good .1 .1 .0 .1 .0 .1 in
-    (whole, length-take-le (c .args .n) (c .args .t3) (omega (arith, c .pre)))
+    let whole : length (c .args .generators) ≡ 9 = c .good .1 .1 .0 .1 .0 .1 in
+    length-take-le (c .args .n) (c .args .generators) (omega (arith, c .pre .0))
 
--- As many codes as slots.
-codes-long : (c : tie.At-loop Inv-loop μ-loop) → length (c .loop .codes) ≡ 48
-codes-long c = shows-codes (c .before .before .before .args .c) (c .loop .inv .0) (c .loop .count) (c .loop .operations) (c .loop .codes) (c .loop .steps) (c .loop .steady) (c .loop .made) (c .loop .inv .1)
+-- The growth by their numbers, in the slots.
+ends : (c : tie.After-grow Inv-loop μ-loop) → Ends (numberGrowth ((c .before .before .before .before .before .before .before .args) .c) 48 (map generatorNumber (take ((c .before .before .before .before .before .before .before .args) .n) ((c .before .before .before .before .before .before .before .args) .generators)))) (c .grow .result) (replicate 48 unitNumber) (c .grow .last .1 .1 .1 .1 .0) (replicate 432 0) (c .grow .last .1 .1 .1 .1 .1 .0)
+ends c =
+    let a = (c .before .before .before .before .before .before .before .args) in
+    let gens = take (a .n) (a .generators) in
+    let front = ap (take (a .n)) (c .before .before .before .before .before .generator-numbers .ensures) ∙ take-at (map generatorNumber gens) (drop (a .n) (replicate 9 0)) (a .n) (length-map gens generatorNumber ∙ gens-long (c .before .before .before .before .before .before .before)) in
+    subst (λ l. Ends (numberGrowth (a .c) 48 l) (c .grow .result) (replicate 48 unitNumber) (c .grow .last .1 .1 .1 .1 .0) (replicate 432 0) (c .grow .last .1 .1 .1 .1 .1 .0)) front (c .grow .ensures)
 
--- The product that was made.
-product-is : (c : tie.After-mul Inv-loop μ-loop) → c .mul .result ≡ productOf (getD (c .before .before .before .before .before .loop .inv .0 .found) (c .before .before .before .before .before .loop .i) identityOperation) (getD (take (c .before .before .before .before .before .before .before .before .args .n) (c .before .before .before .before .before .before .before .before .args .t3)) (c .before .before .before .before .before .loop .j) identityOperation)
-product-is c =
-    let l = c .before .before .before .before .before .loop in
-    let a = c .before .before .before .before .before .before .before .before .args in
-    let x = shows-at (a .c) (l .inv .0) (l .count) (l .operations) (l .codes) (l .steps) (l .steady) (l .made) (l .inv .1) (l .i) _ identityOperation (c .before .before .before .before .loop-test .taken) in
-    let g = generator-at (a .n) (a .t3) (l .j) _ identityOperation (c .before .before .before .if1 .left) (omega (arith, gens-long (c .before .before .before .before .before .before .before .before), c .before .before .before .before .before .before .before .before .pre)) in
-    c .mul .ensures ∙ ap₂ productOf x g
+-- The list fits the slots.
+few : (c : tie.At-loop Inv-loop μ-loop) → c .before .before .before .before .before .before .grow .result .count ≤ 48
+few c =
+    let g = c .before .before .before .before .before .before in
+    let a = g .before .before .before .before .before .before .before .args in
+    laid-few (numberGrowth (a .c) 48 (map generatorNumber (take (a .n) (a .generators)))) (g .grow .result) (g .grow .last .1 .1 .1 .1 .0) (g .grow .last .1 .1 .1 .1 .1 .0) (ends g) (not-false _ (c .before .before .if1 .left))
 
--- The product's place.
-place-is : (c : tie.After-place-of Inv-loop μ-loop) → c .place-of .result ≡ place sameTurn (c .before .before .before .before .p .given .0 .0) (c .before .before .before .before .before .before .before .before .before .before .before .loop .inv .0 .found)
-place-is c =
-    let l = c .before .before .before .before .before .before .before .before .before .before .before .loop in
-    let a = c .before .before .before .before .before .before .before .before .before .before .before .before .before .before .args in
-    c .place-of .ensures ∙ shows-place (a .c) (l .inv .0) (l .count) (l .operations) (l .codes) (l .steps) (l .steady) (l .made) (l .inv .1) (c .before .before .before .before .p .given .0 .0) (c .before .before .rotation-code2 .result) (c .before .before .rotation-code2 .ensures)
+slice-aggregate-generator-numbers : tie.Need-slice-aggregate-generator-numbers Inv-loop μ-loop
+slice-aggregate-generator-numbers c = omega arith
+
+generator-numbers-requires : tie.Need-generator-numbers-requires Inv-loop μ-loop
+generator-numbers-requires c κs = search needs
+
+slice-aggregate-grow : tie.Need-slice-aggregate-grow Inv-loop μ-loop
+slice-aggregate-grow c = omega arith
+
+slice-aggregate-grow-2 : tie.Need-slice-aggregate-grow-2 Inv-loop μ-loop
+slice-aggregate-grow-2 c = omega arith
+
+slice-aggregate-grow-3 : tie.Need-slice-aggregate-grow-3 Inv-loop μ-loop
+slice-aggregate-grow-3 c = omega arith
+
+grow-requires : tie.Need-grow-requires Inv-loop μ-loop
+grow-requires c κs = (
+  c .before .before .before .before .before .before .pre .0,
+  omega arith,
+  omega arith,
+  omega arith,
+  omega arith,
+  omega arith,
+  refl,
+)
+
+overgrown-requires : tie.Need-overgrown-requires Inv-loop μ-loop
+overgrown-requires c κs = search needs
+
+returns : tie.Need-returns Inv-loop μ-loop
+returns c =
+    let a = c .before .before .before .before .before .before .before .before .before .before .before .before .args in
+    let g = c .before .before .before .before .before in
+    let none = laid-none (numberGrowth (a .c) 48 (map generatorNumber (take (a .n) (a .generators)))) (g .grow .result) (g .grow .last .1 .1 .1 .1 .0) (g .grow .last .1 .1 .1 .1 .1 .0) (ends g) (not-true _ (c .before .if1 .taken)) in
+    c .overgrown .ensures ∙ none ∙ ap grownOf (sym (growth-numbers (a .c) (take (a .n) (a .generators)) (c .before .before .before .before .before .before .before .before .before .before .before .before .pre .1)))
 
 identity-requires : tie.Need-identity-requires Inv-loop μ-loop
 identity-requires c κs = search needs
 
-rotation-code-requires : tie.Need-rotation-code-requires Inv-loop μ-loop
-rotation-code-requires c κs = search needs
-
 loop-holds : tie.Need-loop-holds Inv-loop μ-loop
-loop-holds c =
-    let a = c .before .before .args in (
-      record { found = identityOperation ∷ []; steps = []; steady = true },
-      rw (c .rotation-code .ensures, c .before .identity .ensures) shows-start,
-      omega arith,
-      omega arith,
-      omega arith,
-      resume-start (a .c) (take (a .n) (a .t3)),
-    )
+loop-holds c = (omega arith, refl)
 
-add-i : tie.Need-add-i Inv-loop μ-loop
-add-i c = omega arith
+mul-said : tie.Need-mul-said Inv-loop μ-loop
+mul-said c = omega (arith, few (c .before))
+
+array-read-said : tie.Need-array-read-said Inv-loop μ-loop
+array-read-said c = omega (arith, few (c .before))
+
+said-requires : tie.Need-said-requires Inv-loop μ-loop
+said-requires c κs = search needs
+
+mul-operations : tie.Need-mul-operations Inv-loop μ-loop
+mul-operations c = omega (arith, few (c .before .before))
+
+array-set-from-operations : tie.Need-array-set-from-operations Inv-loop μ-loop
+array-set-from-operations c = omega (arith, few (c .before .before))
+
+add-k : tie.Need-add-k Inv-loop μ-loop
+add-k c = omega arith
 
 loop-less : tie.Need-loop-less Inv-loop μ-loop
 loop-less c = omega arith
@@ -84,159 +115,21 @@ loop-less c = omega arith
 loop-again : tie.Need-loop-again Inv-loop μ-loop
 loop-again c =
     let l = c .before .before .loop in
-    let a = c .before .before .before .before .before .args in
-    let g = gens-long (c .before .before .before .before .before) in (
-      l .inv .0,
-      l .inv .1,
+    let fits = few (c .before .before) in
+    let e = c .before .before .before .identity .result in (
       omega arith,
-      omega arith,
-      omega arith,
-      l .inv .5 ∙ resume-over (a .c) (take (a .n) (a .t3)) (l .inv .0) (l .i) (l .j) (omega arith) (omega arith) (omega arith),
+      ap₂ (λ m x. set m (l .k) x) (l .inv .1) (c .said .ensures) ∙ filled-more saidBy (c .before .before .before .before .before .before .before .before .grow .last .1 .1 .1 .1 .0) (replicate 48 e) (l .k) 0 (omega arith) (omega arith),
     )
-
-mul-mul : tie.Need-mul-mul Inv-loop μ-loop
-mul-mul c = omega arith
-
-array-copy-out-mul : tie.Need-array-copy-out-mul Inv-loop μ-loop
-array-copy-out-mul c = omega arith
-
-mul-mul-2 : tie.Need-mul-mul-2 Inv-loop μ-loop
-mul-mul-2 c = omega arith
-
-array-copy-out-mul-2 : tie.Need-array-copy-out-mul-2 Inv-loop μ-loop
-array-copy-out-mul-2 c = omega arith
-
-mul-requires : tie.Need-mul-requires Inv-loop μ-loop
-mul-requires c κs = search needs
-
-enum-known-p : tie.Need-enum-known-p Inv-loop μ-loop
-enum-known-p c = search needs
-
-enum-told : tie.Need-enum-told Inv-loop μ-loop
-enum-told c = search needs
-
-overgrown-requires : tie.Need-overgrown-requires Inv-loop μ-loop
-overgrown-requires c κs = search needs
-
-returns : tie.Need-returns Inv-loop μ-loop
-returns c =
-    let l = c .before .before .before .before .before .before .before .before .loop in
-    let a = c .before .before .before .before .before .before .before .before .before .before .before .args in
-    let g = gens-long (c .before .before .before .before .before .before .before .before .before .before .before) in
-    let outside = sym (product-is (c .before .before .before)) ∙ c .before .enum-told .given .1 in
-    let none-left = l .inv .5 ∙ resume-outside (a .c) (take (a .n) (a .t3)) (l .inv .0) (l .i) (l .j) (omega arith) (omega arith) outside in
-    rw none-left (c .overgrown .ensures)
-
-rotation-code-requires-2 : tie.Need-rotation-code-requires-2 Inv-loop μ-loop
-rotation-code-requires-2 c κs = search needs
-
-slice-aggregate-place-of : tie.Need-slice-aggregate-place-of Inv-loop μ-loop
-slice-aggregate-place-of c = sym (codes-long (c .before .before .before .before .before .before .before .before .before .before))
-
-place-of-requires : tie.Need-place-of-requires Inv-loop μ-loop
-place-of-requires c κs = let long = codes-long (c .before .before .before .before .before .before .before .before .before .before) in let l = c .before .before .before .before .before .before .before .before .before .before .loop in rw long (omega (arith, l .inv .1 .counted, l .inv .1 .few))
-
-cast-steps : tie.Need-cast-steps Inv-loop μ-loop
-cast-steps c =
-    let s = c .before .before .before .before .before .before .before .before .before .before .before .loop .inv .0 in
-    let low = place-le sameTurn (c .before .before .before .before .p .given .0 .0) (s .found) in
-    omega (arith, place-is c, c .before .before .before .before .before .before .before .before .before .before .before .loop .inv .1 .few)
-
-array-write-steps : tie.Need-array-write-steps Inv-loop μ-loop
-array-write-steps c = omega arith
-
-add-made : tie.Need-add-made Inv-loop μ-loop
-add-made c = omega arith
-
-add-j : tie.Need-add-j Inv-loop μ-loop
-add-j c = omega arith
-
-mul-listed : tie.Need-mul-listed Inv-loop μ-loop
-mul-listed c = omega arith
-
-array-copy-out-listed : tie.Need-array-copy-out-listed Inv-loop μ-loop
-array-copy-out-listed c = omega arith
-
-agrees-requires : tie.Need-agrees-requires Inv-loop μ-loop
-agrees-requires c κs = search needs
-
-loop-less-2 : tie.Need-loop-less-2 Inv-loop μ-loop
-loop-less-2 c = omega arith
-
-loop-again-2 : tie.Need-loop-again-2 Inv-loop μ-loop
-loop-again-2 c =
-    let l = c .before .before .before .before .before .before .before .before .before .before .before .before .before .before .loop in
-    let a = c .before .before .before .before .before .before .before .before .before .before .before .before .before .before .before .before .before .args in
-    let p = c .before .before .before .before .before .before .before .p .given .0 .0 in
-    let g = gens-long (c .before .before .before .before .before .before .before .before .before .before .before .before .before .before .before .before .before) in
-    let k = place-is (c .before .before .before) in
-    let inside = sym (product-is (c .before .before .before .before .before .before .before .before .before)) ∙ c .before .before .before .before .before .before .before .p .given .1 in
-    let in-list : place sameTurn p (l .inv .0 .found) < l .count = omega (arith, c .before .before .if2 .taken) in
-    let shown = shows-again (a .c) (l .inv .0) (l .count) (l .operations) (l .codes) (l .steps) (l .steady) (l .made) (l .inv .1) p (omega arith) _ in-list in (
-      recurring sameTurn (sameClass (a .c)) p (l .inv .0),
-      rw (c .agrees .ensures, k) shown,
-      omega arith,
-      omega arith,
-      omega arith,
-      l .inv .5 ∙ resume-again (a .c) (take (a .n) (a .t3)) (l .inv .0) (l .i) (l .j) (omega arith) (omega arith) p inside (omega arith),
-    )
-
-overgrown-requires-2 : tie.Need-overgrown-requires-2 Inv-loop μ-loop
-overgrown-requires-2 c κs = search needs
 
 returns-2 : tie.Need-returns-2 Inv-loop μ-loop
 returns-2 c =
-    let l = c .before .before .before .before .before .before .before .before .before .before .before .before .before .before .loop in
-    let a = c .before .before .before .before .before .before .before .before .before .before .before .before .before .before .before .before .before .args in
-    let p = c .before .before .before .before .before .before .before .p .given .0 .0 in
-    let g = gens-long (c .before .before .before .before .before .before .before .before .before .before .before .before .before .before .before .before .before) in
-    let k = place-is (c .before .before .before) in
-    let inside = sym (product-is (c .before .before .before .before .before .before .before .before .before)) ∙ c .before .before .before .before .before .before .before .p .given .1 in
-    let none-left = l .inv .5 ∙ resume-full (a .c) (take (a .n) (a .t3)) (l .inv .0) (l .i) (l .j) (omega arith) (omega arith) p inside (omega arith) (omega arith) in
-    rw none-left (c .overgrown2 .ensures)
-
-mul-operations : tie.Need-mul-operations Inv-loop μ-loop
-mul-operations c = omega arith
-
-array-set-from-operations : tie.Need-array-set-from-operations Inv-loop μ-loop
-array-set-from-operations c = omega arith
-
-mul-codes : tie.Need-mul-codes Inv-loop μ-loop
-mul-codes c = omega arith
-
-array-write-codes : tie.Need-array-write-codes Inv-loop μ-loop
-array-write-codes c = omega arith
-
-add-count : tie.Need-add-count Inv-loop μ-loop
-add-count c = omega arith
-
-loop-less-3 : tie.Need-loop-less-3 Inv-loop μ-loop
-loop-less-3 c = omega arith
-
-loop-again-3 : tie.Need-loop-again-3 Inv-loop μ-loop
-loop-again-3 c =
-    let l = c .before .before .before .before .before .before .before .before .before .before .before .before .before .loop in
-    let a = c .before .before .before .before .before .before .before .before .before .before .before .before .before .before .before .before .args in
-    let p = c .before .before .before .before .before .before .p .given .0 .0 in
-    let g = gens-long (c .before .before .before .before .before .before .before .before .before .before .before .before .before .before .before .before) in
-    let k = place-is (c .before .before) in
-    let inside = sym (product-is (c .before .before .before .before .before .before .before .before)) ∙ c .before .before .before .before .before .before .p .given .1 in
-    let shown = shows-new (a .c) (l .inv .0) (l .count) (l .operations) (l .codes) (l .steps) (l .steady) (l .made) (l .inv .1) p (omega arith) (omega arith) in (
-      lengthened sameTurn (sameClass (a .c)) p (l .inv .0),
-      rw (c .before .before .before .before .rotation-code2 .ensures, k) shown,
-      omega arith,
-      omega arith,
-      omega arith,
-      l .inv .5 ∙ resume-new (a .c) (take (a .n) (a .t3)) (l .inv .0) (l .i) (l .j) (omega arith) (omega arith) p inside (omega arith) (omega arith),
-    )
-
-returns-3 : tie.Need-returns-3 Inv-loop μ-loop
-returns-3 c =
+    let a = c .before .before .before .before .before .before .before .before .before .before .before .before .before .before .args in
+    let g = c .before .before .before .before .before .before .before in
     let l = c .before .loop in
-    let a = c .before .before .before .before .args in
-    let S = l .inv .1 in
-    let whole = l .inv .5 ∙ resume-end (a .c) (take (a .n) (a .t3)) (l .inv .0) (l .i) (l .j) (omega arith) in
-    rw (whole, S .agreeing, S .counted, S .listed, S .noted)
+    let all : l .k ≡ g .grow .result .count = omega arith in
+    let laid = l .inv .1 ∙ ap₂ (λ (k : ℕ) e. map saidBy (take k (g .grow .last .1 .1 .1 .1 .0)) ++ drop k (replicate 48 e)) all (c .before .before .identity .ensures) in
+    laid-out (numberGrowth (a .c) 48 (map generatorNumber (take (a .n) (a .generators)))) (g .grow .result) (g .grow .last .1 .1 .1 .1 .0) (g .grow .last .1 .1 .1 .1 .1 .0) (ends g) (not-false _ (c .before .before .before .if1 .left)) (l .operations) laid
+    ∙ ap grownOf (sym (growth-numbers (a .c) (take (a .n) (a .generators)) (c .before .before .before .before .before .before .before .before .before .before .before .before .before .before .pre .1)))
 
 pub traverse-spec : {M : Type 1} → statement M
 traverse-spec =
@@ -244,40 +137,22 @@ traverse-spec =
     (tie.spec
     Inv-loop
     μ-loop
-    identity-requires
-    rotation-code-requires
-    loop-holds
-    add-i
-    loop-less
-    loop-again
-    mul-mul
-    array-copy-out-mul
-    mul-mul-2
-    array-copy-out-mul-2
-    mul-requires
-    enum-known-p
-    enum-told
+    slice-aggregate-generator-numbers
+    generator-numbers-requires
+    slice-aggregate-grow
+    slice-aggregate-grow-2
+    slice-aggregate-grow-3
+    grow-requires
     overgrown-requires
     returns
-    rotation-code-requires-2
-    slice-aggregate-place-of
-    place-of-requires
-    cast-steps
-    array-write-steps
-    add-made
-    add-j
-    mul-listed
-    array-copy-out-listed
-    agrees-requires
-    loop-less-2
-    loop-again-2
-    overgrown-requires-2
-    returns-2
+    identity-requires
+    loop-holds
+    mul-said
+    array-read-said
+    said-requires
     mul-operations
     array-set-from-operations
-    mul-codes
-    array-write-codes
-    add-count
-    loop-less-3
-    loop-again-3
-    returns-3)
+    add-k
+    loop-less
+    loop-again
+    returns-2)

@@ -1,0 +1,160 @@
+// The growth of a list of operations as numbers, in lent slots and up to any limit: breadth first from the identity, the right factor running over the
+// generators in order, each rotation and flag once, the first translation kept. New beside moyo 0.21.0, whose `traverse` multiplies matrices.
+ghost use mathlib.Core.Path.{_≡_};
+ghost use mathlib.Core.Bool.{_&&_};
+ghost use mathlib.Core.List.{_++_, map};
+ghost use Prim.Native.Nat.{_≤_, _*_};
+ghost use lib.Dec.{eqb};
+ghost use lib.ListN.{length, getD, take, drop};
+ghost use Rattle.laws.specs.Growth.{place};
+ghost use Rattle.space_group.specs.NumberGrowth.{signOf, sameShift, unitNumber, numberGrowth, generatorNumber};
+ghost use Rattle.space_group.specs.NumberSlots.{Ends};
+use centering::Centering;
+use operation::Operation;
+use operation::Translation;
+use packed_operation::Numbered;
+use packed_operation::flag;
+use packed_operation::key;
+use packed_operation::number;
+use packed_operation::product;
+use packed_operation::said;
+
+const FLAG: u64 = 9223372036854775808;
+
+// How a growth ended: `within` says whether the list ended within the limit and with all entries in −1..1, `steady` whether no rotation with its flag
+// came with two translations modulo the lattice, `count` how many numbers are listed.
+pub struct Ended {
+    pub within: bool,
+    pub steady: bool,
+    pub count: usize,
+}
+
+// The part of a number by which the list has it once: the rotation and the flag.
+fn sign(n: u64) -> u64
+    ensures { λ r. ⌜ r ≡ signOf n ⌝ }
+{
+    key(n) + flag(n) * FLAG
+}
+
+// The index of the first of `count` numbers with the sign sought, or `count`.
+fn place_of(numbers: &[u64], count: usize, sought: u64) -> usize
+    requires { ⌜ count ≤ length (now numbers) ⌝ }
+    ensures { λ r. ⌜ r ≡ place eqb sought (map signOf (take count (now (numbers .entry)))) ⌝ }
+{
+    let mut i = 0usize;
+    let at = loop {
+        if count <= i {
+            break i;
+        }
+        if sign(numbers[i]) == sought {
+            break i;
+        }
+        i += 1;
+    };
+    at
+}
+
+// Equal numbers, the common case, need no look at the lattice.
+fn agrees(c: Centering, steady: bool, p: u64, listed: u64) -> bool
+    ensures { λ r. ⌜ r ≡ steady && sameShift c p listed ⌝ }
+{
+    if !steady {
+        return false;
+    }
+    if p == listed {
+        return true;
+    }
+    let f = said(p);
+    let g = said(listed);
+    c.congruent(f.translation, g.translation)
+}
+
+// The growth by n generators up to the limit, the identity in the first slot. The slots then hold the list from their front, the steps the indices of the
+// products: those of the first number with each generator, then those of the second, and so on; behind both all stays.
+pub(crate) fn grow(
+    c: Centering,
+    n: usize,
+    generators: &[u64],
+    limit: usize,
+    numbers: &mut [u64],
+    steps: &mut [u8],
+) -> Ended
+    requires { ⌜ (n ≤ 9) × (n ≤ length (now generators)) × (1 ≤ limit) × (limit ≤ 96) × (limit ≤ length (now numbers)) × (9 * limit ≤ length (now steps))
+        × (getD (now numbers) 0 0 ≡ unitNumber) ⌝ }
+    ensures { λ r. ⌜ Ends (numberGrowth c limit (take n (now (generators .entry)))) r (now (numbers .entry)) (now (numbers .exit))
+        (now (steps .entry)) (now (steps .exit)) ⌝ }
+{
+    let mut count = 1usize;
+    let mut made = 0usize;
+    let mut steady = true;
+    let mut i = 0usize;
+    let mut j = 0usize;
+    while i < count {
+        if n <= j {
+            i += 1;
+            j = 0;
+            continue;
+        }
+        let Numbered::Inside(p) = product(numbers[i], generators[j]) else {
+            return Ended {
+                within: false,
+                steady,
+                count,
+            };
+        };
+        let k = place_of(numbers, count, sign(p));
+        steps[made] = k as u8;
+        made += 1;
+        j += 1;
+        if k < count {
+            steady = agrees(c, steady, p, numbers[k]);
+            continue;
+        }
+        if limit <= count {
+            return Ended {
+                within: false,
+                steady,
+                count,
+            };
+        }
+        numbers[count] = p;
+        count += 1;
+    }
+    Ended {
+        within: true,
+        steady,
+        count,
+    }
+}
+
+// The number of a generator: a product does not change where the right factor's translation goes modulo 12.
+fn generator_number(g: Operation) -> u64
+    ensures { λ r. ⌜ r ≡ generatorNumber g ⌝ }
+{
+    let rotation = g.rotation;
+    let t = g.translation;
+    let translation = Translation {
+        x: t.x % 12,
+        y: t.y % 12,
+        z: t.z % 12,
+    };
+    number(
+        Operation {
+            rotation,
+            translation,
+        },
+        0,
+    )
+}
+
+// The numbers of the first n of nine generators, in the first n slots.
+pub(crate) fn generator_numbers(n: usize, generators: [Operation; 9], numbers: &mut [u64])
+    requires { ⌜ (n ≤ 9) × (n ≤ length (now numbers)) ⌝ }
+    ensures { λ _. ⌜ now (numbers .exit) ≡ map generatorNumber (take n generators) ++ drop n (now (numbers .entry)) ⌝ }
+{
+    let mut i = 0usize;
+    while i < n {
+        numbers[i] = generator_number(generators[i]);
+        i += 1;
+    }
+}
