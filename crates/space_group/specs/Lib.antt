@@ -10,6 +10,7 @@ pub mod Resuming
 pub mod OperationGrowth
 -- The same list as numbers, in lent slots:
 pub mod NumberGrowth
+pub mod Hints
 pub mod NumberSlots
 -- The answers:
 pub mod Slots

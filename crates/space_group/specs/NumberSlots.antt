@@ -2,23 +2,24 @@
 use mathlib.Core.Path.{_≡_, refl, sym, _∙_, ap, ap₂}
 use mathlib.Core.Bool.{Bool, true, false, _&&_, false≢true}
 use mathlib.Core.Option.{Option, some, none, Option·map}
-use mathlib.Core.List.{List, [], _∷_, _++_, map}
-use Prim.Native.Nat.{ℕ, zero, suc, _+_, _-_, _≤_, _<_}
+use mathlib.Core.List.{List, [], _∷_, _++_, map, map-append}
+use Prim.Native.Nat.{ℕ, zero, suc, _+_, _-_, _%_, _≤_, _<_}
 use native.Mathlib.Numerals.{add-one}
 use native.Mathlib.Omega.{arith}
 use lib.Dec.{eqb}
 use lib.ListN.{length, getD, take, drop, set, replicate, length-append, length-drop, length-map, List·getD-append}
 use lib.Seq.{set-at, take-at, drop-cons, append-snoc}
-use Rattle.laws.specs.Growth.{Growth, place, recurring, lengthened, imageGrowth}
+use Rattle.laws.specs.Growth.{Growth, place, place-le, recurring, lengthened, imageGrowth}
 use Rattle.group_growth.specs.Resuming as growing
 use Rattle.group_growth.specs.Resuming.{seed}
 use Rattle.operation.specs.Product.{identityOperation}
 use Rattle.operation.specs.declared.Operation.{Operation}
-use Rattle.packed_operation.specs.Number.{saidBy}
+use Rattle.packed_operation.specs.Number.{keyOf, rowDigits, flagOf, saidBy}
 use Rattle.centering.specs.declared.Centering.{Centering}
 use Rattle.space_group.specs.Places.{place-key}
 use Rattle.space_group.specs.Resuming.{at-any}
 use Rattle.space_group.specs.Traversal.{padded, grownOf, overgrownAnswer}
+use Rattle.space_group.specs.Hints.{Hinted, hint-more, hint-start}
 use Rattle.space_group.specs.NumberGrowth.{signOf, sameSign, sameShift, numberTimes, unitNumber, numberGrowth}
 use Rattle.space_group.specs.declared.numbers.Ended.{Ended}
 use Rattle.space_group.specs.declared.traverse.Grown.{Grown}
@@ -105,6 +106,10 @@ pub shows-start : (before noughts : List ℕ) → 1 ≤ length before → getD b
 shows-start [] noughts h e = absurd (omega arith)
 shows-start (b ∷ before) noughts h e = record { counted = refl; agreeing = refl; numbered = refl; listed = ap (λ n. n ∷ before) e; noted = refl }
 
+pub hints-start : Hinted (map signOf (unitNumber ∷ [])) (set (replicate 151 0) 63 1)
+unfolding signOf keyOf rowDigits flagOf
+hints-start = hint-start (signOf unitNumber) (replicate 151 0) refl
+
 module _ (c : Centering) (s : Growth ℕ) (count : ℕ) (steady : Bool) (made : ℕ) (before numbers noughts steps : List ℕ) (S : Shows s count steady made before numbers noughts steps) where
   -- The number in a slot.
   pub shows-at : (i d e : ℕ) → i < count → getD numbers i d ≡ getD (s .found) i e
@@ -117,11 +122,22 @@ module _ (c : Centering) (s : Growth ℕ) (count : ℕ) (steady : Bool) (made : 
   pub shows-steps : made ≤ length noughts → length steps ≡ length noughts
   shows-steps h = ap length (S .noted) ∙ front-length (s .steps) noughts (omega (arith, S .numbered))
 
+  -- The list, as the search is lent it.
+  pub shows-front : take count numbers ≡ s .found
+  shows-front = ap (take count) (S .listed) ∙ take-at (s .found) (drop (length (s .found)) before) count (sym (S .counted))
+
   -- The place of a number's sign is the number's.
   pub shows-place : (p sign : ℕ) → sign ≡ signOf p → place eqb sign (map signOf (take count numbers)) ≡ place sameSign p (s .found)
-  shows-place p sign e =
-      let front : take count numbers ≡ s .found = ap (take count) (S .listed) ∙ take-at (s .found) (drop (length (s .found)) before) count (sym (S .counted)) in
-      rw (front, e) (sym (place-key signOf p (s .found)))
+  shows-place p sign e = rw (shows-front, e) (sym (place-key signOf p (s .found)))
+
+  -- One more hint.
+  pub shows-hint : (hints : List ℕ) → Hinted (map signOf (s .found)) hints → length hints ≡ 151 → (p sign : ℕ) → sign ≡ signOf p → count ≤ place sameSign p (s .found)
+      → (v : ℕ) → 0 < v → Hinted (map signOf (s .found ++ p ∷ [])) (set hints (sign % 151) v)
+  shows-hint hints H long p sign e new v h =
+      let low = place-le sameSign p (s .found) in
+      let behind : place sameSign p (s .found) ≡ length (s .found) = omega (arith, S .counted) in
+      rw (e, map-append signOf (s .found) (p ∷ []))
+      (hint-more (map signOf (s .found)) hints H (signOf p) v long (sym (place-key signOf p (s .found)) ∙ behind ∙ sym (length-map (s .found) signOf)) h)
 
   module _ (p : ℕ) (room : made < length noughts) where
     -- One more index.

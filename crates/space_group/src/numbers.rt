@@ -8,6 +8,7 @@ ghost use lib.Dec.{eqb};
 ghost use lib.ListN.{length, getD, take, drop};
 ghost use Rattle.laws.specs.Growth.{place};
 ghost use Rattle.space_group.specs.NumberGrowth.{signOf, sameShift, unitNumber, numberGrowth, generatorNumber};
+ghost use Rattle.space_group.specs.Hints.{Hinted};
 ghost use Rattle.space_group.specs.NumberSlots.{Ends};
 use centering::Centering;
 use operation::Operation;
@@ -20,6 +21,9 @@ use packed_operation::product;
 use packed_operation::said;
 
 const FLAG: u64 = 9223372036854775808;
+
+// The spot of the identity's sign.
+const START: usize = 63;
 
 // How a growth ended: `within` says whether the list ended within the limit and with all entries in −1..1, `steady` whether no rotation with its flag
 // came with two translations modulo the lattice, `count` how many numbers are listed.
@@ -36,8 +40,8 @@ fn sign(n: u64) -> u64
     key(n) + flag(n) * FLAG
 }
 
-// The index of the first of `count` numbers with the sign sought, or `count`.
-fn place_of(numbers: &[u64], count: usize, sought: u64) -> usize
+// The index of the first of `count` numbers with the sign sought, or `count`: one by one.
+fn search(numbers: &[u64], count: usize, sought: u64) -> usize
     requires { ⌜ count ≤ length (now numbers) ⌝ }
     ensures { λ r. ⌜ r ≡ place eqb sought (map signOf (take count (now (numbers .entry)))) ⌝ }
 {
@@ -52,6 +56,33 @@ fn place_of(numbers: &[u64], count: usize, sought: u64) -> usize
         i += 1;
     };
     at
+}
+
+fn wide(byte: u8) -> usize
+    ensures { λ r. ⌜ r ≡ byte ⌝ }
+{
+    byte as usize
+}
+
+// The same by a table of hints: at a sign's spot 0 stands where no number of the list has that spot, else one more than the index of the last that has.
+// No two rotations of a crystallographic point group in its usual axes share a spot.
+fn place_of(numbers: &[u64], hints: &[u8; 151], count: usize, sought: u64) -> usize
+    requires { ⌜ (count ≤ length (now numbers)) × Hinted (map signOf (take count (now numbers))) (now hints) ⌝ }
+    ensures { λ r. ⌜ r ≡ place eqb sought (map signOf (take count (now (numbers .entry)))) ⌝ }
+{
+    let spot = (sought % 151) as usize;
+    let hint = wide(hints[spot]);
+    if hint == 0 {
+        return count;
+    }
+    let k = hint - 1;
+    if count <= k {
+        return search(numbers, count, sought);
+    }
+    if sign(numbers[k]) != sought {
+        return search(numbers, count, sought);
+    }
+    k
 }
 
 // Equal numbers, the common case, need no look at the lattice.
@@ -84,6 +115,8 @@ pub(crate) fn grow(
     ensures { λ r. ⌜ Ends (numberGrowth c limit (take n (now (generators .entry)))) r (now (numbers .entry)) (now (numbers .exit))
         (now (steps .entry)) (now (steps .exit)) ⌝ }
 {
+    let mut hints = [0u8; 151];
+    hints[START] = 1;
     let mut count = 1usize;
     let mut made = 0usize;
     let mut steady = true;
@@ -102,7 +135,8 @@ pub(crate) fn grow(
                 count,
             };
         };
-        let k = place_of(numbers, count, sign(p));
+        let sought = sign(p);
+        let k = place_of(numbers, &hints, count, sought);
         steps[made] = k as u8;
         made += 1;
         j += 1;
@@ -119,6 +153,8 @@ pub(crate) fn grow(
         }
         numbers[count] = p;
         count += 1;
+        let spot = (sought % 151) as usize;
+        hints[spot] = count as u8;
     }
     Ended {
         within: true,

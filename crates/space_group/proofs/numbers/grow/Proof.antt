@@ -1,9 +1,9 @@
 -- The loop's invariant: the slots show a growth of which exactly what lies ahead is left to do. Each turn is one law of that growth: the next number, a
 -- product outside −1..1, one that is listed, one too many, a new one.
-use mathlib.Core.Path.{_≡_, refl, sym, _∙_, ap, ap₂}
+use mathlib.Core.Path.{_≡_, refl, sym, _∙_, ap, ap₂, subst}
 use Prim.Native.Nat.{ℕ, _≤_, _<_, _-_, _+_, _*_, _%_}
 use native.Mathlib.Omega.{arith}
-use mathlib.Core.List.{[], _∷_}
+use mathlib.Core.List.{[], _∷_, map}
 use mathlib.Core.Option.{some, none}
 use lib.ListN.{length, getD, take, length-set}
 use lib.Seq.{length-take-le, getD-take}
@@ -13,8 +13,9 @@ use Rattle.group_growth.specs.Resuming as growing
 use Rattle.group_growth.specs.Resuming.{seed}
 use Rattle.operation.specs.Product.{productOf}
 use Rattle.packed_operation.specs.Number.{saidBy, flagOf, numbered}
-use Rattle.space_group.specs.NumberGrowth.{sameSign, sameShift, insideNumber, numberTimes, unitNumber, numberGrowth}
-use Rattle.space_group.specs.NumberSlots.{resume, resume-start, Shows, shows-start, shows-at, shows-place, shows-again, shows-new, shows-end, ends-none}
+use Rattle.space_group.specs.Hints.{Hinted}
+use Rattle.space_group.specs.NumberGrowth.{signOf, sameSign, sameShift, insideNumber, numberTimes, unitNumber, numberGrowth}
+use Rattle.space_group.specs.NumberSlots.{resume, resume-start, Shows, shows-start, shows-at, shows-front, shows-place, shows-hint, hints-start, shows-again, shows-new, shows-end, ends-none}
 use Rattle.space_group.proofs.numbers.grow.Statement.{statement}
 use Rattle.space_group.proofs.numbers.grow.Tie as tie
 use Rattle.space_group.proofs.numbers.grow.Reads as reads
@@ -25,11 +26,11 @@ use Rattle.space_group.proofs.numbers.place_of.Reads as place-of-reads
 use Rattle.space_group.proofs.numbers.sign.Reads as sign-reads
 
 abbrev Inv-loop : tie.InvT-loop
-Inv-loop c n generators limit numbers₀ steps₀ count₀ made₀ steady₀ i₀ j₀ numbers steps count made steady i j =
-    (s : Growth ℕ) × Shows s count steady made numbers₀ numbers steps₀ steps × (count ≤ limit) × (i ≤ count) × (j ≤ n) × (made ≤ 9 * i + j) × (length numbers ≡ length numbers₀) × (length steps ≡ length steps₀) × (numberGrowth c limit (take n generators) ≡ resume c limit (take n generators) i j s)
+Inv-loop c n generators limit numbers₀ steps₀ hints₀ count₀ made₀ steady₀ i₀ j₀ numbers steps hints count made steady i j =
+    (s : Growth ℕ) × Shows s count steady made numbers₀ numbers steps₀ steps × (count ≤ limit) × (i ≤ count) × (j ≤ n) × (made ≤ 9 * i + j) × (length numbers ≡ length numbers₀) × (length steps ≡ length steps₀) × (numberGrowth c limit (take n generators) ≡ resume c limit (take n generators) i j s) × Hinted (map signOf (s .found)) hints × (length hints ≡ 151)
 
 abbrev μ-loop : tie.MeasureT-loop
-μ-loop c n generators limit numbers₀ steps₀ count₀ made₀ steady₀ i₀ j₀ numbers steps count made steady i j =
+μ-loop c n generators limit numbers₀ steps₀ hints₀ count₀ made₀ steady₀ i₀ j₀ numbers steps hints count made steady i j =
     10 * (limit - i) + (9 - j)
 
 -- As many generators as are used.
@@ -46,11 +47,14 @@ product-is c =
     ap insideNumber (c .product .ensures) ∙ ap₂ numberTimes x g
 
 -- The product's place.
-place-is : (c : tie.After-place-of Inv-loop μ-loop) → c .place-of .result ≡ place sameSign (c .before .before .before .before .p .given .0 .0) ((c .before .before .before .before .before .before .before .before .before .before .before .loop) .inv .0 .found)
+place-is : (c : tie.After-place-of Inv-loop μ-loop) → c .place-of .result ≡ place sameSign (c .before .before .before .before .before .p .given .0 .0) ((c .before .before .before .before .before .before .before .before .before .before .before .before .loop) .inv .0 .found)
 place-is c =
-    let l = (c .before .before .before .before .before .before .before .before .before .before .before .loop) in
-    let a = (c .before .before .before .before .before .before .before .before .before .before .before .before .before .before .before .args) in
-    c .place-of .ensures ∙ shows-place (a .c) (l .inv .0) (l .count) (l .steady) (l .made) (a .numbers .now) (l .numbers) (a .steps .now) (l .steps) (l .inv .1) (c .before .before .before .before .p .given .0 .0) (c .before .sign .result) (c .before .sign .ensures)
+    let l = (c .before .before .before .before .before .before .before .before .before .before .before .before .loop) in
+    let a = (c .before .before .before .before .before .before .before .before .before .before .before .before .before .before .before .before .args) in
+    c .place-of .ensures ∙ shows-place (a .c) (l .inv .0) (l .count) (l .steady) (l .made) (a .numbers .now) (l .numbers) (a .steps .now) (l .steps) (l .inv .1) (c .before .before .before .before .before .p .given .0 .0) (c .before .before .before .sign .result) (c .before .before .before .sign .ensures)
+
+array-write-hints : tie.Need-array-write-hints Inv-loop μ-loop
+array-write-hints c = omega arith
 
 loop-holds : tie.Need-loop-holds Inv-loop μ-loop
 loop-holds c =
@@ -64,6 +68,8 @@ loop-holds c =
       refl,
       refl,
       resume-start (a .c) (a .limit) (take (a .n) (a .generators .now)) (omega arith),
+      hints-start,
+      refl,
     )
 
 add-i : tie.Need-add-i Inv-loop μ-loop
@@ -86,6 +92,8 @@ loop-again c =
       l .inv .6,
       l .inv .7,
       l .inv .8 ∙ growing.resume-over sameSign (sameShift (a .c)) numberTimes (a .limit) unitNumber (take (a .n) (a .generators .now)) (l .inv .0) (l .i) (l .j) (omega (arith, l .inv .1 .counted)) (omega arith) (omega (arith, l .inv .1 .counted)),
+      l .inv .9,
+      l .inv .10,
     )
 
 mul-product : tie.Need-mul-product Inv-loop μ-loop
@@ -128,13 +136,17 @@ sign-requires : tie.Need-sign-requires Inv-loop μ-loop
 sign-requires c κs = search needs
 
 place-of-requires : tie.Need-place-of-requires Inv-loop μ-loop
-place-of-requires c κs = omega (arith, c .before .before .before .before .before .before .before .before .before .before .loop .inv .6)
+place-of-requires c κs =
+    let l = c .before .before .before .before .before .before .before .before .before .before .before .loop in
+    let a = c .before .before .before .before .before .before .before .before .before .before .before .before .before .before .before .args in
+    let front = shows-front (a .c) (l .inv .0) (l .count) (l .steady) (l .made) (a .numbers .now) (l .numbers) (a .steps .now) (l .steps) (l .inv .1) in
+    (omega (arith, l .inv .6), subst (λ m. Hinted (map signOf m) (l .hints)) (sym front) (l .inv .9))
 
 cast-steps : tie.Need-cast-steps Inv-loop μ-loop
 cast-steps c =
-    let s = c .before .before .before .before .before .before .before .before .before .before .before .loop .inv .0 in
-    let low = place-le sameSign (c .before .before .before .before .p .given .0 .0) (s .found) in
-    omega (arith, place-is c, c .before .before .before .before .before .before .before .before .before .before .before .loop .inv .1 .counted)
+    let s = c .before .before .before .before .before .before .before .before .before .before .before .before .loop .inv .0 in
+    let low = place-le sameSign (c .before .before .before .before .before .p .given .0 .0) (s .found) in
+    omega (arith, place-is c, c .before .before .before .before .before .before .before .before .before .before .before .before .loop .inv .1 .counted)
 
 slice-write-steps : tie.Need-slice-write-steps Inv-loop μ-loop
 slice-write-steps c = omega arith
@@ -159,12 +171,12 @@ loop-less-2 c = omega arith
 
 loop-again-2 : tie.Need-loop-again-2 Inv-loop μ-loop
 loop-again-2 c =
-    let l = c .before .before .before .before .before .before .before .before .before .before .before .before .before .before .loop in
-    let a = c .before .before .before .before .before .before .before .before .before .before .before .before .before .before .before .before .before .before .args in
-    let p = c .before .before .before .before .before .before .before .p .given .0 .0 in
-    let g = gens-long (c .before .before .before .before .before .before .before .before .before .before .before .before .before .before .before .before .before .before) in
+    let l = c .before .before .before .before .before .before .before .before .before .before .before .before .before .before .before .loop in
+    let a = c .before .before .before .before .before .before .before .before .before .before .before .before .before .before .before .before .before .before .before .args in
+    let p = c .before .before .before .before .before .before .before .before .p .given .0 .0 in
+    let g = gens-long (c .before .before .before .before .before .before .before .before .before .before .before .before .before .before .before .before .before .before .before) in
     let k = place-is (c .before .before .before) in
-    let inside = sym (product-is (c .before .before .before .before .before .before .before .before .before)) ∙ ap insideNumber (c .before .before .before .before .before .before .before .p .given .1) in
+    let inside = sym (product-is (c .before .before .before .before .before .before .before .before .before .before)) ∙ ap insideNumber (c .before .before .before .before .before .before .before .before .p .given .1) in
     let in-list : place sameSign p (l .inv .0 .found) < l .count = omega (arith, c .before .before .if2 .taken) in
     let shown = shows-again (a .c) (l .inv .0) (l .count) (l .steady) (l .made) (a .numbers .now) (l .numbers) (a .steps .now) (l .steps) (l .inv .1) p (omega arith) 0 in-list in (
       recurring sameSign (sameShift (a .c)) p (l .inv .0),
@@ -176,6 +188,8 @@ loop-again-2 c =
       l .inv .6,
       simp length-set (l .inv .7),
       l .inv .8 ∙ growing.resume-again sameSign (sameShift (a .c)) numberTimes (a .limit) unitNumber (take (a .n) (a .generators .now)) (l .inv .0) (l .i) (l .j) (omega (arith, l .inv .1 .counted)) 0 (omega arith) p inside (omega (arith, l .inv .1 .counted)),
+      l .inv .9,
+      l .inv .10,
     )
 
 same-length-3 : tie.Need-same-length-3 Inv-loop μ-loop
@@ -186,12 +200,12 @@ same-length-4 c = simp length-set (omega arith)
 
 returns-2 : tie.Need-returns-2 Inv-loop μ-loop
 returns-2 c =
-    let l = c .before .before .before .before .before .before .before .before .before .before .before .before .before .loop in
-    let a = c .before .before .before .before .before .before .before .before .before .before .before .before .before .before .before .before .before .args in
-    let p = c .before .before .before .before .before .before .p .given .0 .0 in
-    let g = gens-long (c .before .before .before .before .before .before .before .before .before .before .before .before .before .before .before .before .before) in
+    let l = c .before .before .before .before .before .before .before .before .before .before .before .before .before .before .loop in
+    let a = c .before .before .before .before .before .before .before .before .before .before .before .before .before .before .before .before .before .before .args in
+    let p = c .before .before .before .before .before .before .before .p .given .0 .0 in
+    let g = gens-long (c .before .before .before .before .before .before .before .before .before .before .before .before .before .before .before .before .before .before) in
     let k = place-is (c .before .before) in
-    let inside = sym (product-is (c .before .before .before .before .before .before .before .before)) ∙ ap insideNumber (c .before .before .before .before .before .before .p .given .1) in
+    let inside = sym (product-is (c .before .before .before .before .before .before .before .before .before)) ∙ ap insideNumber (c .before .before .before .before .before .before .before .p .given .1) in
     ends-none (numberGrowth (a .c) (a .limit) (take (a .n) (a .generators .now))) (l .steady) (l .count) (a .numbers .now) (l .numbers) (a .steps .now) _
     (l .inv .8 ∙ growing.resume-full sameSign (sameShift (a .c)) numberTimes (a .limit) unitNumber (take (a .n) (a .generators .now)) (l .inv .0) (l .i) (l .j) (omega (arith, l .inv .1 .counted)) 0 (omega arith) p inside (omega (arith, l .inv .1 .counted)) (omega (arith, l .inv .1 .counted)))
 
@@ -204,17 +218,23 @@ slice-write-numbers c = omega arith
 add-count : tie.Need-add-count Inv-loop μ-loop
 add-count c = omega arith
 
+cast-hints : tie.Need-cast-hints Inv-loop μ-loop
+cast-hints c = omega arith
+
+array-write-hints-2 : tie.Need-array-write-hints-2 Inv-loop μ-loop
+array-write-hints-2 c = omega arith
+
 loop-less-3 : tie.Need-loop-less-3 Inv-loop μ-loop
 loop-less-3 c = omega arith
 
 loop-again-3 : tie.Need-loop-again-3 Inv-loop μ-loop
 loop-again-3 c =
-    let l = c .before .before .before .before .before .before .before .before .before .before .before .before .before .loop in
-    let a = c .before .before .before .before .before .before .before .before .before .before .before .before .before .before .before .before .before .args in
-    let p = c .before .before .before .before .before .before .p .given .0 .0 in
-    let g = gens-long (c .before .before .before .before .before .before .before .before .before .before .before .before .before .before .before .before .before) in
+    let l = c .before .before .before .before .before .before .before .before .before .before .before .before .before .before .loop in
+    let a = c .before .before .before .before .before .before .before .before .before .before .before .before .before .before .before .before .before .before .args in
+    let p = c .before .before .before .before .before .before .before .p .given .0 .0 in
+    let g = gens-long (c .before .before .before .before .before .before .before .before .before .before .before .before .before .before .before .before .before .before) in
     let k = place-is (c .before .before) in
-    let inside = sym (product-is (c .before .before .before .before .before .before .before .before)) ∙ ap insideNumber (c .before .before .before .before .before .before .p .given .1) in
+    let inside = sym (product-is (c .before .before .before .before .before .before .before .before .before)) ∙ ap insideNumber (c .before .before .before .before .before .before .before .p .given .1) in
     let shown = shows-new (a .c) (l .inv .0) (l .count) (l .steady) (l .made) (a .numbers .now) (l .numbers) (a .steps .now) (l .steps) (l .inv .1) p (omega arith) (omega arith) in (
       lengthened sameSign (sameShift (a .c)) p (l .inv .0),
       rw k shown,
@@ -225,6 +245,8 @@ loop-again-3 c =
       simp length-set (l .inv .6),
       simp length-set (l .inv .7),
       l .inv .8 ∙ growing.resume-new sameSign (sameShift (a .c)) numberTimes (a .limit) unitNumber (take (a .n) (a .generators .now)) (l .inv .0) (l .i) (l .j) (omega (arith, l .inv .1 .counted)) 0 (omega arith) p inside (omega (arith, l .inv .1 .counted)) (omega (arith, l .inv .1 .counted)),
+      shows-hint (a .c) (l .inv .0) (l .count) (l .steady) (l .made) (a .numbers .now) (l .numbers) (a .steps .now) (l .steps) (l .inv .1) (l .hints) (l .inv .9) (l .inv .10) p (c .before .before .before .before .before .sign .result) (c .before .before .before .before .before .sign .ensures) (omega arith) (l .count + 1) (omega arith),
+      simp length-set (l .inv .10),
     )
 
 same-length-5 : tie.Need-same-length-5 Inv-loop μ-loop
@@ -246,6 +268,7 @@ grow-spec =
     (tie.spec
     Inv-loop
     μ-loop
+    array-write-hints
     loop-holds
     add-i
     loop-less
@@ -277,6 +300,8 @@ grow-spec =
     mul-numbers
     slice-write-numbers
     add-count
+    cast-hints
+    array-write-hints-2
     loop-less-3
     loop-again-3
     same-length-5

@@ -1,95 +1,90 @@
--- The invariant: the place is that in what is left, plus what was passed.
+-- The hint tells that the sign is not listed, or where it stands; else the search does.
 use mathlib.Core.Path.{_≡_, sym, ap, _∙_}
 use mathlib.Core.List.{map}
-use Prim.Native.Nat.{ℕ, _≤_, _-_, _+_}
+use Prim.Native.Nat.{_-_, _<_}
 use native.Mathlib.Omega.{arith}
-use lib.Dec.{eqb}
-use lib.ListN.{length, take, drop, length-map}
+use lib.ListN.{length, take, length-map}
 use lib.Seq.{getD-take, length-take-le}
-use borrow.Author.Needs.{needs}
-use Rattle.laws.specs.Growth.{place}
-use Rattle.space_group.specs.Places.{place-hit, place-miss, place-end}
 use Rattle.space_group.specs.NumberGrowth.{signOf}
+use Rattle.space_group.specs.Hints.{hint-none, hint-holds}
 use Rattle.space_group.specs.NumberSlots.{image-at}
+use borrow.Author.Needs.{needs}
 use Rattle.space_group.proofs.numbers.place_of.Statement.{statement}
 use Rattle.space_group.proofs.numbers.place_of.Tie as tie
 use Rattle.space_group.proofs.numbers.place_of.Reads as reads
 use Rattle.space_group.proofs.numbers.place_of.Lts as lts
+use Rattle.space_group.proofs.numbers.search.Reads as search-reads
 use Rattle.space_group.proofs.numbers.sign.Reads as sign-reads
+use Rattle.space_group.proofs.numbers.wide.Reads as wide-reads
 
-abbrev Inv-loop : tie.InvT-loop
-Inv-loop numbers count sought i₀ i =
-    (i ≤ count) × (place eqb sought (map signOf (take count numbers)) ≡ i + place eqb sought (drop i (map signOf (take count numbers))))
-
-abbrev μ-loop : tie.MeasureT-loop
-μ-loop numbers count sought i₀ i = count - i
+element-copy-out-wide : tie.Need-element-copy-out-wide
+element-copy-out-wide c = search needs
 
 -- As many signs as are looked at.
-signs-long : (c : tie.Start Inv-loop μ-loop) → (length (take (c .args .count) (c .args .numbers .now)) ≡ c .args .count) × (length (map signOf (take (c .args .count) (c .args .numbers .now))) ≡ c .args .count)
+signs-long : (c : tie.Start) → (length (take (c .args .count) (c .args .numbers .now)) ≡ c .args .count) × (length (map signOf (take (c .args .count) (c .args .numbers .now))) ≡ c .args .count)
 signs-long c =
     let s = take (c .args .count) (c .args .numbers .now) in
-    let long = length-take-le (c .args .count) (c .args .numbers .now) (omega arith) in
+    let long = length-take-le (c .args .count) (c .args .numbers .now) (c .pre .0) in
     (long, length-map s signOf ∙ long)
 
-loop-holds : tie.Need-loop-holds Inv-loop μ-loop
-loop-holds c = omega arith
+wide-requires : tie.Need-wide-requires
+wide-requires c κs = search needs
 
-mul-sign : tie.Need-mul-sign Inv-loop μ-loop
-mul-sign c = omega arith
+returns : tie.Need-returns
+returns c =
+    let a = c .before .before .before .before .args in
+    let signs = map signOf (take (a .count) (a .numbers .now)) in
+    let long = signs-long (c .before .before .before .before) in
+    let absent = hint-none signs (a .hints .now) (c .before .before .before .before .pre .1) (a .sought) (sym (c .before .wide .ensures) ∙ c .if1 .taken) in
+    omega arith
 
-shared-slice-read-sign : tie.Need-shared-slice-read-sign Inv-loop μ-loop
-shared-slice-read-sign c = omega arith
+sub-k : tie.Need-sub-k
+sub-k c = search needs
 
-sign-requires : tie.Need-sign-requires Inv-loop μ-loop
+search-requires : tie.Need-search-requires
+search-requires c κs = search needs
+
+returns-2 : tie.Need-returns-2
+returns-2 c = search needs
+
+mul-sign : tie.Need-mul-sign
+mul-sign c = search needs
+
+shared-slice-read-sign : tie.Need-shared-slice-read-sign
+shared-slice-read-sign c = search needs
+
+sign-requires : tie.Need-sign-requires
 sign-requires c κs = search needs
 
-add-i : tie.Need-add-i Inv-loop μ-loop
-add-i c = omega arith
+search-requires-2 : tie.Need-search-requires-2
+search-requires-2 c κs = search needs
 
-loop-less : tie.Need-loop-less Inv-loop μ-loop
-loop-less c = omega arith
+returns-3 : tie.Need-returns-3
+returns-3 c = search needs
 
-loop-again : tie.Need-loop-again Inv-loop μ-loop
-loop-again c =
-    let a = c .before .before .before .before .before .before .args in
-    let i = c .before .before .before .before .loop .i in
+returns-4 : tie.Need-returns-4
+returns-4 c =
+    let a = c .before .before .before .before .before .before .before .before .args in
+    let k = c .before .before .before .before .before .wide .result - 1 in
     let s = take (a .count) (a .numbers .now) in
-    let long = signs-long (c .before .before .before .before .before .before) in
-    let e = image-at signOf s i 0 0 (omega arith) ∙ ap signOf (getD-take (a .count) (a .numbers .now) i 0 (omega arith)) in
-    let miss = place-miss (a .sought) (map signOf s) i (omega arith) (λ h. c .if2 .left (c .before .sign .ensures ∙ sym e ∙ h)) in
-    omega arith
-
-returns : tie.Need-returns Inv-loop μ-loop
-returns c =
-    let a = c .before .before .before .args in
-    let s = map signOf (take (a .count) (a .numbers .now)) in
-    let long = signs-long (c .before .before .before) in
-    let all : c .before .loop .i ≡ length s = omega arith in
-    let at-end = ap (λ (i : ℕ). place eqb (a .sought) (drop i s)) all ∙ place-end (a .sought) s in
-    omega arith
-
-returns-2 : tie.Need-returns-2 Inv-loop μ-loop
-returns-2 c =
-    let a = c .before .before .before .before .before .before .args in
-    let i = c .before .before .before .before .loop .i in
-    let s = take (a .count) (a .numbers .now) in
-    let long = signs-long (c .before .before .before .before .before .before) in
-    let e = image-at signOf s i 0 0 (omega arith) ∙ ap signOf (getD-take (a .count) (a .numbers .now) i 0 (omega arith)) in
-    let hit = place-hit (a .sought) (map signOf s) i (omega arith) (e ∙ sym (c .before .sign .ensures) ∙ c .if2 .taken) in
-    omega arith
+    let long = signs-long (c .before .before .before .before .before .before .before .before) in
+    let low : k < a .count = omega arith in
+    let e = image-at signOf s k 0 0 (omega arith) ∙ ap signOf (getD-take (a .count) (a .numbers .now) k 0 low) ∙ sym (c .before .sign .ensures) ∙ c .if3 .left in
+    sym (hint-holds (map signOf s) (a .hints .now) (c .before .before .before .before .before .before .before .before .pre .1) (a .sought) k (omega arith) e)
 
 pub place-of-spec : {M : Type 1} → statement M
 place-of-spec =
     tie.close
     (tie.spec
-    Inv-loop
-    μ-loop
-    loop-holds
+    element-copy-out-wide
+    wide-requires
+    returns
+    sub-k
+    search-requires
+    returns-2
     mul-sign
     shared-slice-read-sign
     sign-requires
-    add-i
-    loop-less
-    loop-again
-    returns
-    returns-2)
+    search-requires-2
+    returns-3
+    returns-4)
