@@ -1,7 +1,7 @@
 -- What lent slots hold while a list of numbers grows in them and when it has ended, and how the ended list is laid out as operations.
 use mathlib.Core.Path.{_≡_, refl, sym, _∙_, ap, ap₂}
 use mathlib.Core.Bool.{Bool, true, false, _&&_, false≢true}
-use mathlib.Core.Option.{Option, some, none, Option·map}
+use mathlib.Core.Option.{Option, some, none}
 use mathlib.Core.List.{List, [], _∷_, _++_, map, map-append}
 use Prim.Native.Nat.{ℕ, zero, suc, _+_, _-_, _%_, _≤_, _<_}
 use native.Mathlib.Numerals.{add-one}
@@ -9,7 +9,7 @@ use native.Mathlib.Omega.{arith}
 use lib.Dec.{eqb}
 use lib.ListN.{length, getD, take, drop, set, replicate, length-append, length-drop, length-map, List·getD-append}
 use lib.Seq.{set-at, take-at, drop-cons, append-snoc}
-use Rattle.laws.specs.Growth.{Growth, place, place-le, recurring, lengthened, imageGrowth}
+use Rattle.laws.specs.Growth.{Growth, place, place-le, recurring, lengthened}
 use Rattle.group_growth.specs.Resuming as growing
 use Rattle.group_growth.specs.Resuming.{seed}
 use Rattle.operation.specs.Product.{identityOperation}
@@ -18,11 +18,10 @@ use Rattle.packed_operation.specs.Number.{keyOf, rowDigits, flagOf, saidBy}
 use Rattle.centering.specs.declared.Centering.{Centering}
 use Rattle.space_group.specs.Places.{place-key}
 use Rattle.space_group.specs.Resuming.{at-any}
-use Rattle.space_group.specs.Traversal.{padded, grownOf, overgrownAnswer}
+use Rattle.space_group.specs.Traversal.{padded}
 use Rattle.space_group.specs.Hints.{Hinted, hint-more, hint-start}
 use Rattle.space_group.specs.NumberGrowth.{signOf, sameSign, sameShift, numberTimes, unitNumber, numberGrowth}
-use Rattle.space_group.specs.declared.numbers.Ended.{Ended}
-use Rattle.space_group.specs.declared.traverse.Grown.{Grown}
+use Rattle.space_group.specs.declared.traverse.Ended.{Ended}
 
 -- ---- the end
 -- The list and the indices at the front of the slots, all behind them as it was.
@@ -178,8 +177,17 @@ ends-none o steady count before numbers noughts steps e = rw e refl
 
 -- ---- the list laid out as operations
 module _ (o : Option (Growth ℕ)) (ended : Ended) (numbers steps : List ℕ) (E : Ends o ended (replicate 48 unitNumber) numbers (replicate 432 0) steps) where
-  held-by : ended .within ≡ true → (s : Growth ℕ) × (o ≡ some s) × Holds s ended (replicate 48 unitNumber) numbers (replicate 432 0) steps
-  held-by w = by-answer o refl E
+  -- It did not end,
+  pub ended-none : ended .within ≡ false → o ≡ none
+  ended-none w = by-answer o refl E
+    where
+      by-answer : (p : Option (Growth ℕ)) → o ≡ p → Ends p ended (replicate 48 unitNumber) numbers (replicate 432 0) steps → o ≡ none
+      by-answer none e h = e
+      by-answer (some s) e h = absurd (false≢true (sym w ∙ h .within))
+
+  -- or the slots hold it.
+  pub ended-some : ended .within ≡ true → (s : Growth ℕ) × (o ≡ some s) × Holds s ended (replicate 48 unitNumber) numbers (replicate 432 0) steps
+  ended-some w = by-answer o refl E
     where
       by-answer : (p : Option (Growth ℕ)) → o ≡ p → Ends p ended (replicate 48 unitNumber) numbers (replicate 432 0) steps
           → (s : Growth ℕ) × (o ≡ some s) × Holds s ended (replicate 48 unitNumber) numbers (replicate 432 0) steps
@@ -188,26 +196,14 @@ module _ (o : Option (Growth ℕ)) (ended : Ended) (numbers steps : List ℕ) (E
 
   -- The list fits the slots.
   pub laid-few : ended .within ≡ true → ended .count ≤ 48
-  laid-few w = let (s, e, h) = held-by w in omega (arith, h .counted, h .few)
+  laid-few w = let (s, e, h) = ended-some w in omega (arith, h .counted, h .few)
 
-  -- It did not end.
-  pub laid-none : ended .within ≡ false → overgrownAnswer ≡ grownOf (Option·map (imageGrowth saidBy) o)
-  laid-none w = by-answer o E
-    where
-      by-answer : (p : Option (Growth ℕ)) → Ends p ended (replicate 48 unitNumber) numbers (replicate 432 0) steps
-          → overgrownAnswer ≡ grownOf (Option·map (imageGrowth saidBy) p)
-      by-answer none h = refl
-      by-answer (some s) h = absurd (false≢true (sym w ∙ h .within))
-
-  -- It did, and what its numbers say is laid into slots that held the identity.
-  pub laid-out : ended .within ≡ true → (operations : List Operation) → operations ≡ map saidBy (take (ended .count) numbers) ++ drop (ended .count) (replicate 48 identityOperation)
-      → _≡_ {A = Grown} (record { within = true; steady = ended .steady; count = ended .count; operations = operations; steps = steps }) (grownOf (Option·map (imageGrowth saidBy) o))
-  laid-out w operations laid =
-      let (s, e, h) = held-by w in
-      let front : take (ended .count) numbers ≡ s .found =
-      ap (take (ended .count)) (h .listed) ∙ take-at (s .found) (drop (length (s .found)) (replicate 48 unitNumber)) (ended .count) (sym (h .counted)) in
-      let count : ended .count ≡ length (map saidBy (s .found)) = h .counted ∙ sym (length-map (s .found) saidBy) in
-      let list : operations ≡ padded 48 identityOperation (map saidBy (s .found)) =
-      laid ∙ ap (λ l. map saidBy l ++ drop (ended .count) (replicate 48 identityOperation)) front ∙ front-padded (ended .count) 48 identityOperation (map saidBy (s .found)) count in
-      let noted : steps ≡ padded 432 0 (s .steps) = h .noted ∙ front-padded (length (s .steps)) 432 0 (s .steps) refl in
-      rw e (λ i. record { within = true; steady = h .steady i; count = count i; operations = list i; steps = noted i })
+-- What its numbers say, laid into slots that held the identity.
+pub laid-out : (s : Growth ℕ) (ended : Ended) (before numbers noughts steps : List ℕ) → Holds s ended before numbers noughts steps
+    → (operations : List Operation) → operations ≡ map saidBy (take (ended .count) numbers) ++ drop (ended .count) (replicate 48 identityOperation)
+    → operations ≡ padded 48 identityOperation (map saidBy (s .found))
+laid-out s ended before numbers noughts steps h operations laid =
+    let front : take (ended .count) numbers ≡ s .found =
+    ap (take (ended .count)) (h .listed) ∙ take-at (s .found) (drop (length (s .found)) before) (ended .count) (sym (h .counted)) in
+    laid ∙ ap (λ l. map saidBy l ++ drop (ended .count) (replicate 48 identityOperation)) front
+    ∙ front-padded (ended .count) 48 identityOperation (map saidBy (s .found)) (h .counted ∙ sym (length-map (s .found) saidBy))

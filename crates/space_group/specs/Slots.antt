@@ -26,14 +26,13 @@ use Rattle.centering.specs.Keeps.{keepsOf, keeps-lattice}
 use Rattle.centering.specs.declared.Centering.{Centering}
 use Rattle.centering.specs.declared.Centering.the-variants.{P}
 use Rattle.space_group.specs.Generated.{motions, firstOff, listing, isSmall, sameVectorClass, Outcome, group, refused, ofVerdict, onList, onListing, outcomeOf}
-use Rattle.space_group.specs.Traversal.{growth, padded, grownOf}
+use Rattle.space_group.specs.Traversal.{growth, padded}
 use Rattle.space_group.specs.OperationGrowth.{motionGrowth, growth-answers}
 use Rattle.space_group.specs.NumberGrowth.{AllDigits}
 use Rattle.space_group.specs.declared.refusal.Refusal.{Refusal}
 use Rattle.space_group.specs.declared.refusal.Refusal.the-variants.{Lattice, Rotations, Translations}
 use Rattle.space_group.specs.declared.Answer.the-variants.{Group, Refused}
 use Rattle.space_group.specs.declared.SpaceGroup.{SpaceGroup}
-use Rattle.space_group.specs.declared.traverse.Grown.{Grown}
 
 -- A refusal carries number and place and no other data: letter P, no operations, no generators.
 abbrev pub refusedAnswer : Refusal → SpaceGroup
@@ -168,46 +167,29 @@ outcome-few c gens operations steps p = elim (decLt (firstOff c gens) (length ge
       omega (arith, ap length e, length-map l operationOf, listed-length (motionGrowth c) (motions gens) 48 l steps q)
 ]
 
--- ---- from the slots to the growth
--- The list did not end,
-pub grown-none : (o : Option (Growth Operation)) (g : Grown) → g ≡ grownOf o → g .within ≡ false → o ≡ none
-grown-none none g e h = refl
-grown-none (some s) g e h = absurd (false≢true (sym h ∙ ap (λ (g : Grown). g .within) e))
-
--- or it did.
-pub grown-some : (o : Option (Growth Operation)) (g : Grown) → g ≡ grownOf o → g .within ≡ true → (s : Growth Operation) × (o ≡ some s)
-grown-some none g e h = absurd (false≢true (sym (ap (λ (g : Grown). g .within) e) ∙ h))
-grown-some (some s) g e h = (s, refl)
-
 -- ---- the answer of n generators, as it is put together
 module _ (c : Centering) (n : ℕ) (gens : List Operation) (long : length gens ≡ n) (off : ℕ) (found : off ≡ firstOff c gens) where
   -- A generator is off.
   pub answer-off : off < n → refusedAnswer (Lattice off) ≡ answerOf c n (outcomeOf c gens)
   answer-off h = rw (outcome-off c gens (omega arith), found)
 
-  module _ (none-off : n ≤ off) (g : Grown) (grown : g ≡ grownOf (growth c gens)) where
+  module _ (none-off : n ≤ off) where
     -- No generator is.
     answered : outcomeOf c gens ≡ ofVerdict (onGrowth (growth c gens))
     answered = outcome-growth c gens (omega arith)
 
     -- The list does not end.
-    pub answer-unbounded : g .within ≡ false → refusedAnswer Rotations ≡ answerOf c n (outcomeOf c gens)
-    answer-unbounded h = rw (answered, grown-none (growth c gens) g grown h)
+    pub answer-unbounded : growth c gens ≡ none → refusedAnswer Rotations ≡ answerOf c n (outcomeOf c gens)
+    answer-unbounded e = rw (answered, e)
 
-    module _ (within : g .within ≡ true) where
-      -- It ends as a list whose steady translations the slots show.
-      steady-is : (s : Growth Operation) → growth c gens ≡ some s → g .steady ≡ s .steady
-      steady-is s e = ap (λ (g : Grown). g .steady) (grown ∙ ap grownOf e)
-
+    module _ (s : Growth Operation) (e : growth c gens ≡ some s) where
       -- Two translations came for one rotation.
-      pub answer-torn : g .steady ≡ false → refusedAnswer Translations ≡ answerOf c n (outcomeOf c gens)
-      answer-torn h =
-          let (s, e) = grown-some (growth c gens) g grown within in
-          rw (answered, e, sym (steady-is s e) ∙ h)
+      pub answer-torn : s .steady ≡ false → refusedAnswer Translations ≡ answerOf c n (outcomeOf c gens)
+      answer-torn h = rw (answered, e, h)
 
       -- All is well.
-      pub answer-group : g .steady ≡ true → _≡_ {A = SpaceGroup} (record { answer = Group; centering = c; count = g .count; operations = g .operations; generators = n; steps = g .steps }) (answerOf c n (outcomeOf c gens))
-      answer-group h =
-          let (s, e) = grown-some (growth c gens) g grown within in
-          let slots = grown ∙ ap grownOf e in
-          rw (answered, e, sym (steady-is s e) ∙ h) (ap (λ (g : Grown). record { answer = Group; centering = c; count = g .count; operations = g .operations; generators = n; steps = g .steps }) slots)
+      pub answer-group : s .steady ≡ true → (count : ℕ) (operations : List Operation) (steps : List ℕ) → count ≡ length (s .found)
+          → operations ≡ padded 48 identityOperation (s .found) → steps ≡ padded 432 0 (s .steps)
+          → _≡_ {A = SpaceGroup} (record { answer = Group; centering = c; count = count; operations = operations; generators = n; steps = steps }) (answerOf c n (outcomeOf c gens))
+      answer-group h count operations steps counted laid noted =
+          rw (answered, e, h) (λ i. record { answer = Group; centering = c; count = counted i; operations = laid i; generators = n; steps = noted i })

@@ -8,10 +8,12 @@ ghost use Rattle.space_group.specs.Slots.{refusedAnswer, answerOf};
 use crate::Answer;
 use crate::SpaceGroup;
 use crate::refusal::Refusal;
+use crate::traverse::generator_numbers;
 use crate::traverse::traverse;
 use centering::Centering;
 use operation::Operation;
 use operation::product::identity;
+use packed_operation::said;
 
 pub fn refused(refusal: Refusal) -> SpaceGroup
     ensures { λ r. ⌜ r ≡ refusedAnswer refusal ⌝ }
@@ -46,7 +48,10 @@ fn first_off(c: Centering, n: usize, generators: [Operation; 9]) -> usize
     at
 }
 
-// The group that n generators make.
+// The identity's number: digits 2 on the diagonal, else 1.
+const IDENTITY: u64 = 9152337073407010;
+
+// The group that n generators make: a list of numbers while it grows, laid out once as operations.
 pub(crate) fn group_of(c: Centering, n: usize, generators: [Operation; 9]) -> SpaceGroup
     requires { ⌜ n ≤ 9 ⌝ }
     ensures { λ r. ⌜ r ≡ answerOf c n (outcomeOf c (take n generators)) ⌝ }
@@ -55,16 +60,25 @@ pub(crate) fn group_of(c: Centering, n: usize, generators: [Operation; 9]) -> Sp
     if off < n {
         return refused(Refusal::Lattice(off));
     }
-    let grown = traverse(c, n, generators);
-    if !grown.within {
+    let mut factors = [0u64; 9];
+    generator_numbers(n, generators, &mut factors);
+    let mut numbers = [IDENTITY; 48];
+    let mut steps = [0u8; 432];
+    let ended = traverse(c, n, &factors, 48, &mut numbers, &mut steps);
+    if !ended.within {
         return refused(Refusal::Rotations);
     }
-    if !grown.steady {
+    if !ended.steady {
         return refused(Refusal::Translations);
     }
-    let count = grown.count;
-    let operations = grown.operations;
-    let steps = grown.steps;
+    let e = identity();
+    let count = ended.count;
+    let mut operations = [e; 48];
+    let mut k = 0usize;
+    while k < count {
+        operations[k] = said(numbers[k]);
+        k += 1;
+    }
     SpaceGroup {
         answer: Answer::Group,
         centering: c,

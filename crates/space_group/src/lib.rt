@@ -5,7 +5,6 @@ ghost use lib.ListN.{take};
 ghost use Rattle.space_group.specs.Slots.{groupAnswer};
 
 mod group;
-mod numbers;
 pub mod refusal;
 mod traverse;
 

@@ -2,10 +2,10 @@
 use Prim.Native.Nat.{_+_, _*_}
 use Rattle.space_group.specs.NumberGrowth.{signOf}
 use borrow.Author.Needs.{needs}
-use Rattle.space_group.proofs.numbers.sign.Statement.{statement}
-use Rattle.space_group.proofs.numbers.sign.Tie as tie
-use Rattle.space_group.proofs.numbers.sign.Reads as reads
-use Rattle.space_group.proofs.numbers.sign.Lts as lts
+use Rattle.space_group.proofs.traverse.sign.Statement.{statement}
+use Rattle.space_group.proofs.traverse.sign.Tie as tie
+use Rattle.space_group.proofs.traverse.sign.Reads as reads
+use Rattle.space_group.proofs.traverse.sign.Lts as lts
 use Rattle.packed_operation.proofs.flag.Reads as flag-reads
 use Rattle.packed_operation.proofs.key.Reads as key-reads
 

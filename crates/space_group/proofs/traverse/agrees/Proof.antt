@@ -6,10 +6,10 @@ use Rattle.operation.specs.declared.Operation.{Operation}
 use Rattle.packed_operation.specs.Number.{translationSaid}
 use Rattle.centering.specs.Lattices.{congruentOf}
 use borrow.Author.Needs.{needs}
-use Rattle.space_group.proofs.numbers.agrees.Statement.{statement}
-use Rattle.space_group.proofs.numbers.agrees.Tie as tie
-use Rattle.space_group.proofs.numbers.agrees.Reads as reads
-use Rattle.space_group.proofs.numbers.agrees.Lts as lts
+use Rattle.space_group.proofs.traverse.agrees.Statement.{statement}
+use Rattle.space_group.proofs.traverse.agrees.Tie as tie
+use Rattle.space_group.proofs.traverse.agrees.Reads as reads
+use Rattle.space_group.proofs.traverse.agrees.Lts as lts
 use Rattle.centering.proofs.Centering.congruent.Reads as congruent-reads
 use Rattle.packed_operation.proofs.said.Reads as said-reads
 
