@@ -14,5 +14,6 @@ pub mod Hints
 pub mod NumberSlots
 -- The answers:
 pub mod Slots
+pub mod Heads
 -- The answers by number and place:
 pub mod Told

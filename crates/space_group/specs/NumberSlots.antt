@@ -12,9 +12,7 @@ use lib.Seq.{set-at, take-at, drop-cons, append-snoc}
 use Rattle.laws.specs.Growth.{Growth, place, place-le, recurring, lengthened}
 use Rattle.group_growth.specs.Resuming as growing
 use Rattle.group_growth.specs.Resuming.{seed}
-use Rattle.operation.specs.Product.{identityOperation}
-use Rattle.operation.specs.declared.Operation.{Operation}
-use Rattle.packed_operation.specs.Number.{keyOf, rowDigits, flagOf, saidBy}
+use Rattle.packed_operation.specs.Number.{keyOf, rowDigits, flagOf}
 use Rattle.centering.specs.declared.Centering.{Centering}
 use Rattle.space_group.specs.Places.{place-key}
 use Rattle.space_group.specs.Resuming.{at-any}
@@ -176,34 +174,25 @@ pub ends-none : (o : Option (Growth ℕ)) (steady : Bool) (count : ℕ) (before 
 ends-none o steady count before numbers noughts steps e = rw e refl
 
 -- ---- the list laid out as operations
-module _ (o : Option (Growth ℕ)) (ended : Ended) (numbers steps : List ℕ) (E : Ends o ended (replicate 48 unitNumber) numbers (replicate 432 0) steps) where
+module _ (o : Option (Growth ℕ)) (ended : Ended) (before numbers noughts steps : List ℕ) (E : Ends o ended before numbers noughts steps) where
   -- It did not end,
   pub ended-none : ended .within ≡ false → o ≡ none
   ended-none w = by-answer o refl E
     where
-      by-answer : (p : Option (Growth ℕ)) → o ≡ p → Ends p ended (replicate 48 unitNumber) numbers (replicate 432 0) steps → o ≡ none
+      by-answer : (p : Option (Growth ℕ)) → o ≡ p → Ends p ended before numbers noughts steps → o ≡ none
       by-answer none e h = e
       by-answer (some s) e h = absurd (false≢true (sym w ∙ h .within))
 
   -- or the slots hold it.
-  pub ended-some : ended .within ≡ true → (s : Growth ℕ) × (o ≡ some s) × Holds s ended (replicate 48 unitNumber) numbers (replicate 432 0) steps
+  pub ended-some : ended .within ≡ true → (s : Growth ℕ) × (o ≡ some s) × Holds s ended before numbers noughts steps
   ended-some w = by-answer o refl E
     where
-      by-answer : (p : Option (Growth ℕ)) → o ≡ p → Ends p ended (replicate 48 unitNumber) numbers (replicate 432 0) steps
-          → (s : Growth ℕ) × (o ≡ some s) × Holds s ended (replicate 48 unitNumber) numbers (replicate 432 0) steps
+      by-answer : (p : Option (Growth ℕ)) → o ≡ p → Ends p ended before numbers noughts steps
+          → (s : Growth ℕ) × (o ≡ some s) × Holds s ended before numbers noughts steps
       by-answer none e h = absurd (false≢true (sym h ∙ w))
       by-answer (some s) e h = (s, e, h)
 
-  -- The list fits the slots.
-  pub laid-few : ended .within ≡ true → ended .count ≤ 48
-  laid-few w = let (s, e, h) = ended-some w in omega (arith, h .counted, h .few)
-
--- What its numbers say, laid into slots that held the identity.
-pub laid-out : (s : Growth ℕ) (ended : Ended) (before numbers noughts steps : List ℕ) → Holds s ended before numbers noughts steps
-    → (operations : List Operation) → operations ≡ map saidBy (take (ended .count) numbers) ++ drop (ended .count) (replicate 48 identityOperation)
-    → operations ≡ padded 48 identityOperation (map saidBy (s .found))
-laid-out s ended before numbers noughts steps h operations laid =
-    let front : take (ended .count) numbers ≡ s .found =
-    ap (take (ended .count)) (h .listed) ∙ take-at (s .found) (drop (length (s .found)) before) (ended .count) (sym (h .counted)) in
-    laid ∙ ap (λ l. map saidBy l ++ drop (ended .count) (replicate 48 identityOperation)) front
-    ∙ front-padded (ended .count) 48 identityOperation (map saidBy (s .found)) (h .counted ∙ sym (length-map (s .found) saidBy))
+-- The numbers in front are the list.
+pub held-front : (s : Growth ℕ) (ended : Ended) (before numbers noughts steps : List ℕ) → Holds s ended before numbers noughts steps → take (ended .count) numbers ≡ s .found
+held-front s ended before numbers noughts steps h =
+    ap (take (ended .count)) (h .listed) ∙ take-at (s .found) (drop (length (s .found)) before) (ended .count) (sym (h .counted))

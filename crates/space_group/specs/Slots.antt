@@ -166,30 +166,3 @@ outcome-few c gens operations steps p = elim (decLt (firstOff c gens) (length ge
       let (l, q, e) = group-listed (verdictOf c gens) operations steps (sym (outcome-verdict c gens (omega arith)) ∙ p) in
       omega (arith, ap length e, length-map l operationOf, listed-length (motionGrowth c) (motions gens) 48 l steps q)
 ]
-
--- ---- the answer of n generators, as it is put together
-module _ (c : Centering) (n : ℕ) (gens : List Operation) (long : length gens ≡ n) (off : ℕ) (found : off ≡ firstOff c gens) where
-  -- A generator is off.
-  pub answer-off : off < n → refusedAnswer (Lattice off) ≡ answerOf c n (outcomeOf c gens)
-  answer-off h = rw (outcome-off c gens (omega arith), found)
-
-  module _ (none-off : n ≤ off) where
-    -- No generator is.
-    answered : outcomeOf c gens ≡ ofVerdict (onGrowth (growth c gens))
-    answered = outcome-growth c gens (omega arith)
-
-    -- The list does not end.
-    pub answer-unbounded : growth c gens ≡ none → refusedAnswer Rotations ≡ answerOf c n (outcomeOf c gens)
-    answer-unbounded e = rw (answered, e)
-
-    module _ (s : Growth Operation) (e : growth c gens ≡ some s) where
-      -- Two translations came for one rotation.
-      pub answer-torn : s .steady ≡ false → refusedAnswer Translations ≡ answerOf c n (outcomeOf c gens)
-      answer-torn h = rw (answered, e, h)
-
-      -- All is well.
-      pub answer-group : s .steady ≡ true → (count : ℕ) (operations : List Operation) (steps : List ℕ) → count ≡ length (s .found)
-          → operations ≡ padded 48 identityOperation (s .found) → steps ≡ padded 432 0 (s .steps)
-          → _≡_ {A = SpaceGroup} (record { answer = Group; centering = c; count = count; operations = operations; generators = n; steps = steps }) (answerOf c n (outcomeOf c gens))
-      answer-group h count operations steps counted laid noted =
-          rw (answered, e, h) (λ i. record { answer = Group; centering = c; count = counted i; operations = laid i; generators = n; steps = noted i })
