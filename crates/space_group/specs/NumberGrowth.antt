@@ -1,10 +1,10 @@
 -- The growth of a list of operations as numbers: what the numbers say, each with its flag, grows as the operations do; and where all flags are 0, so do the
 -- operations without them.
-use mathlib.Core.Path.{_≡_, refl, sym, _∙_, ap, ap₂}
-use mathlib.Core.Bool.{Bool, true, false, cond, _&&_, false≢true}
+use mathlib.Core.Path.{_≡_, refl, sym, _∙_, ap}
+use mathlib.Core.Bool.{Bool, true, false, cond, false≢true}
 use mathlib.Core.Option.{Option, some, none, bind, Option·map}
 use mathlib.Core.List.{List, [], _∷_, map, List·Memᴰ as Mem, List·Memᴰ·head as here, List·Memᴰ·tail as there}
-use Prim.Native.Nat.{ℕ, zero, suc, _+_, _*_, _/_, _%_, _<_, _≤_}
+use Prim.Native.Nat.{ℕ, zero, suc, _+_, _*_, _%_, _≤_}
 use native.Mathlib.Omega.{arith}
 use lib.Dec.{T, eqb, ltb, eqb→eq, eqb-refl}
 use lib.ListN.{length, getD}
@@ -14,8 +14,7 @@ use Rattle.laws.specs.Motion.{SpaceMotion, compose, product}
 use Rattle.laws.specs.Residue.{residue, reduced, reduced-plus, reduced-act, residue-pos, triple≡, turned, _⊕_}
 use Rattle.laws.specs.Lattice.{same-test}
 use Rattle.laws.specs.Growth.{Growth, turns, grow, grown, takenUp, imageGrowth, Image, grown-image}
-use Rattle.laws.specs.GrowthClosure.{T-true, true-T}
-use Rattle.group_growth.specs.Flagged.{xor, sameFlag, Flagged, flagged≡, flaggedBy, held, sameFlagged, key-flag, key-element, flagged-key}
+use Rattle.group_growth.specs.Flagged.{xor, Flagged, flagged≡, flaggedBy, held, sameFlagged, key-flag, key-element, flagged-key}
 use Rattle.group_growth.specs.FlaggedGrowth.{flaggedTimes}
 use Rattle.operation.specs.Meaning.{vectorOf, matrixOf, motionOf, Digits, allInside, rotation≡}
 use Rattle.operation.specs.Code.{codeOf, code-injective}
@@ -28,7 +27,7 @@ use Rattle.operation.specs.declared.product.Product.the-variants.{Inside, Outsi
 use Rattle.packed_operation.specs.Number.{keyOf, flagOf, rotationSaid, translationSaid, saidBy, packedOf, narrowed, numbered}
 use Rattle.packed_operation.specs.Rows.{Narrow}
 use Rattle.packed_operation.specs.Moved.{Short}
-use Rattle.packed_operation.specs.RoundTrip.{number-says, flag-said, keyed, key-said, key-exactly}
+use Rattle.packed_operation.specs.RoundTrip.{number-says, flag-said, key-said, key-exactly}
 use Rattle.packed_operation.specs.Answered.{inside-says}
 use Rattle.packed_operation.specs.declared.Numbered.{Numbered}
 use Rattle.packed_operation.specs.declared.Numbered.the-variants as answer

@@ -112,13 +112,6 @@ module _ (c : Centering) (s : Growth ℕ) (count : ℕ) (steady : Bool) (made : 
   pub shows-at : (i d e : ℕ) → i < count → getD numbers i d ≡ getD (s .found) i e
   shows-at i d e h = ap (λ l. getD l i d) (S .listed) ∙ front-at (s .found) before i d e (omega (arith, S .counted))
 
-  -- There are as many slots as before, for numbers and for indices.
-  pub shows-room : count ≤ length before → length numbers ≡ length before
-  shows-room h = ap length (S .listed) ∙ front-length (s .found) before (omega (arith, S .counted))
-
-  pub shows-steps : made ≤ length noughts → length steps ≡ length noughts
-  shows-steps h = ap length (S .noted) ∙ front-length (s .steps) noughts (omega (arith, S .numbered))
-
   -- The list, as the search is lent it.
   pub shows-front : take count numbers ≡ s .found
   shows-front = ap (take count) (S .listed) ∙ take-at (s .found) (drop (length (s .found)) before) count (sym (S .counted))

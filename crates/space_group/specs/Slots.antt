@@ -1,6 +1,6 @@
 -- The answers slot by slot, and how they come from the growth of the list.
 use mathlib.Core.Path.{_≡_, refl, sym, _∙_, ap}
-use mathlib.Core.Bool.{Bool, true, false, cond, false≢true}
+use mathlib.Core.Bool.{Bool, true, false, cond}
 use mathlib.Core.Logic.{inl, inr}
 use mathlib.Core.Option.{Option, some, none}
 use mathlib.Core.List.{List, [], _∷_, map, List·Memᴰ·cases-cons as cases-cons, List·Memᴰ·not-nil as not-nil}
@@ -14,7 +14,6 @@ use borrow.Author.Tests.{lt-ltb, le-ltb}
 use Rattle.laws.specs.Motion.{SpaceMotion, compose, identity}
 use Rattle.laws.specs.Closure.{closure}
 use Rattle.laws.specs.SameMatrix.{sameRotation}
-use Rattle.laws.specs.Growth.{Growth}
 use Rattle.group_growth.specs.Verdicts as verdicts
 use Rattle.group_growth.specs.Verdicts.{Verdict, listed, overgrown, torn, imageVerdict, onGrowth}
 use Rattle.group_growth.specs.Growing.{verdict}

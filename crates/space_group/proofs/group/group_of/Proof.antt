@@ -3,7 +3,7 @@ use mathlib.Core.Path.{_≡_, refl, _∙_, ap₂}
 use mathlib.Core.List.{_++_, map}
 use Prim.Native.Nat.{ℕ, _≤_, _-_}
 use native.Mathlib.Omega.{arith}
-use lib.ListN.{length, take, drop, set, replicate}
+use lib.ListN.{take, drop, set, replicate}
 use borrow.Author.Needs.{needs}
 use Rattle.packed_operation.specs.Number.{saidBy}
 use Rattle.space_group.specs.Generated.{outcomeOf}

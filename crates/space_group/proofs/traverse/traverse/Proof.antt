@@ -1,18 +1,15 @@
 -- The loop's invariant: the slots show a growth of which exactly what lies ahead is left to do. Each turn is one law of that growth: the next number, a
 -- product outside −1..1, one that is listed, one too many, a new one.
 use mathlib.Core.Path.{_≡_, refl, sym, _∙_, ap, ap₂, subst}
-use Prim.Native.Nat.{ℕ, _≤_, _<_, _-_, _+_, _*_, _%_}
+use Prim.Native.Nat.{ℕ, _≤_, _<_, _-_, _+_, _*_}
 use native.Mathlib.Omega.{arith}
-use mathlib.Core.List.{[], _∷_, map}
-use mathlib.Core.Option.{some, none}
+use mathlib.Core.List.{map}
 use lib.ListN.{length, getD, take, length-set}
 use lib.Seq.{length-take-le, getD-take}
 use borrow.Author.Needs.{needs}
 use Rattle.laws.specs.Growth.{Growth, place, place-le, recurring, lengthened}
 use Rattle.group_growth.specs.Resuming as growing
 use Rattle.group_growth.specs.Resuming.{seed}
-use Rattle.operation.specs.Product.{productOf}
-use Rattle.packed_operation.specs.Number.{saidBy, flagOf, numbered}
 use Rattle.space_group.specs.Hints.{Hinted}
 use Rattle.space_group.specs.NumberGrowth.{signOf, sameSign, sameShift, insideNumber, numberTimes, unitNumber, numberGrowth}
 use Rattle.space_group.specs.NumberSlots.{resume, resume-start, Shows, shows-start, shows-at, shows-front, shows-place, shows-hint, hints-start, shows-again, shows-new, shows-end, ends-none}
