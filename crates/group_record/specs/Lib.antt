@@ -28,6 +28,8 @@ pub mod AcceptedSymbols
 pub mod SymbolSets
 pub mod SymbolReading
 pub mod RefusalNumbers
+pub mod Moving
+pub mod OldSoftware
 pub mod Example
 -- What the code does with items.
 pub mod Search

@@ -244,17 +244,19 @@ firstReading =
 abbrev pub firstRules : Rules Item Centering (Unit {0})
 firstRules = rulesOf firstReading
 
--- What is told, as the reader hands it back.
+-- What is told, as the reader hands it back, by the names of the editions.
+abbrev pub groupAs : {Kind : Type 0} → (Kind → Known) → Told Item Centering Kind → RecordGroup
+groupAs name (not-held r) = refusedGroup r
+groupAs name (holds k c items) = acceptedGroup (name k) c (map operationOfItem items)
+
 abbrev pub groupOf : Told Item Centering Known → RecordGroup
-groupOf (not-held r) = refusedGroup r
-groupOf (holds k c items) = acceptedGroup k c (map operationOfItem items)
+groupOf t = groupAs (λ (k : Known). k) t
+
+abbrev pub firstGroupOf : Told Item Centering (Unit {0}) → RecordGroup
+firstGroupOf t = groupAs (λ (k : Unit {0}). First) t
 
 unfoldable pub readOf : List ℕ → RecordGroup
 readOf bytes = groupOf (toldBy bothRules bytes)
-
-abbrev pub firstGroupOf : Told Item Centering (Unit {0}) → RecordGroup
-firstGroupOf (not-held r) = refusedGroup r
-firstGroupOf (holds k c items) = acceptedGroup First c (map operationOfItem items)
 
 unfoldable pub readFirstOf : List ℕ → RecordGroup
 readFirstOf bytes = firstGroupOf (toldBy firstRules bytes)
