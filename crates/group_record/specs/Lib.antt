@@ -6,6 +6,8 @@ pub mod Editions
 pub mod Rules
 pub mod OperationItems
 pub mod FirstEdition
+pub mod ThirdEdition
+pub mod BothEditions
 pub mod Record
 pub mod Reading
 pub mod Groups
@@ -26,6 +28,8 @@ pub mod AcceptedSymbols
 pub mod SymbolSets
 pub mod SymbolReading
 pub mod RefusalNumbers
+pub mod Moving
+pub mod OldSoftware
 pub mod Example
 -- What the code does with items.
 pub mod Search
