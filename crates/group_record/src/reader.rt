@@ -1,30 +1,26 @@
 // Reading a record: the rules of refusals 30 to 35, in order, tried on the bytes as they stand.
 ghost use mathlib.Core.Path.{_≡_};
-ghost use Prim.Native.Nat.{_+_, _*_, _≤_, _<_};
+ghost use Prim.Native.Nat.{_+_, _*_, _≤_};
 ghost use lib.ListN.{length};
-ghost use Rattle.laws.specs.Distinct.{has};
 ghost use Rattle.laws.specs.Lattice.{all, sameTriple};
 ghost use Rattle.laws.specs.Sorted.{ascending};
 ghost use Rattle.centering.specs.Lattices.{tripleOf};
-ghost use Rattle.group_record.specs.Reading.{operationOfItem, isItem, itemBefore, areItems, alikeItems, productListed, memberAllowed, isAllowed, readOf};
+ghost use Rattle.group_record.specs.Reading.{operationOfItem, isItem, itemBefore, areItems, readOf};
 ghost use Rattle.group_record.specs.Editions.{fromEnd};
 ghost use Rattle.group_record.specs.Rules.{lengthFits};
-ghost use Rattle.group_record.specs.Record.{itemOf};
 ghost use Rattle.group_record.specs.Search.{itemsOf, itemAt, readCounted};
 ghost use Rattle.group_record.specs.Found.{nothingFound, laidOut, Stands};
 use super::Reading;
 use super::RecordGroup;
 use super::Refusal;
+use super::allowed::is_allowed;
 use centering::Centering;
 use centering::Letter;
 use operation::Operation;
 use operation::Translation;
 use operation::code::Decoded;
-use operation::code::rotation_code;
 use operation::code::rotation_of_code;
-use operation::product::Product;
 use operation::product::identity;
-use operation::product::mul;
 
 // What is found at a buffer's end: the answer, and of a record that is accepted the letter, the count and the place of its first item.
 struct Found {
@@ -122,7 +118,7 @@ fn length_fits(n: usize, stated: usize, size: usize) -> bool
     total <= size
 }
 
-fn item_code(bytes: &[u8], i: usize) -> u32
+pub(crate) fn item_code(bytes: &[u8], i: usize) -> u32
     requires { ⌜ 5 * i + 5 ≤ length (now bytes) ⌝ }
     ensures { λ r. ⌜ r ≡ itemAt (now (bytes .entry)) i .code ⌝ }
 {
@@ -130,7 +126,7 @@ fn item_code(bytes: &[u8], i: usize) -> u32
     bytes[at] as u32 * 256 + bytes[at + 1] as u32
 }
 
-fn item_translation(bytes: &[u8], i: usize) -> Translation
+pub(crate) fn item_translation(bytes: &[u8], i: usize) -> Translation
     requires { ⌜ 5 * i + 5 ≤ length (now bytes) ⌝ }
     ensures { λ r. ⌜ r ≡ itemAt (now (bytes .entry)) i .translation ⌝ }
 {
@@ -143,7 +139,7 @@ fn item_translation(bytes: &[u8], i: usize) -> Translation
 }
 
 // A code over 19682 gives the identity; no record that is accepted has one.
-fn operation_at(bytes: &[u8], i: usize) -> Operation
+pub(crate) fn operation_at(bytes: &[u8], i: usize) -> Operation
     requires { ⌜ 5 * i + 5 ≤ length (now bytes) ⌝ }
     ensures { λ r. ⌜ r ≡ operationOfItem (itemAt (now (bytes .entry)) i) ⌝ }
 {
@@ -222,86 +218,6 @@ fn codes_ascend(bytes: &[u8], n: usize) -> bool
         i += 1;
     }
     true
-}
-
-// The identity is listed, and every member is as `member_allowed` says.
-fn is_allowed(bytes: &[u8], c: Centering, n: usize) -> bool
-    requires { ⌜ (n ≤ 48) × (5 * n ≤ length (now bytes)) ⌝ }
-    ensures { λ r. ⌜ r ≡ isAllowed c (itemsOf n (now (bytes .entry))) ⌝ }
-{
-    if !is_listed(bytes, c, n, identity()) {
-        return false;
-    }
-    members_allowed(bytes, c, n)
-}
-
-fn members_allowed(bytes: &[u8], c: Centering, n: usize) -> bool
-    requires { ⌜ (n ≤ 48) × (5 * n ≤ length (now bytes)) ⌝ }
-    ensures { λ r. ⌜ r ≡ all (memberAllowed c (itemsOf n (now (bytes .entry)))) (itemsOf n (now (bytes .entry))) ⌝ }
-{
-    let mut i = 0usize;
-    while i < n {
-        if !member_allowed(bytes, c, n, i) {
-            return false;
-        }
-        i += 1;
-    }
-    true
-}
-
-// The rotation maps the lattice onto itself, and each product with this left factor is listed.
-fn member_allowed(bytes: &[u8], c: Centering, n: usize, i: usize) -> bool
-    requires { ⌜ (n ≤ 48) × (5 * n ≤ length (now bytes)) × (i < n) ⌝ }
-    ensures { λ r. ⌜ r ≡ memberAllowed c (itemsOf n (now (bytes .entry))) (itemAt (now (bytes .entry)) i) ⌝ }
-{
-    let f = operation_at(bytes, i);
-    if !c.keeps(f.rotation) {
-        return false;
-    }
-    let mut j = 0usize;
-    while j < n {
-        if !product_listed(bytes, c, n, mul(f, operation_at(bytes, j))) {
-            return false;
-        }
-        j += 1;
-    }
-    true
-}
-
-fn product_listed(bytes: &[u8], c: Centering, n: usize, product: Product) -> bool
-    requires { ⌜ (n ≤ 48) × (5 * n ≤ length (now bytes)) ⌝ }
-    ensures { λ r. ⌜ r ≡ productListed c (itemsOf n (now (bytes .entry))) product ⌝ }
-{
-    match product {
-        Product::Inside(h) => is_listed(bytes, c, n, h),
-        Product::Outside => false,
-    }
-}
-
-// An operation with this rotation is listed, and its translation differs by a vector of the lattice.
-fn is_listed(bytes: &[u8], c: Centering, n: usize, f: Operation) -> bool
-    requires { ⌜ (n ≤ 48) × (5 * n ≤ length (now bytes)) ⌝ }
-    ensures { λ r. ⌜ r ≡ has (alikeItems c) (itemOf f) (itemsOf n (now (bytes .entry))) ⌝ }
-{
-    let code = rotation_code(f.rotation);
-    let mut i = 0usize;
-    while i < n {
-        if alike(bytes, c, i, code, f.translation) {
-            return true;
-        }
-        i += 1;
-    }
-    false
-}
-
-fn alike(bytes: &[u8], c: Centering, i: usize, code: u32, t: Translation) -> bool
-    requires { ⌜ 5 * i + 5 ≤ length (now bytes) ⌝ }
-    ensures { λ r. ⌜ r ≡ alikeItems c (record { code = code; translation = t }) (itemAt (now (bytes .entry)) i) ⌝ }
-{
-    if code != item_code(bytes, i) {
-        return false;
-    }
-    c.congruent(t, item_translation(bytes, i))
 }
 
 fn laid_out(bytes: &[u8], answer: Reading, c: Centering, n: usize) -> RecordGroup

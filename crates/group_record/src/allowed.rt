@@ -1,0 +1,201 @@
+// Which operations a record may hold (refusal 35), decided with few products: every product is listed if it is so with right factors from which all come.
+ghost use mathlib.Core.Path.{_≡_};
+ghost use mathlib.Core.Bool.{true, false};
+ghost use mathlib.Core.List.{map, List·Memᴰ as Mem};
+ghost use Prim.Native.Nat.{ℕ, _+_, _*_, _≤_, _<_};
+ghost use lib.ListN.{length};
+ghost use Rattle.laws.specs.Growth.{place};
+ghost use Rattle.laws.specs.Lattice.{all};
+ghost use Rattle.operation.specs.Product.{productOf};
+ghost use Rattle.operation.specs.declared.Operation.{Operation};
+ghost use Rattle.group_record.specs.Record.{itemOf};
+ghost use Rattle.group_record.specs.Reading.{operationOfItem, alikeItems, keepsItem, isAllowed};
+ghost use Rattle.group_record.specs.ReadingTests.{GoodItems};
+ghost use Rattle.group_record.specs.Criterion.{Right, KeepsInto};
+ghost use Rattle.group_record.specs.Closing.{listedAt, productAt, Lacks, Made, Widenable, WidenedTo, onlyOne};
+ghost use Rattle.group_record.specs.Search.{itemsOf, itemAt};
+use super::reader::item_code;
+use super::reader::item_translation;
+use super::reader::operation_at;
+use centering::Centering;
+use operation::Operation;
+use operation::Translation;
+use operation::code::rotation_code;
+use operation::product::Product;
+use operation::product::identity;
+use operation::product::mul;
+
+// Right factors with which every product is listed: which they are, and the same in the order in which they were reached.
+struct Reached {
+    known: [bool; 48],
+    members: [u8; 48],
+    count: usize,
+}
+
+// Every rotation keeps the lattice, the identity is listed, and so is every product.
+pub(crate) fn is_allowed(bytes: &[u8], c: Centering, n: usize) -> bool
+    requires { ⌜ (n ≤ 48) × (5 * n ≤ length (now bytes)) × GoodItems c (itemsOf n (now bytes)) ⌝ }
+    ensures { λ r. ⌜ r ≡ isAllowed c (itemsOf n (now (bytes .entry))) ⌝ }
+{
+    if !all_keep(bytes, c, n) {
+        return false;
+    }
+    let e = listed_at(bytes, c, n, identity());
+    if n <= e {
+        return false;
+    }
+    every_product(bytes, c, n, e)
+}
+
+fn all_keep(bytes: &[u8], c: Centering, n: usize) -> bool
+    requires { ⌜ (n ≤ 48) × (5 * n ≤ length (now bytes)) ⌝ }
+    ensures { λ r. ⌜ r ≡ all (keepsItem c) (itemsOf n (now (bytes .entry))) ⌝ }
+{
+    let mut i = 0usize;
+    while i < n {
+        let f = operation_at(bytes, i);
+        if !c.keeps(f.rotation) {
+            return false;
+        }
+        i += 1;
+    }
+    true
+}
+
+// Each operation is a right factor that was reached, or its column is made, and what can be reached with it. A group of 48 needs five columns at most;
+// a ninth of something else takes the place of the eighth.
+fn every_product(bytes: &[u8], c: Centering, n: usize, e: usize) -> bool
+    requires { ⌜ (n ≤ 48) × (5 * n ≤ length (now bytes)) × GoodItems c (itemsOf n (now bytes)) × KeepsInto c (map operationOfItem (itemsOf n (now bytes)))
+        × (e < n) × Right c (map operationOfItem (itemsOf n (now bytes))) (listedAt (map operationOfItem (itemsOf n (now bytes))) e) ⌝ }
+    ensures { λ r. ⌜ (r ≡ true → (k : ℕ) → k < n → Right c (map operationOfItem (itemsOf n (now (bytes .entry)))) (listedAt (map operationOfItem (itemsOf n (now (bytes .entry)))) k))
+        × (r ≡ false → (g : Operation) × Mem g (map operationOfItem (itemsOf n (now (bytes .entry)))) × Lacks c (map operationOfItem (itemsOf n (now (bytes .entry)))) g) ⌝ }
+{
+    let mut columns = [0u8; 384];
+    let mut stored = 0usize;
+    let mut reached = only(e);
+    let mut j = 0usize;
+    while j < n {
+        let known = reached.known;
+        if known[j] {
+            j += 1;
+            continue;
+        }
+        if 8 <= stored {
+            stored = 7;
+        }
+        if !make_column(bytes, c, n, j, &mut columns, 48 * stored) {
+            return false;
+        }
+        stored += 1;
+        reached = widened(reached, &columns, stored);
+        j += 1;
+    }
+    true
+}
+
+// The operation at an index alone.
+fn only(e: usize) -> Reached
+    requires { ⌜ e < 48 ⌝ }
+    ensures { λ r. ⌜ r ≡ onlyOne e ⌝ }
+{
+    let mut known = [false; 48];
+    known[e] = true;
+    let mut members = [0u8; 48];
+    members[0] = e as u8;
+    Reached {
+        known,
+        members,
+        count: 1,
+    }
+}
+
+// The indices of the products with the right factor j, from a place on; not so where one of them is not listed.
+fn make_column(bytes: &[u8], c: Centering, n: usize, j: usize, columns: &mut [u8], at: usize) -> bool
+    requires { ⌜ (n ≤ 48) × (5 * n ≤ length (now bytes)) × (j < n) × (at + 48 ≤ length (now columns)) × GoodItems c (itemsOf n (now bytes)) ⌝ }
+    ensures { λ r. ⌜ Made c (map operationOfItem (itemsOf n (now (bytes .entry)))) (operationOfItem (itemAt (now (bytes .entry)) j)) at (now (columns .entry)) (now (columns .exit)) r ⌝ }
+{
+    let g = operation_at(bytes, j);
+    let mut i = 0usize;
+    while i < n {
+        let k = product_at(bytes, c, n, operation_at(bytes, i), g);
+        if n <= k {
+            return false;
+        }
+        columns[at + i] = k as u8;
+        i += 1;
+    }
+    true
+}
+
+// What was reached, and all that columns lead to from there.
+fn widened(reached: Reached, columns: &[u8; 384], stored: usize) -> Reached
+    requires { ⌜ Widenable reached (now columns) stored ⌝ }
+    ensures { λ r. ⌜ WidenedTo reached (now (columns .entry)) stored r ⌝ }
+{
+    let mut known = reached.known;
+    let mut members = reached.members;
+    let mut count = reached.count;
+    let mut i = 0usize;
+    let mut j = 0usize;
+    while i < count {
+        if stored <= j {
+            i += 1;
+            j = 0;
+            continue;
+        }
+        let p = members[i] as usize;
+        let q = columns[48 * j + p] as usize;
+        j += 1;
+        if known[q] {
+            continue;
+        }
+        if 48 <= count {
+            break;
+        }
+        known[q] = true;
+        members[count] = q as u8;
+        count += 1;
+    }
+    Reached {
+        known,
+        members,
+        count,
+    }
+}
+
+// The index of the listed operation that is f times g modulo the lattice, or n.
+fn product_at(bytes: &[u8], c: Centering, n: usize, f: Operation, g: Operation) -> usize
+    requires { ⌜ (n ≤ 48) × (5 * n ≤ length (now bytes)) ⌝ }
+    ensures { λ r. ⌜ r ≡ productAt c (itemsOf n (now (bytes .entry))) (productOf f g) ⌝ }
+{
+    let Product::Inside(h) = mul(f, g) else {
+        return n;
+    };
+    listed_at(bytes, c, n, h)
+}
+
+// The index of the first listed operation that is f modulo the lattice, or n.
+fn listed_at(bytes: &[u8], c: Centering, n: usize, f: Operation) -> usize
+    requires { ⌜ (n ≤ 48) × (5 * n ≤ length (now bytes)) ⌝ }
+    ensures { λ r. ⌜ r ≡ place (alikeItems c) (itemOf f) (itemsOf n (now (bytes .entry))) ⌝ }
+{
+    let code = rotation_code(f.rotation);
+    let mut i = 0usize;
+    while i < n {
+        if alike(bytes, c, i, code, f.translation) {
+            return i;
+        }
+        i += 1;
+    }
+    n
+}
+
+fn alike(bytes: &[u8], c: Centering, i: usize, code: u32, t: Translation) -> bool
+    requires { ⌜ 5 * i + 5 ≤ length (now bytes) ⌝ }
+    ensures { λ r. ⌜ r ≡ alikeItems c (record { code = code; translation = t }) (itemAt (now (bytes .entry)) i) ⌝ }
+{
+    if code != item_code(bytes, i) {
+        return false;
+    }
+    c.congruent(t, item_translation(bytes, i))
+}
