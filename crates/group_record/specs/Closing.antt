@@ -4,7 +4,7 @@ use mathlib.Core.Path.{_≡_, refl, sym, _∙_, ap, ap₂, subst}
 use mathlib.Core.Logic.{_↔_}
 use mathlib.Core.Bool.{Bool, true, false, true≢false}
 use mathlib.Core.List.{List, [], _∷_, map, List·Memᴰ as Mem, Memᴰ·map as mem-map, Memᴰ·of-map as mem-of-map}
-use Prim.Native.Nat.{ℕ, suc, _+_, _*_, _<_, _≤_}
+use Prim.Native.Nat.{ℕ, _+_, _*_, _<_, _≤_}
 use native.Mathlib.Omega.{arith}
 use native.Mathlib.Decide.{ℕ-discrete}
 use lib.Dec.{ltb}
@@ -36,11 +36,16 @@ use Rattle.group_record.specs.Tests.{both-true, all-true, fails}
 use Rattle.group_record.specs.ReadingTests.{GoodItems, good-form, items-of-operations, item-of-operation, identity-entries, congruent-residues, alike-test, product-test}
 use Rattle.group_record.specs.Criterion.{Right, KeepsInto, right-times}
 use Rattle.group_record.specs.Items.{item-at}
-use Rattle.group_record.specs.FirstEdition.{itemWidth, itemIn}
+use Rattle.group_record.specs.BothEditions.{editionOf, widthIn}
 use Rattle.group_record.specs.Search.{itemsOf, itemAt}
+use Rattle.group_record.specs.declared.Edition.{Edition as Known}
 use Rattle.group_record.specs.declared.allowed.Reached.{Reached}
 
 -- ---- what is found
+-- The operations of n items.
+abbrev pub operationsOf : Known → ℕ → List ℕ → List Operation
+operationsOf edition n bytes = map operationOfItem (itemsOf edition n bytes)
+
 -- The listed operation at an index.
 abbrev pub listedAt : List Operation → ℕ → Operation
 listedAt l i = getD l i identityOperation
@@ -62,6 +67,10 @@ ColumnOf c l g columns at = (i : ℕ) → i < length l → Leads c l g columns a
 -- A listed operation whose product with g is not listed.
 abbrev pub Lacks : Centering → List Operation → Operation → Type 0
 Lacks c l g = (f : Operation) × Mem f l × ((h : Operation) → Mem h l → ¬ Alike c (compose (motionOf f) (motionOf g)) (motionOf h))
+
+-- What is decided of the first n as right factors: with each every product is listed, or one lacks a product.
+abbrev pub Decides : Centering → List Operation → ℕ → Bool → Type 0
+Decides c l n r = (r ≡ true → (k : ℕ) → k < n → Right c l (listedAt l k)) × (r ≡ false → (g : Operation) × Mem g l × Lacks c l g)
 
 -- A column that was made, or what it lacks; nothing in front of it moved.
 pub record Made (c : Centering) (l : List Operation) (g : Operation) (at : ℕ) (before after : List ℕ) (full : Bool) : Type 0 where
@@ -104,12 +113,16 @@ onlyOne e = record { known = set (replicate 48 false) e true; members = set (rep
 -- The listed operation at an index is that of the item there.
 pub listed-item : (items : List Item) (i : ℕ) → listedAt (map operationOfItem items) i ≡ operationOfItem (getD items i (itemOf identityOperation))
 listed-item items i =
-    ap (getD (map operationOfItem items) i) (sym (operation-of-item identityOperation identity-entries)) ∙ List·getD-map operationOfItem items i (itemOf identityOperation)
+    ap (getD (map operationOfItem items) i) (sym (operation-of-item identityOperation identity-entries))
+    ∙ List·getD-map operationOfItem items i (itemOf identityOperation)
 
 -- The operation of an item of the bytes is the listed one at its index.
-pub operation-listed : (n : ℕ) (bytes : List ℕ) (i : ℕ) → i < n → operationOfItem (itemAt bytes i) ≡ listedAt (map operationOfItem (itemsOf n bytes)) i
+pub operation-listed : (edition : Known) (n : ℕ) (bytes : List ℕ) (i : ℕ) → i < n
+    → operationOfItem (itemAt edition bytes i) ≡ listedAt (operationsOf edition n bytes) i
 unfolding itemAt
-operation-listed n bytes i h = sym (listed-item (itemsOf n bytes) i ∙ ap operationOfItem (item-at itemWidth itemIn n bytes i (itemOf identityOperation) h))
+operation-listed edition n bytes i h =
+    sym (listed-item (itemsOf edition n bytes) i
+    ∙ ap operationOfItem (item-at (widthIn edition) (editionOf edition .read) n bytes i (itemOf identityOperation) h))
 
 module _ (same : Item → Item → Bool) (wanted : Item) (items : List Item) (i : ℕ) (x : Item) (e : drop i items ≡ x ∷ drop (i + 1) items) where
   -- It goes on behind an item that is another,
@@ -167,7 +180,8 @@ module _ (c : Centering) (items : List Item) where
           (sym (reduces .rotation) ∙ rotation, congruent-residues c (sought .translation) (vectorOf (k .translation)) _ (sym (reduces .translation)) class)
 
       -- What stands at the place of a product is the product modulo L,
-      pub product-found : (r : ℕ) → r ≡ productAt c items (productOf f g) → r < length items → Alike c (compose (motionOf f) (motionOf g)) (motionOf (listedAt (map operationOfItem items) r))
+      pub product-found : (r : ℕ) → r ≡ productAt c items (productOf f g) → r < length items
+          → Alike c (compose (motionOf f) (motionOf g)) (motionOf (listedAt (map operationOfItem items) r))
       product-found r e low = rw e (product-hit (productOf f g) refl (omega (arith, e)))
 
       -- and one without a place is not listed.
@@ -180,13 +194,15 @@ module _ (c : Centering) (items : List Item) where
 
       module _ (i : ℕ) (here : f ≡ listedAt (map operationOfItem items) i) (r : ℕ) (e : r ≡ productAt c items (productOf f g)) where
         -- So the product of the operation at an index is told by its place,
-        pub index-found : r < length items → Alike c (compose (motionOf (listedAt (map operationOfItem items) i)) (motionOf g)) (motionOf (listedAt (map operationOfItem items) r))
+        pub index-found : r < length items
+            → Alike c (compose (motionOf (listedAt (map operationOfItem items) i)) (motionOf g)) (motionOf (listedAt (map operationOfItem items) r))
         index-found low = subst (λ (x : Operation). Alike c (compose (motionOf x) (motionOf g)) (motionOf (listedAt listed r))) here (product-found r e low)
 
         -- and g lacks one that has none.
         pub index-lacks : i < length items → length items ≤ r → Lacks c (map operationOfItem items) g
         index-lacks low far =
-            (f, subst (λ (x : Operation). Mem x listed) (sym here) (member-at listed i identityOperation (omega (arith, length-map items operationOfItem))), product-missing r e far)
+            let m = member-at listed i identityOperation (omega (arith, length-map items operationOfItem)) in
+            (f, subst (λ (x : Operation). Mem x listed) (sym here) m, product-missing r e far)
 
 -- ---- a column
 module _ (c : Centering) (l : List Operation) (g : Operation) where
@@ -209,7 +225,8 @@ module _ (c : Centering) (l : List Operation) (g : Operation) where
       )
 
 -- Columns in front of another stay.
-pub stored-next : (c : Centering) (l : List Operation) (g : Operation) (stored : ℕ) (before after : List ℕ) (full : Bool) → length l ≤ 48 → Stored c l before stored
+pub stored-next : (c : Centering) (l : List Operation) (g : Operation) (stored : ℕ) (before after : List ℕ) (full : Bool) → length l ≤ 48
+    → Stored c l before stored
     → Made c l g (48 * stored) before after full → full ≡ true → Stored c l after (stored + 1)
 stored-next c l g stored before after full short S M e s lt = elim (ℕ-discrete s stored) [
   | yes q ↦ rw q (g, M .column e)
@@ -226,7 +243,8 @@ right-next c l j before R k lt = elim (ℕ-discrete k j) [
 
 -- ---- widening
 -- A column leads from what was reached to what may be reached.
-pub reaches : (c : Centering) (l : List Operation) → KeepsInto c l → (p : ℕ) (g : Operation) (columns : List ℕ) (at : ℕ) → p < length l → Right c l (listedAt l p)
+pub reaches : (c : Centering) (l : List Operation) → KeepsInto c l → (p : ℕ) (g : Operation) (columns : List ℕ) (at : ℕ) → p < length l
+    → Right c l (listedAt l p)
     → ColumnOf c l g columns at → (getD columns (at + p) 0 < length l) × Right c l (listedAt l (getD columns (at + p) 0))
 reaches c l into p g columns at h R column =
     let (low, alike) = column p h in
@@ -246,7 +264,8 @@ only-sound c l e few h R =
     }
 
 -- One more is reached.
-pub sound-next : (c : Centering) (l : List Operation) (reached : Reached) (q : ℕ) → Sound c l reached → reached .count < 48 → q < length l → Right c l (listedAt l q)
+pub sound-next : (c : Centering) (l : List Operation) (reached : Reached) (q : ℕ) → Sound c l reached → reached .count < 48 → q < length l
+    → Right c l (listedAt l q)
     → Sound c l (record { known = set (reached .known) q true; members = set (reached .members) (reached .count) q; count = reached .count + 1 })
 sound-next c l reached q S room h R =
     record {
@@ -264,8 +283,12 @@ sound-next c l reached q S room h R =
 
 -- ---- the decision
 module _ (c : Centering) (items : List Item) where
+  -- Every product is listed.
+  abbrev AllListed : Type 0
+  AllListed = (i j : Item) → Mem i items → Mem j items → pairListed c items i j ≡ true
+
   -- What is allowed, in three parts.
-  allowed-parts : (isAllowed c items ≡ true) ↔ ((has (alikeItems c) (itemOf identityOperation) items ≡ true) × (all (keepsItem c) items ≡ true) × ((i j : Item) → Mem i items → Mem j items → pairListed c items i j ≡ true))
+  allowed-parts : (isAllowed c items ≡ true) ↔ ((has (alikeItems c) (itemOf identityOperation) items ≡ true) × (all (keepsItem c) items ≡ true) × AllListed)
   unfolding isAllowed memberAllowed
   allowed-parts = (
     (λ e.
@@ -275,7 +298,8 @@ module _ (c : Centering) (items : List Item) where
     λ (p, q, r).
         both-true (has (alikeItems c) (itemOf identityOperation) items) _ .1 (
           p,
-          all-true (memberAllowed c items) items .1 (λ i m. both-true (keepsItem c i) _ .1 (all-true (keepsItem c) items .0 q i m, all-true (pairListed c items i) items .1 (λ j k. r i j m k))),
+          all-true (memberAllowed c items) items .1 (λ i m.
+              both-true (keepsItem c i) _ .1 (all-true (keepsItem c) items .0 q i m, all-true (pairListed c items i) items .1 (λ j k. r i j m k))),
         ),
   )
 
@@ -287,8 +311,8 @@ module _ (c : Centering) (items : List Item) where
   pub without-identity : (e : ℕ) → e ≡ place (alikeItems c) (itemOf identityOperation) items → length items ≤ e → false ≡ isAllowed c items
   without-identity e at far =
       sym (fails (isAllowed c items) allowed-parts (λ (p, q, r).
-          let low = ltb-true (place (alikeItems c) (itemOf identityOperation) items) (length items) (place-test (alikeItems c) (itemOf identityOperation) items ∙ p) in
-          omega (arith, at)))
+      let low = ltb-true _ (length items) (place-test (alikeItems c) (itemOf identityOperation) items ∙ p) in
+      omega (arith, at)))
 
   -- Operations that keep L map it into L.
   pub keep-into : all (keepsItem c) items ≡ true → KeepsInto c (map operationOfItem items)
@@ -303,39 +327,41 @@ module _ (c : Centering) (items : List Item) where
         → Right c (map operationOfItem items) (listedAt (map operationOfItem items) e)
     unit-right into e at low f m =
         let unit = listedAt (map operationOfItem items) e in
-        let near : Alike c (motionOf identityOperation) (motionOf unit) = rw at (place-alike c items G identityOperation identity-entries (omega (arith, at))) in
+        let near : Alike c (motionOf identityOperation) (motionOf unit) =
+        rw at (place-alike c items G identityOperation identity-entries (omega (arith, at))) in
         let moved = compose-alike c (motionOf f) (motionOf f) (motionOf identityOperation) (motionOf unit) (into f m) (alike-reflexive c (motionOf f)) near in
         let back = alike-symmetric c _ _ moved in
         (f, m, subst (Alike c (compose (motionOf f) (motionOf unit))) (ap (compose (motionOf f)) identity-motion ∙ compose-identity (motionOf f)) back)
 
     -- Where with each operation as right factor every product is listed, all products are;
-    all-pairs : ((k : ℕ) → k < length items → Right c (map operationOfItem items) (listedAt (map operationOfItem items) k)) → (i j : Item) → Mem i items → Mem j items → pairListed c items i j ≡ true
+    all-pairs : ((k : ℕ) → k < length items → Right c (map operationOfItem items) (listedAt (map operationOfItem items) k)) → AllListed
     unfolding pairListed
     all-pairs right i j m k =
         let l = map operationOfItem items in
         let (t, h, e) = member-index identityOperation (mem-map operationOfItem k) in
         let R = subst (Right c l) e (right t (omega (arith, length-map items operationOfItem))) in
-        let there = product-test c l (good-form c items G .entries) (operationOfItem i) (operationOfItem j) .1 (R (operationOfItem i) (mem-map operationOfItem m)) in
+        let f = operationOfItem i in
+        let there = product-test c l (good-form c items G .entries) f (operationOfItem j) .1 (R f (mem-map operationOfItem m)) in
         rw (items-of-operations items (G .code)) at there
 
     -- and where one lacks a product, not all are.
-    no-pairs : (g : Operation) → Mem g (map operationOfItem items) → Lacks c (map operationOfItem items) g → ¬ ((i j : Item) → Mem i items → Mem j items → pairListed c items i j ≡ true)
+    no-pairs : (g : Operation) → Mem g (map operationOfItem items) → Lacks c (map operationOfItem items) g → ¬ AllListed
     unfolding pairListed
     no-pairs g m (f, k, none) every =
         let l = map operationOfItem items in
         let (j, o, e) = mem-of-map operationOfItem items m in
         let (i, n, d) = mem-of-map operationOfItem items k in
-        let there = ap (λ (x : List Item). productListed c x (productOf (operationOfItem i) (operationOfItem j))) (items-of-operations items (G .code)) ∙ every i j n o in
+        let product = productOf (operationOfItem i) (operationOfItem j) in
+        let there = ap (λ (x : List Item). productListed c x product) (items-of-operations items (G .code)) ∙ every i j n o in
         let (h, w, near) = product-test c l (good-form c items G .entries) (operationOfItem i) (operationOfItem j) .0 there in
         none h w (subst (λ (x : SpaceMotion). Alike c x (motionOf h)) (ap₂ (λ (x y : Operation). compose (motionOf x) (motionOf y)) d e) near)
 
     -- So what was found of the right factors decides.
     pub decided : all (keepsItem c) items ≡ true → (e : ℕ) → e ≡ place (alikeItems c) (itemOf identityOperation) items → e < length items
-        → (r : Bool) → (r ≡ true → (k : ℕ) → k < length items → Right c (map operationOfItem items) (listedAt (map operationOfItem items) k))
-        → (r ≡ false → (g : Operation) × Mem g (map operationOfItem items) × Lacks c (map operationOfItem items) g) → r ≡ isAllowed c items
-    decided keep e at low true right lacks =
+        → (r : Bool) → Decides c (map operationOfItem items) (length items) r → r ≡ isAllowed c items
+    decided keep e at low true (right, lacks) =
         let there = sym (place-test (alikeItems c) (itemOf identityOperation) items) ∙ lt-ltb _ (length items) (omega (arith, at)) in
         sym (allowed-parts .1 (there, keep, all-pairs (right refl)))
-    decided keep e at low false right lacks =
+    decided keep e at low false (right, lacks) =
         let (g, m, none) = lacks refl in
         sym (fails (isAllowed c items) allowed-parts (λ (p, q, r). no-pairs g m none r))

@@ -1,22 +1,20 @@
 // Which operations a record may hold (refusal 35), decided with few products: every product is listed if it is so with right factors from which all come.
 ghost use mathlib.Core.Path.{_≡_};
-ghost use mathlib.Core.Bool.{true, false};
-ghost use mathlib.Core.List.{map, List·Memᴰ as Mem};
-ghost use Prim.Native.Nat.{ℕ, _+_, _*_, _≤_, _<_};
+ghost use Prim.Native.Nat.{_+_, _*_, _≤_, _<_};
 ghost use lib.ListN.{length};
 ghost use Rattle.laws.specs.Growth.{place};
 ghost use Rattle.laws.specs.Lattice.{all};
 ghost use Rattle.operation.specs.Product.{productOf};
-ghost use Rattle.operation.specs.declared.Operation.{Operation};
+ghost use Rattle.group_record.specs.BothEditions.{widthIn};
 ghost use Rattle.group_record.specs.Record.{itemOf};
 ghost use Rattle.group_record.specs.Reading.{operationOfItem, alikeItems, keepsItem, isAllowed};
 ghost use Rattle.group_record.specs.ReadingTests.{GoodItems};
 ghost use Rattle.group_record.specs.Criterion.{Right, KeepsInto};
-ghost use Rattle.group_record.specs.Closing.{listedAt, productAt, Lacks, Made, Widenable, WidenedTo, onlyOne};
+ghost use Rattle.group_record.specs.Closing.{operationsOf, listedAt, productAt, Decides, Made, Widenable, WidenedTo, onlyOne};
 ghost use Rattle.group_record.specs.Search.{itemsOf, itemAt};
-use super::reader::item_code;
-use super::reader::item_translation;
-use super::reader::operation_at;
+use super::Edition;
+use super::items::item_at;
+use super::items::operation_at;
 use centering::Centering;
 use operation::Operation;
 use operation::Translation;
@@ -33,27 +31,27 @@ struct Reached {
 }
 
 // Every rotation keeps the lattice, the identity is listed, and so is every product.
-pub(crate) fn is_allowed(bytes: &[u8], c: Centering, n: usize) -> bool
-    requires { ⌜ (n ≤ 48) × (5 * n ≤ length (now bytes)) × GoodItems c (itemsOf n (now bytes)) ⌝ }
-    ensures { λ r. ⌜ r ≡ isAllowed c (itemsOf n (now (bytes .entry))) ⌝ }
+pub(crate) fn is_allowed(bytes: &[u8], edition: Edition, c: Centering, n: usize) -> bool
+    requires { ⌜ (n ≤ 48) × (widthIn edition * n ≤ length (now bytes)) × GoodItems c (itemsOf edition n (now bytes)) ⌝ }
+    ensures { λ r. ⌜ r ≡ isAllowed c (itemsOf edition n (now (bytes .entry))) ⌝ }
 {
-    if !all_keep(bytes, c, n) {
+    if !all_keep(bytes, edition, c, n) {
         return false;
     }
-    let e = listed_at(bytes, c, n, identity());
+    let e = listed_at(bytes, edition, c, n, identity());
     if n <= e {
         return false;
     }
-    every_product(bytes, c, n, e)
+    every_product(bytes, edition, c, n, e)
 }
 
-fn all_keep(bytes: &[u8], c: Centering, n: usize) -> bool
-    requires { ⌜ (n ≤ 48) × (5 * n ≤ length (now bytes)) ⌝ }
-    ensures { λ r. ⌜ r ≡ all (keepsItem c) (itemsOf n (now (bytes .entry))) ⌝ }
+fn all_keep(bytes: &[u8], edition: Edition, c: Centering, n: usize) -> bool
+    requires { ⌜ (n ≤ 48) × (widthIn edition * n ≤ length (now bytes)) ⌝ }
+    ensures { λ r. ⌜ r ≡ all (keepsItem c) (itemsOf edition n (now (bytes .entry))) ⌝ }
 {
     let mut i = 0usize;
     while i < n {
-        let f = operation_at(bytes, i);
+        let f = operation_at(bytes, edition, i);
         if !c.keeps(f.rotation) {
             return false;
         }
@@ -62,13 +60,12 @@ fn all_keep(bytes: &[u8], c: Centering, n: usize) -> bool
     true
 }
 
-// Each operation is a right factor that was reached, or its column is made, and what can be reached with it. A group of 48 needs five columns at most;
-// a ninth of something else takes the place of the eighth.
-fn every_product(bytes: &[u8], c: Centering, n: usize, e: usize) -> bool
-    requires { ⌜ (n ≤ 48) × (5 * n ≤ length (now bytes)) × GoodItems c (itemsOf n (now bytes)) × KeepsInto c (map operationOfItem (itemsOf n (now bytes)))
-        × (e < n) × Right c (map operationOfItem (itemsOf n (now bytes))) (listedAt (map operationOfItem (itemsOf n (now bytes))) e) ⌝ }
-    ensures { λ r. ⌜ (r ≡ true → (k : ℕ) → k < n → Right c (map operationOfItem (itemsOf n (now (bytes .entry)))) (listedAt (map operationOfItem (itemsOf n (now (bytes .entry)))) k))
-        × (r ≡ false → (g : Operation) × Mem g (map operationOfItem (itemsOf n (now (bytes .entry)))) × Lacks c (map operationOfItem (itemsOf n (now (bytes .entry)))) g) ⌝ }
+// Each operation is a right factor that was reached, or its column is made, and what can be reached with it.
+fn every_product(bytes: &[u8], edition: Edition, c: Centering, n: usize, e: usize) -> bool
+    requires { ⌜ (n ≤ 48) × (widthIn edition * n ≤ length (now bytes)) × GoodItems c (itemsOf edition n (now bytes))
+        × KeepsInto c (operationsOf edition n (now bytes)) × (e < n)
+        × Right c (operationsOf edition n (now bytes)) (listedAt (operationsOf edition n (now bytes)) e) ⌝ }
+    ensures { λ r. ⌜ Decides c (operationsOf edition n (now (bytes .entry))) n r ⌝ }
 {
     let mut columns = [0u8; 384];
     let mut stored = 0usize;
@@ -80,17 +77,25 @@ fn every_product(bytes: &[u8], c: Centering, n: usize, e: usize) -> bool
             j += 1;
             continue;
         }
-        if 8 <= stored {
-            stored = 7;
-        }
-        if !make_column(bytes, c, n, j, &mut columns, 48 * stored) {
+        let slot = next_slot(stored);
+        if !make_column(bytes, edition, c, n, j, &mut columns, 48 * slot) {
             return false;
         }
-        stored += 1;
+        stored = slot + 1;
         reached = widened(reached, &columns, stored);
         j += 1;
     }
     true
+}
+
+// Each column of a group at least doubles what is reached, so five are all that 48 operations take; a ninth of something else takes the place of the eighth.
+fn next_slot(stored: usize) -> usize
+    ensures { λ r. ⌜ (r ≤ stored) × (r ≤ 7) ⌝ }
+{
+    if stored < 8 {
+        return stored;
+    }
+    7
 }
 
 // The operation at an index alone.
@@ -110,14 +115,24 @@ fn only(e: usize) -> Reached
 }
 
 // The indices of the products with the right factor j, from a place on; not so where one of them is not listed.
-fn make_column(bytes: &[u8], c: Centering, n: usize, j: usize, columns: &mut [u8], at: usize) -> bool
-    requires { ⌜ (n ≤ 48) × (5 * n ≤ length (now bytes)) × (j < n) × (at + 48 ≤ length (now columns)) × GoodItems c (itemsOf n (now bytes)) ⌝ }
-    ensures { λ r. ⌜ Made c (map operationOfItem (itemsOf n (now (bytes .entry)))) (operationOfItem (itemAt (now (bytes .entry)) j)) at (now (columns .entry)) (now (columns .exit)) r ⌝ }
+fn make_column(
+    bytes: &[u8],
+    edition: Edition,
+    c: Centering,
+    n: usize,
+    j: usize,
+    columns: &mut [u8],
+    at: usize,
+) -> bool
+    requires { ⌜ (n ≤ 48) × (widthIn edition * n ≤ length (now bytes)) × (j < n) × (at + 48 ≤ 384) × (length (now columns) ≡ 384)
+        × GoodItems c (itemsOf edition n (now bytes)) ⌝ }
+    ensures { λ r. ⌜ Made c (operationsOf edition n (now (bytes .entry))) (operationOfItem (itemAt edition (now (bytes .entry)) j)) at
+        (now (columns .entry)) (now (columns .exit)) r ⌝ }
 {
-    let g = operation_at(bytes, j);
+    let g = operation_at(bytes, edition, j);
     let mut i = 0usize;
     while i < n {
-        let k = product_at(bytes, c, n, operation_at(bytes, i), g);
+        let k = product_at(bytes, edition, c, n, operation_at(bytes, edition, i), g);
         if n <= k {
             return false;
         }
@@ -164,25 +179,32 @@ fn widened(reached: Reached, columns: &[u8; 384], stored: usize) -> Reached
 }
 
 // The index of the listed operation that is f times g modulo the lattice, or n.
-fn product_at(bytes: &[u8], c: Centering, n: usize, f: Operation, g: Operation) -> usize
-    requires { ⌜ (n ≤ 48) × (5 * n ≤ length (now bytes)) ⌝ }
-    ensures { λ r. ⌜ r ≡ productAt c (itemsOf n (now (bytes .entry))) (productOf f g) ⌝ }
+fn product_at(
+    bytes: &[u8],
+    edition: Edition,
+    c: Centering,
+    n: usize,
+    f: Operation,
+    g: Operation,
+) -> usize
+    requires { ⌜ (n ≤ 48) × (widthIn edition * n ≤ length (now bytes)) ⌝ }
+    ensures { λ r. ⌜ r ≡ productAt c (itemsOf edition n (now (bytes .entry))) (productOf f g) ⌝ }
 {
     let Product::Inside(h) = mul(f, g) else {
         return n;
     };
-    listed_at(bytes, c, n, h)
+    listed_at(bytes, edition, c, n, h)
 }
 
 // The index of the first listed operation that is f modulo the lattice, or n.
-fn listed_at(bytes: &[u8], c: Centering, n: usize, f: Operation) -> usize
-    requires { ⌜ (n ≤ 48) × (5 * n ≤ length (now bytes)) ⌝ }
-    ensures { λ r. ⌜ r ≡ place (alikeItems c) (itemOf f) (itemsOf n (now (bytes .entry))) ⌝ }
+fn listed_at(bytes: &[u8], edition: Edition, c: Centering, n: usize, f: Operation) -> usize
+    requires { ⌜ (n ≤ 48) × (widthIn edition * n ≤ length (now bytes)) ⌝ }
+    ensures { λ r. ⌜ r ≡ place (alikeItems c) (itemOf f) (itemsOf edition n (now (bytes .entry))) ⌝ }
 {
     let code = rotation_code(f.rotation);
     let mut i = 0usize;
     while i < n {
-        if alike(bytes, c, i, code, f.translation) {
+        if alike(bytes, edition, c, i, code, f.translation) {
             return i;
         }
         i += 1;
@@ -190,12 +212,13 @@ fn listed_at(bytes: &[u8], c: Centering, n: usize, f: Operation) -> usize
     n
 }
 
-fn alike(bytes: &[u8], c: Centering, i: usize, code: u32, t: Translation) -> bool
-    requires { ⌜ 5 * i + 5 ≤ length (now bytes) ⌝ }
-    ensures { λ r. ⌜ r ≡ alikeItems c (record { code = code; translation = t }) (itemAt (now (bytes .entry)) i) ⌝ }
+fn alike(bytes: &[u8], edition: Edition, c: Centering, i: usize, code: u32, t: Translation) -> bool
+    requires { ⌜ widthIn edition * i + widthIn edition ≤ length (now bytes) ⌝ }
+    ensures { λ r. ⌜ r ≡ alikeItems c (record { code = code; translation = t }) (itemAt edition (now (bytes .entry)) i) ⌝ }
 {
-    if code != item_code(bytes, i) {
+    let item = item_at(bytes, edition, i);
+    if code != item.code {
         return false;
     }
-    c.congruent(t, item_translation(bytes, i))
+    c.congruent(t, item.translation)
 }

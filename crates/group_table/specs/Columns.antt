@@ -223,7 +223,8 @@ filling-none n table cells filled generators N =
 
 module _ (n : ℕ) (table cells : List ℕ) (filled : Filled) (generators : List ℕ) (m i j : ℕ) (F : Filling n table cells filled generators m i j) where
   -- then cell by cell of a column,
-  pub filling-cell : i < n → (x : ℕ) → i * n + j < length cells → x ≡ getD table (i * n + j) 0 → Filling n table (set cells (i * n + j) x) filled generators m (i + 1) j
+  pub filling-cell : i < n → (x : ℕ) → i * n + j < length cells → x ≡ getD table (i * n + j) 0
+      → Filling n table (set cells (i * n + j) x) filled generators m (i + 1) j
   filling-cell h x inside e =
       let kept = set-kept table cells (i * n + j) x inside e in
       let after = set cells (i * n + j) x in
@@ -254,7 +255,8 @@ module _ (n : ℕ) (table cells : List ℕ) (filled : Filled) (generators : List
         }
 
     -- and the next that is not known is to be made.
-    pub filling-next : (wider : Filled) (after : List ℕ) → WidenedTo n cells more (set generators m j) (m + 1) after wider → (next : ℕ) → NextUnknown wider (j + 1) n next
+    pub filling-next : (wider : Filled) (after : List ℕ) → WidenedTo n cells more (set generators m j) (m + 1) after wider → (next : ℕ)
+        → NextUnknown wider (j + 1) n next
         → Filling n table after wider (set generators m j) (m + 1) 0 next
     filling-next wider after D next N =
         let (S, kept) = D .1 table filling-widens in

@@ -22,9 +22,9 @@ enum-told c = search needs
 returns : tie.Need-returns
 returns c =
     let a = c .before .before .before .before .args in
-    let items = itemsOf (a .n) (a .bytes .now) in
+    let items = itemsOf (a .edition) (a .n) (a .bytes .now) in
     let outside = sym (c .before .before .mul .ensures) ∙ c .enum-told .given .1 in
-    sym (items-count (a .n) (a .bytes .now)) ∙ ap (productAt (a .c) items) (sym outside)
+    sym (items-count (a .edition) (a .n) (a .bytes .now)) ∙ ap (productAt (a .c) items) (sym outside)
 
 listed-at-requires : tie.Need-listed-at-requires
 listed-at-requires c κs = search needs
@@ -33,7 +33,7 @@ returns-2 : tie.Need-returns-2
 returns-2 c =
     let a = c .before .before .before .before .before .before .args in
     let inside = sym (c .before .before .h .given .1) ∙ c .before .before .before .before .mul .ensures in
-    c .listed-at .ensures ∙ ap (productAt (a .c) (itemsOf (a .n) (a .bytes .now))) inside
+    c .listed-at .ensures ∙ ap (productAt (a .c) (itemsOf (a .edition) (a .n) (a .bytes .now))) inside
 
 pub product-at-spec : {M : Type 1} → statement M
 product-at-spec =
