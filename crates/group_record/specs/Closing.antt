@@ -11,15 +11,18 @@ use lib.Dec.{ltb}
 use borrow.Author.Tests.{lt-ltb, le-ltb, ltb-true}
 use lib.ListN.{length, getD, drop, set, replicate, length-map, length-set, getD-replicate, List·getD-map}
 use lib.Seq.{getD-set-same, getD-set-other}
-use Rattle.laws.specs.Motion.{SpaceMotion, compose, compose-identity}
+use lib.IntN.{one}
+use Rattle.laws.specs.Matrix.{times, plus, act}
+use Rattle.laws.specs.Residue.{residue}
+use Rattle.laws.specs.Motion.{SpaceMotion, product, compose, compose-identity}
 use Rattle.laws.specs.Distinct.{has}
 use Rattle.laws.specs.Growth.{place}
 use Rattle.laws.specs.GrowthClosure.{place-test, place-same, true-T, T-true}
 use Rattle.laws.specs.Lattice.{all}
 use Rattle.operation.specs.Composed.{identity-motion, product-inside}
 use Rattle.operation.specs.Entries.{Entries}
-use Rattle.operation.specs.Meaning.{matrixOf, vectorOf, motionOf}
-use Rattle.operation.specs.Product.{identityOperation, productOf}
+use Rattle.operation.specs.Meaning.{matrixOf, vectorOf, motionOf, allInside, rowInside, inside, entryOf, digitOf, digitAbove}
+use Rattle.operation.specs.Product.{identityOperation, operationOf, productOf}
 use Rattle.operation.specs.declared.Operation.{Operation}
 use Rattle.operation.specs.declared.product.Product.{Product}
 use Rattle.operation.specs.declared.product.Product.the-variants.{Inside, Outside}
@@ -39,7 +42,6 @@ use Rattle.group_record.specs.Items.{item-at}
 use Rattle.group_record.specs.BothEditions.{editionOf, widthIn}
 use Rattle.group_record.specs.Search.{itemsOf, itemAt}
 use Rattle.group_record.specs.declared.Edition.{Edition as Known}
-use Rattle.group_record.specs.declared.allowed.Reached.{Reached}
 
 -- ---- what is found
 -- The operations of n items.
@@ -83,31 +85,29 @@ pub record Made (c : Centering) (l : List Operation) (g : Operation) (at : ℕ) 
 abbrev pub Stored : Centering → List Operation → List ℕ → ℕ → Type 0
 Stored c l columns stored = (s : ℕ) → s < stored → (g : Operation) × ColumnOf c l g columns (48 * s)
 
--- With what was reached as right factor every product is listed.
-pub record Sound (c : Centering) (l : List Operation) (reached : Reached) : Type 0 where
-  pub wide : length (reached .members) ≡ 48
-  pub few : reached .count ≤ 48
-  pub member : (t : ℕ) → t < reached .count → (getD (reached .members) t 0 < length l) × Right c l (listedAt l (getD (reached .members) t 0))
-  pub sure : (k : ℕ) → k < length l → getD (reached .known) k false ≡ true → Right c l (listedAt l k)
+-- With what was reached as right factor every product is listed: the members, and what is known.
+pub record Sound (c : Centering) (l : List Operation) (known members : List ℕ) (count : ℕ) : Type 0 where
+  pub broad : length known ≡ 48
+  pub wide : length members ≡ 48
+  pub few : count ≤ 48
+  pub member : (t : ℕ) → t < count → (getD members t 0 < length l) × Right c l (listedAt l (getD members t 0))
+  pub sure : (k : ℕ) → k < length l → getD known k 0 ≡ 1 → Right c l (listedAt l k)
 
 -- What widening starts from.
-pub record Widening (c : Centering) (l : List Operation) (reached : Reached) (columns : List ℕ) (stored : ℕ) : Type 0 where
+pub record Widening (c : Centering) (l : List Operation) (known members : List ℕ) (count : ℕ) (columns : List ℕ) (stored : ℕ) : Type 0 where
   pub short : length l ≤ 48
   pub into : KeepsInto c l
-  pub sound : Sound c l reached
-  pub narrow : stored ≤ 8
+  pub sound : Sound c l known members count
+  pub narrow : stored ≤ 5
   pub made : Stored c l columns stored
 
 -- For some listed operations it starts so, and for all such it ends so.
-abbrev pub Widenable : Reached → List ℕ → ℕ → Type 0
-Widenable reached columns stored = (c : Centering) × (l : List Operation) × Widening c l reached columns stored
+abbrev pub Widenable : List ℕ → List ℕ → ℕ → List ℕ → ℕ → Type 0
+Widenable known members count columns stored = (c : Centering) × (l : List Operation) × Widening c l known members count columns stored
 
-abbrev pub WidenedTo : Reached → List ℕ → ℕ → Reached → Type 0
-WidenedTo reached columns stored wider = (c : Centering) (l : List Operation) → Widening c l reached columns stored → Sound c l wider
-
--- One operation alone.
-abbrev pub onlyOne : ℕ → Reached
-onlyOne e = record { known = set (replicate 48 false) e true; members = set (replicate 48 0) 0 e; count = 1 }
+abbrev pub WidenedTo : List ℕ → List ℕ → ℕ → List ℕ → ℕ → List ℕ → List ℕ → ℕ → Type 0
+WidenedTo known members count columns stored wider more reached =
+    (c : Centering) (l : List Operation) → Widening c l known members count columns stored → Sound c l wider more reached
 
 -- ---- the search for an item
 -- The listed operation at an index is that of the item there.
@@ -250,38 +250,45 @@ reaches c l into p g columns at h R column =
     let (low, alike) = column p h in
     (low, right-times c l into (listedAt l p) g (listedAt l (getD columns (at + p) 0)) R (column-right c l g columns at column) alike)
 
-pub only-sound : (c : Centering) (l : List Operation) (e : ℕ) → length l ≤ 48 → e < length l → Right c l (listedAt l e) → Sound c l (onlyOne e)
+-- One operation alone,
+pub only-sound : (c : Centering) (l : List Operation) (e : ℕ) → length l ≤ 48 → e < length l → Right c l (listedAt l e)
+    → Sound c l (set (replicate 48 0) e 1) (set (replicate 48 0) 0 e) 1
 only-sound c l e few h R =
     record {
+      broad = length-set {A = ℕ} (replicate 48 0) e 1;
       wide = length-set {A = ℕ} (replicate 48 0) 0 e;
       few = omega arith;
       member = λ t lt. let first : t ≡ 0 = omega arith in rw first (h, R);
-      sure = λ k lt known. elim (ℕ-discrete k e) [
+      sure = λ k lt is. elim (ℕ-discrete k e) [
         | yes q ↦ rw q R
-        | no q ↦
-            absurd (true≢false (sym known ∙ getD-set-other (replicate 48 false) e k true false q ∙ getD-replicate 48 k false false (omega arith)))
+        | no q ↦ absurd (omega (arith, is, getD-set-other {A = ℕ} (replicate 48 0) e k 1 0 q, getD-replicate {A = ℕ} 48 k 0 0 (omega arith)))
       ];
     }
 
--- One more is reached.
-pub sound-next : (c : Centering) (l : List Operation) (reached : Reached) (q : ℕ) → Sound c l reached → reached .count < 48 → q < length l
-    → Right c l (listedAt l q)
-    → Sound c l (record { known = set (reached .known) q true; members = set (reached .members) (reached .count) q; count = reached .count + 1 })
-sound-next c l reached q S room h R =
+-- and one more that is reached.
+pub sound-next : (c : Centering) (l : List Operation) (known members : List ℕ) (count q : ℕ) → Sound c l known members count → count < 48 → q < length l
+    → Right c l (listedAt l q) → Sound c l (set known q 1) (set members count q) (count + 1)
+sound-next c l known members count q S room h R =
     record {
-      wide = length-set (reached .members) (reached .count) q ∙ S .wide;
+      broad = length-set known q 1 ∙ S .broad;
+      wide = length-set members count q ∙ S .wide;
       few = omega arith;
-      member = λ t lt. elim (ℕ-discrete t (reached .count)) [
-        | yes e ↦ rw (e, getD-set-same (reached .members) (reached .count) q 0 (omega (arith, S .wide))) (h, R)
-        | no e ↦ rw (getD-set-other (reached .members) (reached .count) t q 0 e) (S .member t (omega arith))
+      member = λ t lt. elim (ℕ-discrete t count) [
+        | yes e ↦ rw (e, getD-set-same members count q 0 (omega (arith, S .wide))) (h, R)
+        | no e ↦ rw (getD-set-other members count t q 0 e) (S .member t (omega arith))
       ];
-      sure = λ k lt known. elim (ℕ-discrete k q) [
+      sure = λ k lt is. elim (ℕ-discrete k q) [
         | yes e ↦ rw e R
-        | no e ↦ S .sure k lt (sym (getD-set-other (reached .known) q k true false e) ∙ known)
+        | no e ↦ S .sure k lt (sym (getD-set-other known q k 1 0 e) ∙ is)
       ];
     }
 
 -- ---- the decision
+-- The identity's square is the identity.
+identity-square : productOf identityOperation identityOperation ≡ Inside identityOperation
+unfolding productOf operationOf motionOf allInside rowInside inside product times matrixOf entryOf one digitOf residue digitAbove plus act vectorOf
+identity-square = refl
+
 module _ (c : Centering) (items : List Item) where
   -- Every product is listed.
   abbrev AllListed : Type 0
@@ -303,11 +310,15 @@ module _ (c : Centering) (items : List Item) where
         ),
   )
 
-  -- A rotation that does not keep L is not allowed,
+  -- A rotation that does not keep L is not allowed.
   pub lost : all (keepsItem c) items ≡ false → false ≡ isAllowed c items
   lost e = sym (fails (isAllowed c items) allowed-parts (λ (p, q, r). true≢false (sym q ∙ e)))
 
-  -- nor is a list without the identity.
+  -- The identity is sought as its own square.
+  pub unit-place : productAt c items (productOf identityOperation identityOperation) ≡ place (alikeItems c) (itemOf identityOperation) items
+  unit-place = ap (productAt c items) identity-square
+
+  -- A list without it is not allowed.
   pub without-identity : (e : ℕ) → e ≡ place (alikeItems c) (itemOf identityOperation) items → length items ≤ e → false ≡ isAllowed c items
   without-identity e at far =
       sym (fails (isAllowed c items) allowed-parts (λ (p, q, r).

@@ -10,7 +10,7 @@ ghost use Rattle.group_record.specs.Record.{itemOf};
 ghost use Rattle.group_record.specs.Reading.{operationOfItem, alikeItems, keepsItem, isAllowed};
 ghost use Rattle.group_record.specs.ReadingTests.{GoodItems};
 ghost use Rattle.group_record.specs.Criterion.{Right, KeepsInto};
-ghost use Rattle.group_record.specs.Closing.{operationsOf, listedAt, productAt, Decides, Made, Widenable, WidenedTo, onlyOne};
+ghost use Rattle.group_record.specs.Closing.{operationsOf, listedAt, productAt, Decides, Made, Widenable, WidenedTo};
 ghost use Rattle.group_record.specs.Search.{itemsOf, itemAt};
 use super::Edition;
 use super::items::item_at;
@@ -23,13 +23,6 @@ use operation::product::Product;
 use operation::product::identity;
 use operation::product::mul;
 
-// Right factors with which every product is listed: which they are, and the same in the order in which they were reached.
-struct Reached {
-    known: [bool; 48],
-    members: [u8; 48],
-    count: usize,
-}
-
 // Every rotation keeps the lattice, the identity is listed, and so is every product.
 pub(crate) fn is_allowed(bytes: &[u8], edition: Edition, c: Centering, n: usize) -> bool
     requires { ⌜ (n ≤ 48) × (widthIn edition * n ≤ length (now bytes)) × GoodItems c (itemsOf edition n (now bytes)) ⌝ }
@@ -38,7 +31,7 @@ pub(crate) fn is_allowed(bytes: &[u8], edition: Edition, c: Centering, n: usize)
     if !all_keep(bytes, edition, c, n) {
         return false;
     }
-    let e = listed_at(bytes, edition, c, n, identity());
+    let e = product_at(bytes, edition, c, n, identity(), identity());
     if n <= e {
         return false;
     }
@@ -67,13 +60,16 @@ fn every_product(bytes: &[u8], edition: Edition, c: Centering, n: usize, e: usiz
         × Right c (operationsOf edition n (now bytes)) (listedAt (operationsOf edition n (now bytes)) e) ⌝ }
     ensures { λ r. ⌜ Decides c (operationsOf edition n (now (bytes .entry))) n r ⌝ }
 {
-    let mut columns = [0u8; 384];
+    let mut columns = [0u8; 240];
     let mut stored = 0usize;
-    let mut reached = only(e);
+    let mut known = [0u8; 48];
+    known[e] = 1;
+    let mut members = [0u8; 48];
+    members[0] = e as u8;
+    let mut count = 1usize;
     let mut j = 0usize;
     while j < n {
-        let known = reached.known;
-        if known[j] {
+        if known[j] == 1 {
             j += 1;
             continue;
         }
@@ -82,36 +78,21 @@ fn every_product(bytes: &[u8], edition: Edition, c: Centering, n: usize, e: usiz
             return false;
         }
         stored = slot + 1;
-        reached = widened(reached, &columns, stored);
+        count = widen(&mut known, &mut members, count, &columns, stored);
         j += 1;
     }
     true
 }
 
-// Each column of a group at least doubles what is reached, so five are all that 48 operations take; a ninth of something else takes the place of the eighth.
+// A right factor that was not reached at least doubles what is reached of a group, so five columns are all that 48 operations take; a sixth of something
+// else takes the place of the fifth.
 fn next_slot(stored: usize) -> usize
-    ensures { λ r. ⌜ (r ≤ stored) × (r ≤ 7) ⌝ }
+    ensures { λ r. ⌜ (r ≤ stored) × (r ≤ 4) ⌝ }
 {
-    if stored < 8 {
+    if stored < 5 {
         return stored;
     }
-    7
-}
-
-// The operation at an index alone.
-fn only(e: usize) -> Reached
-    requires { ⌜ e < 48 ⌝ }
-    ensures { λ r. ⌜ r ≡ onlyOne e ⌝ }
-{
-    let mut known = [false; 48];
-    known[e] = true;
-    let mut members = [0u8; 48];
-    members[0] = e as u8;
-    Reached {
-        known,
-        members,
-        count: 1,
-    }
+    4
 }
 
 // The indices of the products with the right factor j, from a place on; not so where one of them is not listed.
@@ -124,7 +105,7 @@ fn make_column(
     columns: &mut [u8],
     at: usize,
 ) -> bool
-    requires { ⌜ (n ≤ 48) × (widthIn edition * n ≤ length (now bytes)) × (j < n) × (at + 48 ≤ 384) × (length (now columns) ≡ 384)
+    requires { ⌜ (n ≤ 48) × (widthIn edition * n ≤ length (now bytes)) × (j < n) × (at + 48 ≤ 240) × (length (now columns) ≡ 240)
         × GoodItems c (itemsOf edition n (now bytes)) ⌝ }
     ensures { λ r. ⌜ Made c (operationsOf edition n (now (bytes .entry))) (operationOfItem (itemAt edition (now (bytes .entry)) j)) at
         (now (columns .entry)) (now (columns .exit)) r ⌝ }
@@ -142,17 +123,22 @@ fn make_column(
     true
 }
 
-// What was reached, and all that columns lead to from there.
-fn widened(reached: Reached, columns: &[u8; 384], stored: usize) -> Reached
-    requires { ⌜ Widenable reached (now columns) stored ⌝ }
-    ensures { λ r. ⌜ WidenedTo reached (now (columns .entry)) stored r ⌝ }
+// What was reached, and all that columns lead to from there: noted as known, and as members in the order in which they were reached. The answer is
+// how many they are.
+fn widen(
+    known: &mut [u8],
+    members: &mut [u8],
+    count: usize,
+    columns: &[u8; 240],
+    stored: usize,
+) -> usize
+    requires { ⌜ Widenable (now known) (now members) count (now columns) stored ⌝ }
+    ensures { λ r. ⌜ WidenedTo (now (known .entry)) (now (members .entry)) count (now (columns .entry)) stored (now (known .exit)) (now (members .exit)) r ⌝ }
 {
-    let mut known = reached.known;
-    let mut members = reached.members;
-    let mut count = reached.count;
+    let mut reached = count;
     let mut i = 0usize;
     let mut j = 0usize;
-    while i < count {
+    while i < reached {
         if stored <= j {
             i += 1;
             j = 0;
@@ -161,21 +147,17 @@ fn widened(reached: Reached, columns: &[u8; 384], stored: usize) -> Reached
         let p = members[i] as usize;
         let q = columns[48 * j + p] as usize;
         j += 1;
-        if known[q] {
+        if known[q] == 1 {
             continue;
         }
-        if 48 <= count {
+        if 48 <= reached {
             break;
         }
-        known[q] = true;
-        members[count] = q as u8;
-        count += 1;
+        known[q] = 1;
+        members[reached] = q as u8;
+        reached += 1;
     }
-    Reached {
-        known,
-        members,
-        count,
-    }
+    reached
 }
 
 // The index of the listed operation that is f times g modulo the lattice, or n.
