@@ -1,13 +1,12 @@
 -- A table filled column by column in place: what a filled column is, how far columns are filled, and that a column composed of two is that of their product.
 -- The idea: products associate, so operation i times the product of p and g stands where the product of i and p leads in the column of g.
 use mathlib.Core.Path.{_≡_, refl, sym, _∙_, ap}
-use mathlib.Core.Bool.{true, false, true≢false}
 use mathlib.Core.List.{List, map, _++_}
-use Prim.Native.Nat.{ℕ, zero, suc, _+_, _*_, _/_, _%_, _<_, _≤_}
+use Prim.Native.Nat.{ℕ, _+_, _*_, _/_, _%_, _<_, _≤_}
 use native.Mathlib.Omega.{arith}
 use native.Mathlib.Decide.{ℕ-discrete, decLt}
 use native.Mathlib.Nat.{div-add-mod', div-lt-iff-lt-mul, mod-lt}
-use lib.ListN.{length, getD, set, take, drop, replicate, length-set, take-append-drop}
+use lib.ListN.{length, getD, set, take, drop, replicate, length-set, getD-replicate, take-append-drop}
 use lib.Seq.{getD-set-same, getD-set-other, getD-take, length-take-le, drop-set-lt, ext-getD}
 use Rattle.operation.specs.Meaning.{motionOf}
 use Rattle.operation.specs.declared.Operation.{Operation}
@@ -17,7 +16,6 @@ use Rattle.subgroup_laws.specs.Table.{product}
 use Rattle.group_table.specs.Tables.{tableOf, overlaid}
 use Rattle.group_table.specs.StepTables.{divisor}
 use Rattle.group_table.specs.TableGroups.{group-table}
-use Rattle.group_table.specs.declared.record.Filled.{Filled}
 
 -- ---- what is filled
 -- A table of n rows whose products are indices and associate.
@@ -30,12 +28,13 @@ pub record Products (n : ℕ) (table : List ℕ) : Type 0 where
 abbrev pub Correct : ℕ → List ℕ → List ℕ → ℕ → Type 0
 Correct n table cells j = (j < n) × ((i : ℕ) → i < n → getD cells (i * n + j) 0 ≡ getD table (i * n + j) 0)
 
--- What is said to be filled is.
-pub record Sound (n : ℕ) (table cells : List ℕ) (filled : Filled) : Type 0 where
-  pub wide : length (filled .members) ≡ 48
-  pub few : filled .count ≤ 48
-  pub member : (t : ℕ) → t < filled .count → Correct n table cells (getD (filled .members) t 0)
-  pub sure : (k : ℕ) → k < n → getD (filled .known) k false ≡ true → Correct n table cells k
+-- What is noted as filled is: the members, and what is known.
+pub record Sound (n : ℕ) (table cells known members : List ℕ) (count : ℕ) : Type 0 where
+  pub broad : length known ≡ 48
+  pub wide : length members ≡ 48
+  pub few : count ≤ 48
+  pub member : (t : ℕ) → t < count → Correct n table cells (getD members t 0)
+  pub sure : (k : ℕ) → k < n → getD known k 0 ≡ 1 → Correct n table cells k
 
 -- No cell that was right is lost.
 abbrev pub Kept : List ℕ → List ℕ → List ℕ → Type 0
@@ -46,19 +45,15 @@ pub record Within (n : ℕ) (before after : List ℕ) : Type 0 where
   pub long : length after ≡ length before
   pub behind : drop (n * n) after ≡ drop (n * n) before
 
--- Nothing is filled yet.
-pub record NothingFilled (filled : Filled) : Type 0 where
-  pub wide : length (filled .members) ≡ 48
-  pub none : filled .count ≡ 0
-  pub unknown : (k : ℕ) → getD (filled .known) k false ≡ false
-
--- One column more is said to be filled.
-abbrev pub WithMember : Filled → ℕ → Filled → Type 0
-WithMember filled j more = (n : ℕ) (table cells : List ℕ) → Sound n table cells filled → Correct n table cells j → Sound n table cells more
+-- One column more is noted as filled.
+pub record Noted (known members : List ℕ) (count j : ℕ) (wider more : List ℕ) (next : ℕ) : Type 0 where
+  pub broad : length wider ≡ length known
+  pub wide : length more ≡ length members
+  pub sound : (n : ℕ) (table cells : List ℕ) → Sound n table cells known members count → Correct n table cells j → Sound n table cells wider more next
 
 -- The first column from a place on that is not known, or their count.
-abbrev pub NextUnknown : Filled → ℕ → ℕ → ℕ → Type 0
-NextUnknown filled from n next = (from ≤ next) × (next ≤ n) × ((k : ℕ) → from ≤ k → k < next → getD (filled .known) k false ≡ true)
+abbrev pub NextUnknown : List ℕ → ℕ → ℕ → ℕ → Type 0
+NextUnknown known from n next = (from ≤ next) × (next ≤ n) × ((k : ℕ) → from ≤ k → k < next → getD known k 0 ≡ 1)
 
 -- ---- what goes on from there
 -- The columns of p and g are there, and q is their product.
@@ -77,35 +72,35 @@ abbrev pub ComposedTo : ℕ → List ℕ → ℕ → ℕ → ℕ → List ℕ �
 ComposedTo n cells p g q after = Within n cells after × ((table : List ℕ) → Composing n table cells p g q → Kept table cells after × Correct n table after q)
 
 -- Some columns are there, and among them those of generators.
-pub record Widening (n : ℕ) (table cells : List ℕ) (filled : Filled) (generators : List ℕ) (m : ℕ) : Type 0 where
+pub record Widening (n : ℕ) (table cells known members : List ℕ) (count : ℕ) (generators : List ℕ) (m : ℕ) : Type 0 where
   pub products : Products n table
   pub room : n * n ≤ length cells
-  pub sound : Sound n table cells filled
+  pub sound : Sound n table cells known members count
   pub narrow : m ≤ 48
   pub generator : (s : ℕ) → s < m → Correct n table cells (getD generators s 0)
 
-abbrev pub Widenable : ℕ → List ℕ → Filled → List ℕ → ℕ → Type 0
-Widenable n cells filled generators m = (table : List ℕ) × Widening n table cells filled generators m
+abbrev pub Widenable : ℕ → List ℕ → List ℕ → List ℕ → ℕ → List ℕ → ℕ → Type 0
+Widenable n cells known members count generators m = (table : List ℕ) × Widening n table cells known members count generators m
 
-abbrev pub WidenedTo : ℕ → List ℕ → Filled → List ℕ → ℕ → List ℕ → Filled → Type 0
-WidenedTo n cells filled generators m after wider =
-    Within n cells after × ((table : List ℕ) → Widening n table cells filled generators m → Sound n table after wider × Kept table cells after)
+-- Right cells stay, and as many slots.
+pub record Widened (n : ℕ) (table cells after known members : List ℕ) (count : ℕ) : Type 0 where
+  pub sound : Sound n table after known members count
+  pub kept : Kept table cells after
+
+abbrev pub WidenedTo : ℕ → List ℕ → List ℕ → List ℕ → ℕ → List ℕ → ℕ → List ℕ → List ℕ → List ℕ → ℕ → Type 0
+WidenedTo n cells known members count generators m after wider more filled =
+    Within n cells after × ((table : List ℕ) → Widening n table cells known members count generators m → Widened n table cells after wider more filled)
 
 -- ---- cells on the way
--- Of slots that are all false none is known.
-pub none-known : (n k : ℕ) → getD (replicate n false) k false ≡ false
-none-known zero k = refl
-none-known (suc n) zero = refl
-none-known (suc n) (suc k) = none-known n k
-
--- Nothing filled is sound.
-nothing-sound : (n : ℕ) (table cells : List ℕ) (filled : Filled) → NothingFilled filled → Sound n table cells filled
-nothing-sound n table cells filled N =
+-- Nothing noted is sound.
+nothing-sound : (n : ℕ) (table cells : List ℕ) → n ≤ 48 → Sound n table cells (replicate 48 0) (replicate 48 0) 0
+nothing-sound n table cells few =
     record {
-      wide = N .wide;
-      few = omega (arith, N .none);
-      member = λ t h. absurd (omega (arith, N .none));
-      sure = λ k h known. absurd (true≢false (sym known ∙ N .unknown k));
+      broad = refl;
+      wide = refl;
+      few = omega arith;
+      member = λ t h. absurd (omega arith);
+      sure = λ k h is. absurd (omega (arith, is, getD-replicate {A = ℕ} 48 k 0 0 (omega arith)));
     }
 
 pub within-same : (n : ℕ) (cells : List ℕ) → Within n cells cells
@@ -131,13 +126,14 @@ module _ (table cells : List ℕ) where
     correct-kept k (h, C) = (h, λ i lt. kept (i * n + k) (C i lt))
 
     -- and what was filled is.
-    pub sound-kept : (filled : Filled) → Sound n table cells filled → Sound n table after filled
-    sound-kept filled S =
+    pub sound-kept : (known members : List ℕ) (count : ℕ) → Sound n table cells known members count → Sound n table after known members count
+    sound-kept known members count S =
         record {
+          broad = S .broad;
           wide = S .wide;
           few = S .few;
-          member = λ t h. correct-kept (getD (filled .members) t 0) (S .member t h);
-          sure = λ k h known. correct-kept k (S .sure k h known);
+          member = λ t h. correct-kept (getD members t 0) (S .member t h);
+          sure = λ k h is. correct-kept k (S .sure k h is);
         }
 
 -- One cell more of a column.
@@ -149,20 +145,21 @@ column-next n table cells j i x h inside e before k lt = elim (ℕ-discrete k i)
   | no q ↦ set-kept table cells (i * n + j) x inside e (k * n + j) (before k (omega arith))
 ]
 
--- A column that is filled may be said to be.
-pub sound-next : (n : ℕ) (table cells : List ℕ) (filled : Filled) (q : ℕ) → Sound n table cells filled → Correct n table cells q → filled .count < 48
-    → Sound n table cells (record { known = set (filled .known) q true; members = set (filled .members) (filled .count) q; count = filled .count + 1 })
-sound-next n table cells filled q S C room =
+-- A column that is filled may be noted.
+pub sound-next : (n : ℕ) (table cells known members : List ℕ) (count q : ℕ) → Sound n table cells known members count → Correct n table cells q → count < 48
+    → Sound n table cells (set known q 1) (set members count q) (count + 1)
+sound-next n table cells known members count q S C room =
     record {
-      wide = length-set (filled .members) (filled .count) q ∙ S .wide;
+      broad = length-set known q 1 ∙ S .broad;
+      wide = length-set members count q ∙ S .wide;
       few = omega arith;
-      member = λ t lt. elim (ℕ-discrete t (filled .count)) [
-        | yes e ↦ rw (e, getD-set-same (filled .members) (filled .count) q 0 (omega (arith, S .wide))) C
-        | no e ↦ rw (getD-set-other (filled .members) (filled .count) t q 0 e) (S .member t (omega arith))
+      member = λ t lt. elim (ℕ-discrete t count) [
+        | yes e ↦ rw (e, getD-set-same members count q 0 (omega (arith, S .wide))) C
+        | no e ↦ rw (getD-set-other members count t q 0 e) (S .member t (omega arith))
       ];
-      sure = λ k lt known. elim (ℕ-discrete k q) [
+      sure = λ k lt is. elim (ℕ-discrete k q) [
         | yes e ↦ rw e C
-        | no e ↦ S .sure k lt (sym (getD-set-other (filled .known) q k true false e) ∙ known)
+        | no e ↦ S .sure k lt (sym (getD-set-other known q k 1 0 e) ∙ is)
       ];
     }
 
@@ -205,73 +202,74 @@ module _ (c : Centering) (n : ℕ) (operations : List Operation) (there : n ≤ 
 
 -- ---- all columns
 -- What is filled when the columns before j are, and the first i cells of column j: among all those of generators.
-pub record Filling (n : ℕ) (table cells : List ℕ) (filled : Filled) (generators : List ℕ) (m i j : ℕ) : Type 0 where
-  pub sound : Sound n table cells filled
+pub record Filling (n : ℕ) (table cells known members : List ℕ) (count : ℕ) (generators : List ℕ) (m i j : ℕ) : Type 0 where
+  pub sound : Sound n table cells known members count
   pub generator : (s : ℕ) → s < m → Correct n table cells (getD generators s 0)
   pub before : (k : ℕ) → k < j → Correct n table cells k
   pub begun : (k : ℕ) → k < i → getD cells (k * n + j) 0 ≡ getD table (k * n + j) 0
 
 -- Nothing is at first,
-pub filling-none : (n : ℕ) (table cells : List ℕ) (filled : Filled) (generators : List ℕ) → NothingFilled filled → Filling n table cells filled generators 0 0 0
-filling-none n table cells filled generators N =
+pub filling-none : (n : ℕ) (table cells generators : List ℕ) → n ≤ 48 → Filling n table cells (replicate 48 0) (replicate 48 0) 0 generators 0 0 0
+filling-none n table cells generators few =
     record {
-      sound = nothing-sound n table cells filled N;
+      sound = nothing-sound n table cells few;
       generator = λ s h. absurd (omega arith);
       before = λ k h. absurd (omega arith);
       begun = λ k h. absurd (omega arith);
     }
 
-module _ (n : ℕ) (table cells : List ℕ) (filled : Filled) (generators : List ℕ) (m i j : ℕ) (F : Filling n table cells filled generators m i j) where
+module _ (n : ℕ) (table cells known members : List ℕ) (count : ℕ) (generators : List ℕ) (m i j : ℕ) (F : Filling n table cells known members count generators m i j) where
   -- then cell by cell of a column,
   pub filling-cell : i < n → (x : ℕ) → i * n + j < length cells → x ≡ getD table (i * n + j) 0
-      → Filling n table (set cells (i * n + j) x) filled generators m (i + 1) j
+      → Filling n table (set cells (i * n + j) x) known members count generators m (i + 1) j
   filling-cell h x inside e =
       let kept = set-kept table cells (i * n + j) x inside e in
       let after = set cells (i * n + j) x in
       record {
-        sound = sound-kept table cells n after kept filled (F .sound);
+        sound = sound-kept table cells n after kept known members count (F .sound);
         generator = λ s lt. correct-kept table cells n after kept (getD generators s 0) (F .generator s lt);
         before = λ k lt. correct-kept table cells n after kept k (F .before k lt);
         begun = column-next n table cells j i x h inside e (F .begun);
       }
 
   -- which is filled at its end;
-  pub filling-column : j < n → n ≤ i → Correct n table cells j
+  filling-column : j < n → n ≤ i → Correct n table cells j
   filling-column h all = (h, λ k lt. F .begun k (omega arith))
 
   -- by it others are,
-  module _ (P : Products n table) (room : n * n ≤ length cells) (long : length generators ≡ 48) (short : m < 48) (h : j < n) (all : n ≤ i) (more : Filled) (W : WithMember filled j more) where
-    pub filling-widens : Widening n table cells more (set generators m j) (m + 1)
-    filling-widens =
-        record {
-          products = P;
-          room = room;
-          sound = W n table cells (F .sound) (filling-column h all);
-          narrow = omega arith;
-          generator = λ s lt. elim (ℕ-discrete s m) [
-            | yes e ↦ rw (e, getD-set-same generators m j 0 (omega (arith, long))) (filling-column h all)
-            | no e ↦ rw (getD-set-other generators m s j 0 e) (F .generator s (omega arith))
-          ];
-        }
+  module _ (P : Products n table) (room : n * n ≤ length cells) (long : length generators ≡ 48) (short : m < 48) (h : j < n) (all : n ≤ i) where
+    module _ (noted-known noted-members : List ℕ) (noted : ℕ) (N : Noted known members count j noted-known noted-members noted) where
+      pub filling-widens : Widening n table cells noted-known noted-members noted (set generators m j) (m + 1)
+      filling-widens =
+          record {
+            products = P;
+            room = room;
+            sound = N .sound n table cells (F .sound) (filling-column h all);
+            narrow = omega arith;
+            generator = λ s lt. elim (ℕ-discrete s m) [
+              | yes e ↦ rw (e, getD-set-same generators m j 0 (omega (arith, long))) (filling-column h all)
+              | no e ↦ rw (getD-set-other generators m s j 0 e) (F .generator s (omega arith))
+            ];
+          }
 
-    -- and the next that is not known is to be made.
-    pub filling-next : (wider : Filled) (after : List ℕ) → WidenedTo n cells more (set generators m j) (m + 1) after wider → (next : ℕ)
-        → NextUnknown wider (j + 1) n next
-        → Filling n table after wider (set generators m j) (m + 1) 0 next
-    filling-next wider after D next N =
-        let (S, kept) = D .1 table filling-widens in
-        record {
-          sound = S;
-          generator = λ s lt. correct-kept table cells n after kept (getD (set generators m j) s 0) (filling-widens .generator s lt);
-          before = λ k lt. elim (ℕ-discrete k j) [
-            | yes e ↦ rw e (correct-kept table cells n after kept j (filling-column h all))
-            | no e ↦ elim (decLt k j) [
-              | yes l ↦ correct-kept table cells n after kept k (F .before k l)
-              | no l ↦ S .sure k (omega (arith, N .1)) (N .2 k (omega arith) lt)
-            ]
-          ];
-          begun = λ k lt. absurd (omega arith);
-        }
+      -- and the next that is not known is to be made.
+      pub filling-next : (after wider more : List ℕ) (filled : ℕ) → WidenedTo n cells noted-known noted-members noted (set generators m j) (m + 1) after wider more filled
+          → (next : ℕ) → NextUnknown wider (j + 1) n next → Filling n table after wider more filled (set generators m j) (m + 1) 0 next
+      filling-next after wider more filled D next U =
+          let W = D .1 table filling-widens in
+          let kept = W .kept in
+          record {
+            sound = W .sound;
+            generator = λ s lt. correct-kept table cells n after kept (getD (set generators m j) s 0) (filling-widens .generator s lt);
+            before = λ k lt. elim (ℕ-discrete k j) [
+              | yes e ↦ rw e (correct-kept table cells n after kept j (filling-column h all))
+              | no e ↦ elim (decLt k j) [
+                | yes l ↦ correct-kept table cells n after kept k (F .before k l)
+                | no l ↦ W .sound .sure k (omega (arith, U .1)) (U .2 k (omega arith) lt)
+              ]
+            ];
+            begun = λ k lt. absurd (omega arith);
+          }
 
 -- When every column is filled, the cells are the table.
 pub all-filled : (n : ℕ) (table lent cells : List ℕ) → length table ≡ n * n → n * n ≤ length lent → Within n lent cells

@@ -1,6 +1,5 @@
 -- The invariant: all columns passed are known.
 use mathlib.Core.Path.{_≡_}
-use mathlib.Core.Bool.{true, false}
 use Prim.Native.Nat.{ℕ, _-_, _≤_, _<_}
 use native.Mathlib.Decide.{ℕ-discrete}
 use native.Mathlib.Omega.{arith}
@@ -11,19 +10,19 @@ use Rattle.group_table.proofs.record.next_unknown.Reads as reads
 use Rattle.group_table.proofs.record.next_unknown.Lts as lts
 
 abbrev Inv-loop : tie.InvT-loop
-Inv-loop from n known j₀ j = (from ≤ j) × (j ≤ n) × ((k : ℕ) → from ≤ k → k < j → getD known k false ≡ true)
+Inv-loop known from n j₀ j = (from ≤ j) × (j ≤ n) × ((k : ℕ) → from ≤ k → k < j → getD known k 0 ≡ 1)
 
 abbrev μ-loop : tie.MeasureT-loop
-μ-loop from n known j₀ j = n - j
+μ-loop known from n j₀ j = n - j
 
 loop-holds : tie.Need-loop-holds Inv-loop μ-loop
-loop-holds c = (omega arith, omega (arith, c .before .pre .0), λ k h lt. absurd (omega arith))
+loop-holds c = (omega arith, omega (arith, c .pre .0), λ k h lt. absurd (omega arith))
 
-array-read-if1 : tie.Need-array-read-if1 Inv-loop μ-loop
-array-read-if1 c = omega (arith, c .before .before .before .pre .1)
+element-copy-out-if1 : tie.Need-element-copy-out-if1 Inv-loop μ-loop
+element-copy-out-if1 c = omega (arith, c .before .before .pre .1)
 
 returns : tie.Need-returns Inv-loop μ-loop
-returns c = c .before .before .loop .inv
+returns c = c .before .before .before .loop .inv
 
 add-j : tie.Need-add-j Inv-loop μ-loop
 add-j c = omega (arith, c .before .before .before .before .pre .1)
@@ -33,7 +32,7 @@ loop-less c = omega arith
 
 loop-again : tie.Need-loop-again Inv-loop μ-loop
 loop-again c =
-    let l = c .before .before .loop in (
+    let l = c .before .before .before .loop in (
       omega arith,
       omega arith,
       λ k h lt. elim (ℕ-discrete k (l .j)) [
@@ -52,7 +51,7 @@ next-unknown-spec =
     Inv-loop
     μ-loop
     loop-holds
-    array-read-if1
+    element-copy-out-if1
     add-j
     loop-less
     loop-again
