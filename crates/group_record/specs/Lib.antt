@@ -22,6 +22,7 @@ pub mod ReadingTests
 pub mod Outcomes
 pub mod Converse
 pub mod Criterion
+pub mod Closing
 pub mod Acceptance
 pub mod RoundTrips
 pub mod AcceptedSymbols

@@ -136,12 +136,12 @@ form-good c l F =
 
 -- ---- the group
 -- A vector's class modulo L goes by its residues.
-congruent-residues : (c : Centering) (u v w : Vector) → reduced u ≡ reduced v → Congruent (pointsOf c) v w → Congruent (pointsOf c) u w
+pub congruent-residues : (c : Centering) (u v w : Vector) → reduced u ≡ reduced v → Congruent (pointsOf c) v w → Congruent (pointsOf c) u w
 congruent-residues c u v w e m =
     mem-cast (reduced-plus u (opposite w) ∙ ap (λ t. t ⊕ reduced (opposite w)) e ∙ sym (reduced-plus v (opposite w))) m
 
 -- Two items are alike exactly if their codes are equal and their translations differ by a vector of L.
-alike-test : (c : Centering) (f g : Operation) → (alikeItems c (itemOf f) (itemOf g) ≡ true) ↔ ((codeOf (f .rotation) ≡ codeOf (g .rotation)) × Congruent (pointsOf c) (vectorOf (f .translation)) (vectorOf (g .translation)))
+pub alike-test : (c : Centering) (f g : Operation) → (alikeItems c (itemOf f) (itemOf g) ≡ true) ↔ ((codeOf (f .rotation) ≡ codeOf (g .rotation)) × Congruent (pointsOf c) (vectorOf (f .translation)) (vectorOf (g .translation)))
 unfolding alikeItems
 alike-test c f g = (
   (λ e.
@@ -166,7 +166,7 @@ unfolding productOf
 product-within f g inside = rw (all-entries (compose (motionOf f) (motionOf g) .rotation) .1 inside)
 
 -- A product is listed exactly if the composed motion is, modulo L.
-product-test : (c : Centering) (l : List Operation) → ((f : Operation) → Mem f l → Entries (matrixOf (f .rotation))) → (f g : Operation) → (productListed c (map itemOf l) (productOf f g) ≡ true) ↔ ((h : Operation) × Mem h l × Alike c (compose (motionOf f) (motionOf g)) (motionOf h))
+pub product-test : (c : Centering) (l : List Operation) → ((f : Operation) → Mem f l → Entries (matrixOf (f .rotation))) → (f g : Operation) → (productListed c (map itemOf l) (productOf f g) ≡ true) ↔ ((h : Operation) × Mem h l × Alike c (compose (motionOf f) (motionOf g)) (motionOf h))
 unfolding motionOf
 product-test c l entries f g = (λ e. forth (productOf f g) refl e, back)
   where

@@ -8,12 +8,10 @@ use native.Mathlib.Numerals.{add-one}
 use borrow.Author.Tests.{lt-ltb, le-ltb, eq-eqb, ne-eqb}
 use lib.ListN.{length, getD, take, drop, set, replicate, length-map, length-append, length-replicate}
 use lib.Seq.{drop-cons, drop-length, getD-drop, take-suc, take-length, set-at, length-take-le}
-use Rattle.laws.specs.Distinct.{has}
 use Rattle.laws.specs.Lattice.{all}
 use Rattle.laws.specs.Sorted.{ascending}
-use Rattle.operation.specs.Product.{identityOperation, productOf}
+use Rattle.operation.specs.Product.{identityOperation}
 use Rattle.operation.specs.declared.Operation.{Operation}
-use Rattle.operation.specs.declared.product.Product.{Product}
 use Rattle.centering.specs.Keeps.{keepsOf}
 use Rattle.centering.specs.Letters.{letterOf}
 use Rattle.centering.specs.declared.Centering.{Centering}
@@ -27,7 +25,7 @@ use Rattle.group_record.specs.FirstEdition.{itemIn}
 use Rattle.group_record.specs.ThirdEdition.{fourByteNumber}
 use Rattle.group_record.specs.Rules.{refused, holds, lengthFits, areGood, itemsTold, lastItems, countedTold, letteredTold, editionTold, toldBy}
 use Rattle.group_record.specs.Outcomes.{length-test}
-use Rattle.group_record.specs.Reading.{operationOfItem, itemBefore, slots, areItems, keepsItem, productListed, pairListed, memberAllowed, letterIn, firstRules, bothRules, groupOf, firstGroupOf, readOf, readFirstOf, refusedGroup}
+use Rattle.group_record.specs.Reading.{operationOfItem, itemBefore, slots, areItems, keepsItem, letterIn, firstRules, bothRules, groupOf, firstGroupOf, readOf, readFirstOf, refusedGroup}
 use Rattle.group_record.specs.declared.Edition.{Edition as Known}
 use Rattle.group_record.specs.declared.Edition.the-variants.{First, Third}
 use Rattle.group_record.specs.declared.RecordGroup.{RecordGroup}
@@ -72,20 +70,6 @@ module _ (edition : Known) (n : ℕ) (bytes : List ℕ) where
     pub all-end : (i : ℕ) → n ≤ i → i ≤ n → all test (drop i (itemsOf edition n bytes)) ≡ true
     unfolding all
     all-end i h k = rw (none-left i h k)
-
-  -- A search for an item: it goes on, finds, or ends.
-  module _ (same : Item → Item → Bool) (wanted : Item) where
-    pub has-next : (i : ℕ) → i < n → same wanted (itemAt edition bytes i) ≡ false → has same wanted (drop i (itemsOf edition n bytes)) ≡ has same wanted (drop (i + 1) (itemsOf edition n bytes))
-    unfolding has
-    has-next i h e = rw (next-item i h, e)
-
-    pub has-stop : (i : ℕ) → i < n → same wanted (itemAt edition bytes i) ≡ true → has same wanted (drop i (itemsOf edition n bytes)) ≡ true
-    unfolding has
-    has-stop i h e = rw (next-item i h, e)
-
-    pub has-end : (i : ℕ) → n ≤ i → i ≤ n → has same wanted (drop i (itemsOf edition n bytes)) ≡ false
-    unfolding has
-    has-end i h k = rw (none-left i h k)
 
   -- The order of neighbours: it goes on, fails, or is done with the last item.
   pub ascending-next : (i : ℕ) → i + 1 < n → itemBefore (itemAt edition bytes i) (itemAt edition bytes (i + 1)) ≡ true → ascending itemBefore (drop i (itemsOf edition n bytes)) ≡ ascending itemBefore (drop (i + 1) (itemsOf edition n bytes))
@@ -151,24 +135,10 @@ third-item-bytes bytes at =
     rw (getD-drop at bytes 0 0, getD-drop at bytes 1 0, getD-drop at bytes 2 0, getD-drop at bytes 3 0, first)
 
 -- ---- a member of the group
-module _ (c : Centering) (items : List Item) (i : Item) where
-  -- What the code's answers say of it.
-  pub kept-item : (f : Operation) (b : Bool) → f ≡ operationOfItem i → b ≡ keepsOf c (f .rotation) → keepsItem c i ≡ b
-  unfolding keepsItem
-  kept-item f b e k = ap (λ (g : Operation). keepsOf c (g .rotation)) (sym e) ∙ sym k
-
-  pub listed-pair : (j : Item) (f g : Operation) (p : Product) (b : Bool) → f ≡ operationOfItem i → g ≡ operationOfItem j → p ≡ productOf f g → b ≡ productListed c items p → pairListed c items i j ≡ b
-  unfolding pairListed
-  listed-pair j f g p b e h q k = ap₂ (λ (x y : Operation). productListed c items (productOf x y)) (sym e) (sym h) ∙ ap (productListed c items) (sym q) ∙ sym k
-
-  -- Where its rotation keeps the lattice, its products decide; where not, it is refused.
-  pub member-kept : keepsItem c i ≡ true → memberAllowed c items i ≡ all (pairListed c items i) items
-  unfolding memberAllowed
-  member-kept e = rw e
-
-  pub member-lost : keepsItem c i ≡ false → memberAllowed c items i ≡ false
-  unfolding memberAllowed
-  member-lost e = rw e
+-- What the code's answers say of it.
+pub kept-item : (c : Centering) (i : Item) (f : Operation) (b : Bool) → f ≡ operationOfItem i → b ≡ keepsOf c (f .rotation) → keepsItem c i ≡ b
+unfolding keepsItem
+kept-item c i f b e k = ap (λ (g : Operation). keepsOf c (g .rotation)) (sym e) ∙ sym k
 
 -- ---- the trailer
 -- What the items tell,

@@ -1,34 +1,29 @@
 // Reading a record: the rules of refusals 30 to 35, in order, tried on the bytes as they stand.
 ghost use mathlib.Core.Path.{_≡_};
-ghost use Prim.Native.Nat.{_+_, _*_, _≤_, _<_};
+ghost use Prim.Native.Nat.{_+_, _*_, _≤_};
 ghost use lib.ListN.{length, drop};
-ghost use Rattle.laws.specs.Distinct.{has};
 ghost use Rattle.laws.specs.Lattice.{all, sameTriple};
 ghost use Rattle.laws.specs.Sorted.{ascending};
 ghost use Rattle.centering.specs.Letters.{letterOf};
 ghost use Rattle.centering.specs.Lattices.{tripleOf};
-ghost use Rattle.group_record.specs.Reading.{isItem, itemBefore, areItems, alikeItems, productListed, memberAllowed, isAllowed, readOf, readFirstOf};
+ghost use Rattle.group_record.specs.Reading.{isItem, itemBefore, areItems, readOf, readFirstOf};
 ghost use Rattle.group_record.specs.Editions.{fromEnd};
 ghost use Rattle.group_record.specs.BothEditions.{widthIn};
 ghost use Rattle.group_record.specs.Rules.{lengthFits};
-ghost use Rattle.group_record.specs.Record.{itemOf};
 ghost use Rattle.group_record.specs.Search.{itemsOf, itemAt, readCounted, readLettered};
 ghost use Rattle.group_record.specs.Found.{nothingFound, laidOut, Stands};
 use super::Edition;
 use super::Reading;
 use super::RecordGroup;
 use super::Refusal;
+use super::allowed::is_allowed;
 use super::items::item_at;
 use super::items::items_length;
 use super::items::operation_at;
 use centering::Centering;
 use centering::Letter;
-use operation::Operation;
 use operation::Translation;
-use operation::code::rotation_code;
-use operation::product::Product;
 use operation::product::identity;
-use operation::product::mul;
 
 // What is found at a buffer's end: the answer, and of a record that is accepted the edition, the letter, the count and the place of its first item.
 struct Found {
@@ -231,93 +226,6 @@ fn codes_ascend(bytes: &[u8], edition: Edition, n: usize) -> bool
         i += 1;
     }
     true
-}
-
-// The identity is listed, and every member is as `member_allowed` says.
-fn is_allowed(bytes: &[u8], edition: Edition, c: Centering, n: usize) -> bool
-    requires { ⌜ (n ≤ 48) × (widthIn edition * n ≤ length (now bytes)) ⌝ }
-    ensures { λ r. ⌜ r ≡ isAllowed c (itemsOf edition n (now (bytes .entry))) ⌝ }
-{
-    if !is_listed(bytes, edition, c, n, identity()) {
-        return false;
-    }
-    members_allowed(bytes, edition, c, n)
-}
-
-fn members_allowed(bytes: &[u8], edition: Edition, c: Centering, n: usize) -> bool
-    requires { ⌜ (n ≤ 48) × (widthIn edition * n ≤ length (now bytes)) ⌝ }
-    ensures { λ r. ⌜ r ≡ all (memberAllowed c (itemsOf edition n (now (bytes .entry)))) (itemsOf edition n (now (bytes .entry))) ⌝ }
-{
-    let mut i = 0usize;
-    while i < n {
-        if !member_allowed(bytes, edition, c, n, i) {
-            return false;
-        }
-        i += 1;
-    }
-    true
-}
-
-// The rotation maps the lattice onto itself, and each product with this left factor is listed.
-fn member_allowed(bytes: &[u8], edition: Edition, c: Centering, n: usize, i: usize) -> bool
-    requires { ⌜ (n ≤ 48) × (widthIn edition * n ≤ length (now bytes)) × (i < n) ⌝ }
-    ensures { λ r. ⌜ r ≡ memberAllowed c (itemsOf edition n (now (bytes .entry))) (itemAt edition (now (bytes .entry)) i) ⌝ }
-{
-    let f = operation_at(bytes, edition, i);
-    if !c.keeps(f.rotation) {
-        return false;
-    }
-    let mut j = 0usize;
-    while j < n {
-        if !product_listed(
-            bytes,
-            edition,
-            c,
-            n,
-            mul(f, operation_at(bytes, edition, j)),
-        ) {
-            return false;
-        }
-        j += 1;
-    }
-    true
-}
-
-fn product_listed(bytes: &[u8], edition: Edition, c: Centering, n: usize, product: Product) -> bool
-    requires { ⌜ (n ≤ 48) × (widthIn edition * n ≤ length (now bytes)) ⌝ }
-    ensures { λ r. ⌜ r ≡ productListed c (itemsOf edition n (now (bytes .entry))) product ⌝ }
-{
-    match product {
-        Product::Inside(h) => is_listed(bytes, edition, c, n, h),
-        Product::Outside => false,
-    }
-}
-
-// An operation with this rotation is listed, and its translation differs by a vector of the lattice.
-fn is_listed(bytes: &[u8], edition: Edition, c: Centering, n: usize, f: Operation) -> bool
-    requires { ⌜ (n ≤ 48) × (widthIn edition * n ≤ length (now bytes)) ⌝ }
-    ensures { λ r. ⌜ r ≡ has (alikeItems c) (itemOf f) (itemsOf edition n (now (bytes .entry))) ⌝ }
-{
-    let code = rotation_code(f.rotation);
-    let mut i = 0usize;
-    while i < n {
-        if alike(bytes, edition, c, i, code, f.translation) {
-            return true;
-        }
-        i += 1;
-    }
-    false
-}
-
-fn alike(bytes: &[u8], edition: Edition, c: Centering, i: usize, code: u32, t: Translation) -> bool
-    requires { ⌜ widthIn edition * i + widthIn edition ≤ length (now bytes) ⌝ }
-    ensures { λ r. ⌜ r ≡ alikeItems c (record { code = code; translation = t }) (itemAt edition (now (bytes .entry)) i) ⌝ }
-{
-    let item = item_at(bytes, edition, i);
-    if code != item.code {
-        return false;
-    }
-    c.congruent(t, item.translation)
 }
 
 fn laid_out(bytes: &[u8], answer: Reading, edition: Edition, c: Centering, n: usize) -> RecordGroup

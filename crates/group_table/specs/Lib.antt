@@ -2,7 +2,7 @@
 pub mod Tables
 pub mod TableLaws
 pub mod Overlay
--- A record's table, by a search for each product.
+-- A record's table: its products are found by their codes.
 pub mod CodeSearch
 pub mod ReadTables
 -- A symbol's table, by the steps of its traversal.
@@ -12,3 +12,5 @@ pub mod SymbolSteps
 -- What the tables say of motions.
 pub mod TableMotions
 pub mod TableGroups
+-- A record's table, column by column.
+pub mod Columns

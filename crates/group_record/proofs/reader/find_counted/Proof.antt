@@ -3,6 +3,7 @@ use Rattle.group_record.specs.Search.{counted-fits, counted-fails}
 use Rattle.group_record.specs.Parts.{tail-part}
 use Rattle.group_record.specs.Found.{nothing-found, stands-as, record-stands, items-wrong, items-barred, items-right}
 use Rattle.group_record.specs.Outcomes.{length-test}
+use Rattle.group_record.specs.ReadingTests.{items-test}
 use lib.ListN.{length, length-drop}
 use borrow.Author.Tests.{not-true, not-false}
 use native.Mathlib.Omega.{arith}
@@ -15,7 +16,7 @@ use Rattle.group_record.proofs.reader.find_counted.Reads as reads
 use Rattle.group_record.proofs.reader.find_counted.Lts as lts
 use Rattle.group_record.proofs.reader.are_items.Reads as are-items-reads
 use Rattle.group_record.proofs.reader.from_end.Reads as from-end-reads
-use Rattle.group_record.proofs.reader.is_allowed.Reads as is-allowed-reads
+use Rattle.group_record.proofs.allowed.is_allowed.Reads as is-allowed-reads
 use Rattle.group_record.proofs.reader.length_fits.Reads as length-fits-reads
 use Rattle.group_record.proofs.reader.nothing.Reads as nothing-reads
 
@@ -98,7 +99,7 @@ is-allowed-requires : tie.Need-is-allowed-requires
 is-allowed-requires c κs =
     let a = c .before .before .before .before .before .before .before .before .before .before .args in
     let fits = length-test _ _ _ _ _ .0 (sym (c .before .before .before .before .before .length-fits .ensures) ∙ not-false (c .before .before .before .before .before .length-fits .result) (c .before .before .before .before .if1 .left)) in
-    (fits .1, rw (tail-part (a .bytes .now) (length (a .bytes .now) - (c .before .before .before .before .before .before .before .from-end2 .result * 256 + c .before .before .before .before .before .before .from-end3 .result)), length-drop) (omega (arith, fits)))
+    (fits .1, rw (tail-part (a .bytes .now) (length (a .bytes .now) - (c .before .before .before .before .before .before .before .from-end2 .result * 256 + c .before .before .before .before .before .before .from-end3 .result)), length-drop) (omega (arith, fits)), items-test (a .c) _ .0 (sym (c .before .before .are-items .ensures) ∙ not-false (c .before .before .are-items .result) (c .before .if2 .left)))
 
 nothing-requires-3 : tie.Need-nothing-requires-3
 nothing-requires-3 c κs = search needs

@@ -2,10 +2,10 @@
 use Rattle.group_record.specs.Reading.{alikeItems}
 use borrow.Author.Tests.{eq-eqb, ne-eqb}
 use borrow.Author.Needs.{needs}
-use Rattle.group_record.proofs.reader.alike.Statement.{statement}
-use Rattle.group_record.proofs.reader.alike.Tie as tie
-use Rattle.group_record.proofs.reader.alike.Reads as reads
-use Rattle.group_record.proofs.reader.alike.Lts as lts
+use Rattle.group_record.proofs.allowed.alike.Statement.{statement}
+use Rattle.group_record.proofs.allowed.alike.Tie as tie
+use Rattle.group_record.proofs.allowed.alike.Reads as reads
+use Rattle.group_record.proofs.allowed.alike.Lts as lts
 use Rattle.centering.proofs.Centering.congruent.Reads as congruent-reads
 use Rattle.group_record.proofs.items.item_at.Reads as item-at-reads
 
