@@ -11,9 +11,11 @@
  * Answers. Each function returns one number. Its top byte is 0 and the value stands below it; or its top byte is the number of a refusal and the rest
  * is the refusal's place. Two different answers never share a number. symmetry_number, symmetry_place and symmetry_value take an answer apart.
  *
- * Sources. The functions come in three families that differ in what the group is given by:
+ * Sources. The functions come in four families that differ in what the group is given by:
  *   symmetry_symbol_...   text    the bytes of a Hall symbol, at most 80; no byte 0 ends it. Elements are numbered in list order: breadth first from
  *                                 the identity, right factors running over the symbol's generators in order. Refusals 1 to 14.
+ *   symmetry_layer_...    text    the bytes of a layer symbol, which is spelt as a Hall symbol but with the letter p or c. Its list is that of the text
+ *                                 with P or C. Refusals 1 to 14, then 19.
  *   symmetry_record_...   record  bytes that end with a group record; what stands before it is not looked at. Elements are numbered in the record's
  *                                 order, by ascending rotation code. Refusals 30 to 35.
  *   symmetry_table_...    order and table   n and n * n bytes by rows, the byte at i * n + j being the product of i and j. Refusals 21 to 25.
@@ -78,7 +80,8 @@ enum symmetry_refusal {
     SYMMETRY_TEXT_TOO_LONG = 1,     /* over 80 bytes; at 80 */
     SYMMETRY_BYTE_FORBIDDEN = 2,    /* a byte that is not 9 to 13 or 32 to 126; at the first such byte */
     SYMMETRY_NO_TOKEN = 3,          /* nothing but whitespace; at 0 */
-    SYMMETRY_LATTICE_WRONG = 4,     /* the first token is not one of P A B C I R F H, with or without a minus; at that token */
+    SYMMETRY_LATTICE_WRONG = 4,     /* the first token is not one of P A B C I R F H, of a layer symbol not p or c, with or without a minus; at
+                                       that token */
     SYMMETRY_TOKEN_MISSPELT = 5,    /* an N token that no rule spells; at its first offending byte, or where a missing fold should stand */
     SYMMETRY_AXIS_UNSETTLED = 6,    /* no axis follows from the token and those before it, or fold and axis have no matrix; at that token */
     SYMMETRY_DIGIT_WRONG = 7,       /* a screw digit out of range, on another axis than z, not first, or a second one; at the first such digit */
@@ -91,6 +94,8 @@ enum symmetry_refusal {
     SYMMETRY_LATTICE_NOT_KEPT = 12, /* a generator does not map the centred lattice onto itself; at its index from 0 */
     SYMMETRY_TOO_MANY_ROTATIONS = 13, /* over 48 rotations, or one with an entry outside -1..1; at 0 */
     SYMMETRY_TWO_TRANSLATIONS = 14, /* one rotation with two translations that differ by no vector of the lattice; at 0 */
+    SYMMETRY_NO_LAYER = 19,         /* of a layer symbol: an operation mixes z with x or y, or keeps the sense of z and moves along it; at the list
+                                       index of the first such operation */
     /* A place in lent memory; at 0. */
     SYMMETRY_NO_ROOM = 20,          /* the start is beyond the buffer, or fewer bytes than the record or the line needs are left from it; or a
                                        catalogue's state has under 81 bytes */
@@ -153,6 +158,7 @@ static inline const char *symmetry_reason(unsigned number)
     case SYMMETRY_LATTICE_NOT_KEPT: return "a generator does not keep the lattice";
     case SYMMETRY_TOO_MANY_ROTATIONS: return "too many rotations, or too large an entry";
     case SYMMETRY_TWO_TRANSLATIONS: return "one rotation with two translations";
+    case SYMMETRY_NO_LAYER: return "an operation that is none of a layer";
     case SYMMETRY_NO_ROOM: return "no room for the record or the line";
     case SYMMETRY_ORDER: return "an order of 0 or over 48";
     case SYMMETRY_CELLS: return "a table of another size, or a cell that is no element";
@@ -197,8 +203,8 @@ static inline uint64_t symmetry_set(const uint8_t *sets, size_t k)
 }
 
 /*
- * The value that symmetry_symbol_operation answers, taken apart: the entry -1, 0 or 1 of the rotation's matrix in a row and a column 0 to 2, and the
- * translation 0 to 11 twelfths along axis 0, 1 or 2.
+ * The value that symmetry_symbol_operation and symmetry_layer_operation answer, taken apart: the entry -1, 0 or 1 of the rotation's matrix in a row and
+ * a column 0 to 2, and the translation 0 to 11 twelfths along axis 0, 1 or 2.
  */
 static inline int symmetry_entry(uint64_t value, unsigned row, unsigned column)
 {
@@ -232,6 +238,7 @@ static inline uint64_t symmetry_catalogue_answer(uint64_t value)
 
 /* The order: how many operations modulo the lattice, or how many elements. 1 to 48. */
 uint64_t symmetry_symbol_order(const uint8_t *text, size_t text_length);
+uint64_t symmetry_layer_order(const uint8_t *text, size_t text_length);
 uint64_t symmetry_record_order(const uint8_t *record, size_t record_length);
 uint64_t symmetry_table_order(uint64_t order, const uint8_t *table, size_t table_length);
 
@@ -240,8 +247,9 @@ uint64_t symmetry_symbol_identity(const uint8_t *text, size_t text_length);
 uint64_t symmetry_record_identity(const uint8_t *record, size_t record_length);
 uint64_t symmetry_table_identity(uint64_t order, const uint8_t *table, size_t table_length);
 
-/* The byte of the centring letter, one of P A B C I R F H. */
+/* The byte of the centring letter, one of P A B C I R F H; of a layer symbol p or c. */
 uint64_t symmetry_symbol_letter(const uint8_t *text, size_t text_length);
+uint64_t symmetry_layer_letter(const uint8_t *text, size_t text_length);
 uint64_t symmetry_record_letter(const uint8_t *record, size_t record_length);
 
 /*
@@ -249,6 +257,7 @@ uint64_t symmetry_record_letter(const uint8_t *record, size_t record_length);
  * rotation's nine entries by rows, and x, y, z its translation in twelfths. 28 if the index is not below the order.
  */
 uint64_t symmetry_symbol_operation(const uint8_t *text, size_t text_length, uint64_t index);
+uint64_t symmetry_layer_operation(const uint8_t *text, size_t text_length, uint64_t index);
 
 /* ---- lists of another program ---- */
 

@@ -222,6 +222,43 @@ static void pointed(void) {
     answers(symmetry_symbol_order(last, 80), refusal(5, 80), "80 bytes that end in a lone sign");
 }
 
+/* Layer symbols worked out by hand: the turn by a half about z is 3200, the flip of z 2 1 1 1 2 1 1 1 0 in base 3, 16482, and the turn by a half about x
+   2 1 1 1 0 1 1 1 0, 16320. */
+static void layers(void) {
+    static const struct { const char *text; uint64_t order; char letter; } good[] = {
+        { "p 1", 1, 'p' }, { "-p 1", 2, 'p' }, { "p 2", 2, 'p' }, { "c 2", 2, 'c' }, { "p 2x (0 0 3)", 2, 'p' }, { "p -2c", 2, 'p' }, { "-p 1 (0 0 1)", 2, 'p' },
+        { " -c\t2 ", 4, 'c' },
+    };
+    static const struct { const char *text; unsigned number, place; } bad[] = {
+        { "p 21", 19, 1 }, { "p 2c", 19, 1 }, { "p 3*", 19, 1 }, { "-p 2c", 19, 2 }, { "c 3", 12, 0 }, { "p 1c", 14, 0 }, { "P 1", 4, 0 }, { "-P 1", 4, 0 },
+        { "pp 1", 4, 0 }, { " h 3", 4, 1 }, { "a 1", 4, 0 }, { "-", 4, 0 }, { "p", 10, 1 }, { "p 2aa", 17, 4 }, { "p 2a1", 7, 4 }, { "p 2'", 8, 2 }, { "", 3, 0 },
+        { "p 4 6", 13, 0 }, { "\x7f 1", 2, 0 },
+    };
+    for (size_t i = 0; i < sizeof good / sizeof *good; i++) {
+        const uint8_t *text = (const uint8_t *)good[i].text;
+        size_t length = strlen(good[i].text);
+        answers(symmetry_layer_order(text, length), good[i].order, good[i].text);
+        answers(symmetry_layer_letter(text, length), (uint64_t)good[i].letter, good[i].text);
+        answers(symmetry_layer_operation(text, length, 0), UINT64_C(16484) * 1728, good[i].text);
+        answers(symmetry_layer_operation(text, length, good[i].order), refusal(28, 0), good[i].text);
+        answers(symmetry_layer_operation(text, length, UINT64_MAX), refusal(28, 0), good[i].text);
+        answers(symmetry_symbol_order(text, length), refusal(4, good[i].text[0] == ' '), good[i].text);
+    }
+    for (size_t i = 0; i < sizeof bad / sizeof *bad; i++) {
+        const uint8_t *text = (const uint8_t *)bad[i].text;
+        size_t length = strlen(bad[i].text);
+        uint64_t told = refusal(bad[i].number, bad[i].place);
+        answers(symmetry_layer_order(text, length), told, bad[i].text);
+        answers(symmetry_layer_letter(text, length), told, bad[i].text);
+        answers(symmetry_layer_operation(text, length, 0), told, bad[i].text);
+    }
+    answers(symmetry_layer_operation(TEXT("c 2"), 1), UINT64_C(3200) * 1728, "the turn of a layer");
+    answers(symmetry_layer_operation(TEXT("p -2c"), 1), UINT64_C(16482) * 1728 + 6, "a flip of z, moved along z");
+    answers(symmetry_layer_operation(TEXT("p 2x (0 0 3)"), 1), UINT64_C(16320) * 1728 + 6, "a turn about x, away from the origin");
+    answers(symmetry_layer_operation(TEXT("-p 1 (0 0 1)"), 1), UINT64_C(3198) * 1728 + 2, "the inversion of a layer, moved");
+    answers(symmetry_layer_order(NULL, 0), refusal(3, 0), "no text");
+}
+
 /* The record of -P 1, as the rules print it. */
 static const uint8_t inversion[15] = { 0x0C, 0x7E, 0, 0, 0, 0x40, 0x64, 0, 0, 0, 0x50, 1, 2, 0, 0x0F };
 
@@ -407,6 +444,7 @@ int main(void) {
     untouched();
     symbols();
     pointed();
+    layers();
     written();
     records();
     lines();
