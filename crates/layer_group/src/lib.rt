@@ -1,6 +1,6 @@
 // The group of a layer Hall symbol: order, letter and operations in list order, or the refusal. A layer symbol is read as the plain symbol with its letter
 // in capitals, and its group must be one of a layer.
-// Ported from data/layer_hall_symbol.rs of moyo 0.21.0 (`LayerHallSymbol`), and changed: one call from the text, numbered refusals, and the layer rules.
+// Ported from data/hall_symbol.rs of moyo 0.21.0 (`LayerHallSymbol`), and changed: one call from the text, numbered refusals, and the layer rules.
 ghost use mathlib.Core.Path.{_≡_};
 ghost use Prim.Native.Nat.{_≤_};
 ghost use lib.ListN.{take};
