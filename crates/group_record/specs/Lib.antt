@@ -9,6 +9,7 @@ pub mod FirstEdition
 pub mod Record
 pub mod Reading
 pub mod Groups
+pub mod Signs
 pub mod Places
 pub mod Copying
 pub mod SymbolRecords
@@ -24,6 +25,7 @@ pub mod Acceptance
 pub mod RoundTrips
 pub mod AcceptedSymbols
 pub mod SymbolSets
+pub mod LayerRecords
 pub mod SymbolReading
 pub mod RefusalNumbers
 pub mod Example

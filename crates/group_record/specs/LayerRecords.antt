@@ -1,0 +1,134 @@
+-- The record of a layer symbol's text: its bytes under the small letter, and what they say. For two layer symbols they are equal exactly when the sets of motions are,
+-- and no layer symbol has the record of a plain one.
+use mathlib.Core.Path.{_≡_, refl, sym, _∙_, ap, ap₂}
+use mathlib.Core.Logic.{_↔_}
+use mathlib.Core.List.{List, map}
+use Prim.Native.Nat.{ℕ, _+_, _≤_}
+use native.Mathlib.Omega.{arith}
+use lib.ListN.{take}
+use Rattle.laws.specs.Motion.{SpaceMotion}
+use Rattle.operation.specs.Meaning.{motionOf}
+use Rattle.operation.specs.declared.Operation.{Operation}
+use Rattle.centering.specs.Letters.{byteOf}
+use Rattle.centering.specs.LatticeLaws.{byte-injective}
+use Rattle.centering.specs.declared.Centering.{Centering}
+use Rattle.centering.specs.declared.Centering.the-variants.{P, A, B, C, I, R, F, H}
+use Rattle.space_group_theorems.specs.SetOfMotions as generated
+use Rattle.symbol_group.specs.AcceptedTexts.{AcceptedText, accepted-text}
+use Rattle.symbol_group.specs.Answers.{symbolAnswer}
+use Rattle.layer_group.specs.Answers.{layerAnswer, smallOf}
+use Rattle.layer_group.specs.Capitals.{capitalised}
+use Rattle.layer_group.specs.Spelling.{LayerSpells}
+use Rattle.layer_group.specs.Told.{spells-exactly, layer-table}
+use Rattle.layer_group.specs.declared.Answer.the-variants.{Group}
+use Rattle.layer_group.specs.declared.LayerGroup.{LayerGroup}
+use Rattle.group_record.specs.Editions.{fromEnd, framed-letter}
+use Rattle.group_record.specs.FirstEdition.{firstEdition}
+use Rattle.group_record.specs.Record.{itemOf, listedForm, writtenIn, recordIn, recordOf}
+use Rattle.group_record.specs.Groups.{InSet}
+use Rattle.group_record.specs.OneRecord.{one-record-in, written-items}
+use Rattle.group_record.specs.SymbolRecords.{textRecord}
+use Rattle.group_record.specs.AcceptedSymbols.{accepted-listing, accepted-identity}
+use Rattle.group_record.specs.SymbolSets.{InSetOf, set-of-list}
+
+-- The record of operations under the small letter.
+unfoldable pub smallRecord : Centering → List Operation → List ℕ
+smallRecord c l = recordIn firstEdition (smallOf c) c l
+
+-- The record of a layer symbol's group, and of a text that is accepted.
+abbrev pub layerGroupRecord : LayerGroup → List ℕ
+layerGroupRecord g = smallRecord (g .centering) (take (g .count) (g .operations))
+
+unfoldable pub layerTextRecord : List ℕ → List ℕ
+layerTextRecord text = layerGroupRecord (layerAnswer text)
+
+-- The set of motions of a layer text: it spells a layer symbol, and the motion is a finite product of the symbol's generators and translations by L.
+abbrev pub InLayerSet : List ℕ → SpaceMotion → Type 0
+InLayerSet text m = (c : Centering) × (gens : List Operation) × LayerSpells text c gens × generated.InSet c gens m
+
+-- It is that of the text with the capital letter.
+capital-set : (text : List ℕ) (m : SpaceMotion) → InLayerSet text m ↔ InSetOf (capitalised text) m
+capital-set text m = (
+  (λ (c, gens, s, h). (c, gens, spells-exactly text c gens .1 s, h)),
+  λ (c, gens, s, h). (c, gens, spells-exactly text c gens .0 s, h),
+)
+
+-- An accepted layer text, by the text with the capital letter.
+pub capital-accepted : (text : List ℕ) → layerAnswer text .answer ≡ Group → AcceptedText (capitalised text)
+capital-accepted text a = accepted-text (capitalised text) (layer-table text a .0)
+
+pub layer-record-of-list : (text : List ℕ) (a : layerAnswer text .answer ≡ Group) → let A = capital-accepted text a in layerTextRecord text ≡ smallRecord (A .letter) (A .operations)
+unfolding layerTextRecord
+layer-record-of-list text a =
+    let A = capital-accepted text a in
+    let (_, letters, counts, lists) = layer-table text a in
+    ap₂ smallRecord (letters ∙ A .same-letter) (ap₂ take counts lists ∙ A .same-operations)
+
+small-injective : (c d : Centering) → smallOf c ≡ smallOf d → c ≡ d
+small-injective c d e = byte-injective c d (omega arith)
+
+-- For two accepted layer texts: one record, exactly if one set of motions.
+pub layer-records-say-sets : (a b : List ℕ) → layerAnswer a .answer ≡ Group → layerAnswer b .answer ≡ Group
+    → (layerTextRecord a ≡ layerTextRecord b) ↔ ((m : SpaceMotion) → InLayerSet a m ↔ InLayerSet b m)
+unfolding smallRecord
+layer-records-say-sets a b p q = (
+  (λ e m.
+      let same = one .0 (sym (layer-record-of-list a p) ∙ e ∙ layer-record-of-list b q) m in (
+        (λ h. says b q m .1 (same .0 (says a p m .0 h))),
+        λ h. says a p m .1 (same .1 (says b q m .0 h)),
+      )),
+  λ same. layer-record-of-list a p ∙ one .1 (λ m. (
+    (λ h. says b q m .0 (same m .0 (says a p m .1 h))),
+    λ h. says a p m .0 (same m .1 (says b q m .1 h)),
+  )) ∙ sym (layer-record-of-list b q),
+)
+  where
+    A : AcceptedText (capitalised a)
+    A = capital-accepted a p
+
+    B : AcceptedText (capitalised b)
+    B = capital-accepted b q
+
+    says : (text : List ℕ) (e : layerAnswer text .answer ≡ Group) (m : SpaceMotion)
+        → InLayerSet text m ↔ InSet (capital-accepted text e .letter) (map motionOf (capital-accepted text e .operations)) m
+    says text e m =
+        let listed = set-of-list (capitalised text) (capital-accepted text e) m in
+        ((λ h. listed .0 (capital-set text m .0 h)), λ h. capital-set text m .1 (listed .1 h))
+
+    one : (smallRecord (A .letter) (A .operations) ≡ smallRecord (B .letter) (B .operations))
+        ↔ ((m : SpaceMotion) → InSet (A .letter) (map motionOf (A .operations)) m ↔ InSet (B .letter) (map motionOf (B .operations)) m)
+    one =
+        one-record-in firstEdition (λ item h. tt) (smallOf (A .letter)) (smallOf (B .letter)) (A .letter) (B .letter) (A .operations) (B .operations)
+        (small-injective (A .letter) (B .letter)) (ap smallOf)
+        (accepted-listing (A .letter) (A .generators) (A .operations) (A .steps) (A .accepted))
+        (accepted-listing (B .letter) (B .generators) (B .operations) (B .steps) (B .accepted))
+        (accepted-identity (A .letter) (A .generators) (A .operations) (A .steps) (A .accepted))
+        (accepted-identity (B .letter) (B .generators) (B .operations) (B .steps) (B .accepted))
+
+-- ---- layer symbols and plain ones
+-- The letter stands five bytes before the end of a record.
+record-letter : (letter : ℕ) (c : Centering) (l : List Operation) → fromEnd (recordIn firstEdition letter c l) 5 ≡ letter
+unfolding recordIn
+record-letter letter c l =
+    ap (λ (bytes : List ℕ). fromEnd bytes 5) (written-items firstEdition letter (listedForm c l)) ∙ framed-letter firstEdition letter (map itemOf (listedForm c l))
+
+-- A capital letter's byte is 65 to 90.
+capital-byte : (c : Centering) → (65 ≤ byteOf c) × (byteOf c ≤ 90)
+capital-byte P = (omega arith, omega arith)
+capital-byte A = (omega arith, omega arith)
+capital-byte B = (omega arith, omega arith)
+capital-byte C = (omega arith, omega arith)
+capital-byte I = (omega arith, omega arith)
+capital-byte R = (omega arith, omega arith)
+capital-byte F = (omega arith, omega arith)
+capital-byte H = (omega arith, omega arith)
+
+-- No layer symbol's record is a plain one's, whatever the two texts are.
+pub layer-plain-apart : (layer text : List ℕ) → ¬ (layerTextRecord layer ≡ textRecord text)
+unfolding layerTextRecord textRecord smallRecord recordOf
+layer-plain-apart layer text e =
+    let g = layerAnswer layer in
+    let h = symbolAnswer text in
+    let letters = sym (record-letter (smallOf (g .centering)) (g .centering) (take (g .count) (g .operations)))
+    ∙ ap (λ (bytes : List ℕ). fromEnd bytes 5) e ∙ record-letter (byteOf (h .centering)) (h .centering) (take (h .count) (h .operations)) in
+    omega (arith, letters, capital-byte (g .centering), capital-byte (h .centering))
