@@ -16,10 +16,11 @@ use Rattle.group_record.specs.Editions.{framed}
 use Rattle.group_record.specs.OperationItems.{Item, itemOf, operationOfItem}
 use Rattle.group_record.specs.Rules.{Told, holds, toldBy}
 use Rattle.group_record.specs.Record.{writtenIn}
-use Rattle.group_record.specs.Reading.{GroupReading, rulesOf, isAllowed, firstReading, firstRules}
+use Rattle.group_record.specs.Reading.{GroupReading, rulesOf, isAllowed, firstReading, firstRules, bothReading, bothRules}
 use Rattle.group_record.specs.Groups.{Allowed, Form}
 use Rattle.group_record.specs.OneRecord.{written-items, operations-of-items}
 use Rattle.group_record.specs.ReadingTests.{both-true, GoodItems, item-test, items-of-operations, good-form, form-good, allowed-test}
+use Rattle.group_record.specs.declared.Edition.{Edition as Known}
 use Rattle.group_record.specs.Outcomes.{Good, Meaning, Outcome, Held, told-exactly, held-told, held-exactly}
 
 -- One order for another that follows from it.
@@ -136,10 +137,13 @@ module _ {Sign Kind : Type 0} (G : GroupReading Sign Kind) where
     λ h. (map itemOf l, holds-told bytes k c l h, operations-of-items l (h .form .entries)),
   )
 
--- ---- edition 1
+-- ---- editions 1 and 3, and edition 1 alone
+abbrev pub bothMeaning : Meaning bothRules
+bothMeaning = meaningOf bothReading
+
 abbrev pub firstMeaning : Meaning firstRules
 firstMeaning = meaningOf firstReading
 
 -- The reading is the rules: each refusal is given, and each record read, exactly when they say so.
-pub read-exactly : (bytes : List ℕ) → Bytes bytes → (t : Told Item Centering (Unit {0})) → (toldBy firstRules bytes ≡ t) ↔ Outcome firstRules firstMeaning bytes t
-read-exactly bytes g t = told-exactly firstRules firstMeaning bytes g t
+pub read-exactly : (bytes : List ℕ) → Bytes bytes → (t : Told Item Centering Known) → (toldBy bothRules bytes ≡ t) ↔ Outcome bothRules bothMeaning bytes t
+read-exactly bytes g t = told-exactly bothRules bothMeaning bytes g t

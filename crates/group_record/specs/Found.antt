@@ -1,6 +1,6 @@
 -- What the reader finds at a buffer's end before the operations are laid out, and which group it stands for.
 use mathlib.Core.Path.{_≡_, refl, sym, _∙_, ap}
-use mathlib.Core.Bool.{true, false}
+use mathlib.Core.Bool.{Bool, true, false}
 use mathlib.Core.List.{List, map}
 use Prim.Native.Nat.{ℕ, _+_, _*_, _≤_}
 use native.Mathlib.Omega.{arith}
@@ -8,9 +8,12 @@ use lib.ListN.{length, drop, length-map}
 use Rattle.centering.specs.declared.Centering.{Centering}
 use Rattle.centering.specs.declared.Centering.the-variants.{P}
 use Rattle.group_record.specs.Items.{itemsIn}
-use Rattle.group_record.specs.Reading.{operationOfItem, slots, acceptedGroup, refusedGroup, areItems, isAllowed}
+use Rattle.group_record.specs.BothEditions.{widthIn}
+use Rattle.group_record.specs.Reading.{operationOfItem, slots, acceptedGroup, refusedGroup, areItems, isAllowed, bothRules}
 use Rattle.group_record.specs.Rules.{areGood, itemsTold}
-use Rattle.group_record.specs.Search.{itemsOf, items-count, readItems}
+use Rattle.group_record.specs.Search.{itemsOf, items-count, readItems, good-items}
+use Rattle.group_record.specs.declared.Edition.{Edition as Known}
+use Rattle.group_record.specs.declared.Edition.the-variants.{First}
 use Rattle.group_record.specs.declared.Refusal.{Refusal}
 use Rattle.group_record.specs.declared.Refusal.the-variants.{WrongItem, NotAllowed}
 use Rattle.group_record.specs.declared.Reading.{Reading}
@@ -19,32 +22,34 @@ use Rattle.group_record.specs.declared.RecordGroup.{RecordGroup}
 use Rattle.group_record.specs.declared.reader.Found.{Found}
 
 abbrev pub nothingFound : Refusal → Found
-nothingFound why = record { answer = Refused why; centering = P; count = 0; start = 0 }
+nothingFound why = record { answer = Refused why; edition = First; centering = P; count = 0; start = 0 }
 
 -- An answer with the operations of the first n items.
-unfoldable pub laidOut : Reading → Centering → ℕ → List ℕ → RecordGroup
-laidOut answer c n bytes = record { answer = answer; centering = c; count = n; operations = slots (map operationOfItem (itemsOf n bytes)) }
+unfoldable pub laidOut : Reading → Known → Centering → ℕ → List ℕ → RecordGroup
+laidOut answer edition c n bytes =
+    record { answer = answer; edition = edition; centering = c; count = n; operations = slots (map operationOfItem (itemsOf edition n bytes)) }
 
 -- What was found lies in the buffer, and stands for a group.
 pub record Stands (bytes : List ℕ) (f : Found) (g : RecordGroup) : Type 0 where
   pub few : f .count ≤ 48
-  pub within : f .start + 5 * f .count ≤ length bytes
-  pub same : laidOut (f .answer) (f .centering) (f .count) (drop (f .start) bytes) ≡ g
+  pub within : f .start + widthIn (f .edition) * f .count ≤ length bytes
+  pub same : laidOut (f .answer) (f .edition) (f .centering) (f .count) (drop (f .start) bytes) ≡ g
 
 pub nothing-stands : (bytes : List ℕ) (why : Refusal) → Stands bytes (nothingFound why) (refusedGroup why)
 unfolding laidOut refusedGroup slots itemsIn
 nothing-stands bytes why = record { few = omega arith; within = omega arith; same = refl }
 
-pub record-stands : (bytes : List ℕ) (c : Centering) (n start : ℕ) → n ≤ 48 → start + 5 * n ≤ length bytes
-    → Stands bytes (record { answer = Accepted; centering = c; count = n; start = start }) (acceptedGroup c (map operationOfItem (itemsOf n (drop start bytes))))
+pub record-stands : (bytes : List ℕ) (edition : Known) (c : Centering) (n start : ℕ) → n ≤ 48 → start + widthIn edition * n ≤ length bytes
+    → Stands bytes (record { answer = Accepted; edition = edition; centering = c; count = n; start = start })
+    (acceptedGroup edition c (map operationOfItem (itemsOf edition n (drop start bytes))))
 unfolding laidOut acceptedGroup
-record-stands bytes c n start few within =
-    let items = itemsOf n (drop start bytes) in
-    let count : n ≡ length (map operationOfItem items) = sym (length-map items operationOfItem ∙ items-count n (drop start bytes)) in
+record-stands bytes edition c n start few within =
+    let items = itemsOf edition n (drop start bytes) in
+    let count : n ≡ length (map operationOfItem items) = sym (length-map items operationOfItem ∙ items-count edition n (drop start bytes)) in
     record {
       few = few;
       within = within;
-      same = ap (λ (k : ℕ). record { answer = Accepted; centering = c; count = k; operations = slots (map operationOfItem items) }) count;
+      same = ap (λ (k : ℕ). record { answer = Accepted; edition = edition; centering = c; count = k; operations = slots (map operationOfItem items) }) count;
     }
 
 pub stands-as : {bytes : List ℕ} {f : Found} {g h : RecordGroup} → Stands bytes f g → h ≡ g → Stands bytes f h
@@ -54,21 +59,22 @@ pub nothing-found : {bytes : List ℕ} {f : Found} {h : RecordGroup} {why : Refu
 nothing-found {bytes} {f} {h} {why} e r = rw e (stands-as (nothing-stands bytes why) r)
 
 -- ---- 34 and 35, tried on the part of the buffer that holds the items
-module _ (c : Centering) (n : ℕ) (part rest : List ℕ) (lent : part ≡ rest) where
-  pub items-wrong : areItems c (itemsOf n part) ≡ false → readItems c (itemsOf n rest) ≡ refusedGroup WrongItem
-  unfolding itemsTold areGood areItems
-  items-wrong h = let e = ap (λ (b : List ℕ). areItems c (itemsOf n b)) (sym lent) ∙ h in rw e
+module _ (edition : Known) (c : Centering) (n : ℕ) (part rest : List ℕ) (lent : part ≡ rest) where
+  by-items : (b : Bool) → areItems c (itemsOf edition n part) ≡ b → areGood bothRules edition c (itemsOf edition n rest) ≡ b
+  by-items b h = good-items edition c (itemsOf edition n rest) ∙ ap (λ (l : List ℕ). areItems c (itemsOf edition n l)) (sym lent) ∙ h
 
-  pub items-barred : areItems c (itemsOf n part) ≡ true → isAllowed c (itemsOf n part) ≡ false → readItems c (itemsOf n rest) ≡ refusedGroup NotAllowed
-  unfolding itemsTold areGood areItems
-  items-barred h k =
-      let e = ap (λ (b : List ℕ). areItems c (itemsOf n b)) (sym lent) ∙ h in
-      let f = ap (λ (b : List ℕ). isAllowed c (itemsOf n b)) (sym lent) ∙ k in
-      rw (e, f)
+  by-group : (b : Bool) → isAllowed c (itemsOf edition n part) ≡ b → isAllowed c (itemsOf edition n rest) ≡ b
+  by-group b h = ap (λ (l : List ℕ). isAllowed c (itemsOf edition n l)) (sym lent) ∙ h
 
-  pub items-right : areItems c (itemsOf n part) ≡ true → isAllowed c (itemsOf n part) ≡ true → readItems c (itemsOf n rest) ≡ acceptedGroup c (map operationOfItem (itemsOf n rest))
-  unfolding itemsTold areGood areItems
-  items-right h k =
-      let e = ap (λ (b : List ℕ). areItems c (itemsOf n b)) (sym lent) ∙ h in
-      let f = ap (λ (b : List ℕ). isAllowed c (itemsOf n b)) (sym lent) ∙ k in
-      rw (e, f)
+  pub items-wrong : areItems c (itemsOf edition n part) ≡ false → readItems edition c (itemsOf edition n rest) ≡ refusedGroup WrongItem
+  unfolding itemsTold
+  items-wrong h = rw (by-items false h)
+
+  pub items-barred : areItems c (itemsOf edition n part) ≡ true → isAllowed c (itemsOf edition n part) ≡ false → readItems edition c (itemsOf edition n rest) ≡ refusedGroup NotAllowed
+  unfolding itemsTold
+  items-barred h k = rw (by-items true h, by-group false k)
+
+  pub items-right : areItems c (itemsOf edition n part) ≡ true → isAllowed c (itemsOf edition n part) ≡ true
+      → readItems edition c (itemsOf edition n rest) ≡ acceptedGroup edition c (map operationOfItem (itemsOf edition n rest))
+  unfolding itemsTold
+  items-right h k = rw (by-items true h, by-group true k)

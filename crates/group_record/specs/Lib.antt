@@ -6,6 +6,8 @@ pub mod Editions
 pub mod Rules
 pub mod OperationItems
 pub mod FirstEdition
+pub mod ThirdEdition
+pub mod BothEditions
 pub mod Record
 pub mod Reading
 pub mod Groups

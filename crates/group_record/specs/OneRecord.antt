@@ -24,7 +24,9 @@ use Rattle.group_record.specs.Items.{bytesOf}
 use Rattle.group_record.specs.Editions.{Edition, totalLength, trailerBytes, framed, framed-length, framed-injective}
 use Rattle.group_record.specs.OperationItems.{Item, itemOf, operationOfItem, InRange}
 use Rattle.group_record.specs.FirstEdition.{itemWidth, itemBytes, itemIn, item-wide, item-again, firstEdition}
-use Rattle.group_record.specs.Record.{writtenIn, listedForm, recordIn, recordOf}
+use Rattle.group_record.specs.BothEditions.{editionOf, widthIn}
+use Rattle.group_record.specs.Record.{writtenIn, listedForm, recordIn, recordBy, recordOf}
+use Rattle.group_record.specs.declared.Edition.{Edition as Known}
 use Rattle.group_record.specs.Groups.{Alike, InSet, Listing, Form}
 use Rattle.group_record.specs.ListedForm.{operation≡, told-by-rotation, alike-reflexive, alike-smallest, matrix-injective, form-member, member-form, form-length, CodeBefore, codeKey, listed-form, form-set}
 
@@ -93,7 +95,12 @@ module _ (E : Edition Item) where
         let (p, q) = framed-injective E a b (map itemOf l) (map itemOf k) (form-fits c l F) (form-fits d k K) (sym (written-items a l) ∙ e ∙ written-items b k) in
         (p, sym (operations-of-items l (F .entries)) ∙ ap (map operationOfItem) q ∙ operations-of-items k (K .entries))
 
--- A record's length in edition 1.
+-- A record's length by its edition,
+pub record-by-length : (edition : Known) (c : Centering) (l : List Operation) → length (recordBy edition c l) ≡ totalLength (widthIn edition) (length l)
+unfolding recordBy
+record-by-length edition c l = record-in-length (editionOf edition) (byteOf c) c l
+
+-- and in edition 1.
 pub record-length : (c : Centering) (l : List Operation) → length (recordOf c l) ≡ totalLength itemWidth (length l)
 unfolding recordOf
 record-length c l = record-in-length firstEdition (byteOf c) c l

@@ -5,13 +5,10 @@ use Rattle.operation.specs.Code.{codeOf, decodedOf}
 use Rattle.operation.specs.Product.{identityOperation}
 use Rattle.operation.specs.declared.Operation.{Operation}
 use Rattle.operation.specs.declared.Rotation.{Rotation}
-use Rattle.operation.specs.declared.Translation.{Translation}
 use Rattle.operation.specs.declared.code.Decoded.{Decoded}
 use Rattle.operation.specs.declared.code.Decoded.the-variants.{Inside, Outside}
 
-pub record Item : Type 0 where
-  pub code : ℕ
-  pub translation : Translation
+pub use Rattle.group_record.specs.declared.items.Item.{Item}
 
 -- Items are equal where their parts are.
 pub item≡ : {i j : Item} → i .code ≡ j .code → i .translation ≡ j .translation → i ≡ j

@@ -1,5 +1,5 @@
 -- How a buffer is read: which items are those of a record and which groups it may hold, the readings that ask this for any editions and letters,
--- and the reading of edition 1 with the letters of the lattices. Its answers, by refusal and in numbers.
+-- and with the letters of the lattices the reading of editions 1 and 3, and that of edition 1 alone. The answers, by refusal and in numbers.
 use mathlib.Core.Path.{_≡_, refl, sym, _∙_, ap}
 use mathlib.Core.Logic.{_↔_}
 use mathlib.Core.Bool.{Bool, true, false, cond, _&&_}
@@ -33,8 +33,11 @@ use Rattle.group_record.specs.OperationItems.{Item, itemOf, InRange}
 unfoldable pub use Rattle.group_record.specs.OperationItems.{operationOfItem, rotationOfDecoded}
 unfoldable pub use Rattle.group_record.specs.FirstEdition.{itemIn}
 use Rattle.group_record.specs.FirstEdition.{firstEdition}
+use Rattle.group_record.specs.BothEditions.{editionOf, knownEditions, known-range, known-key, known-length}
+use Rattle.group_record.specs.declared.Edition.{Edition as Known}
+use Rattle.group_record.specs.declared.Edition.the-variants.{First}
 use Rattle.group_record.specs.declared.Refusal.{Refusal}
-use Rattle.group_record.specs.declared.Refusal.the-variants.{NoRoom, Short, WrongEdition, WrongLetter, WrongLength, WrongItem, NotAllowed}
+use Rattle.group_record.specs.declared.Refusal.the-variants.{Short, WrongEdition, WrongLetter, WrongLength, WrongItem, NotAllowed}
 use Rattle.group_record.specs.declared.Reading.{Reading}
 use Rattle.group_record.specs.declared.Reading.the-variants.{Accepted, Refused}
 use Rattle.group_record.specs.declared.RecordGroup.{RecordGroup}
@@ -42,7 +45,6 @@ use Rattle.group_record.specs.declared.RecordGroup.{RecordGroup}
 -- ---- answers
 -- The number of a refusal; its place is 0.
 abbrev pub refusalNumber : Refusal → ℕ
-refusalNumber NoRoom = 20
 refusalNumber Short = 30
 refusalNumber WrongEdition = 31
 refusalNumber WrongLetter = 32
@@ -74,17 +76,21 @@ letterBy (Refused r) c = refused (refusalNumber r) 0 tt
 abbrev pub recordLetter : RecordGroup → Answer Centering Nothing
 recordLetter g = letterBy (g .answer) (g .centering)
 
+-- And of the edition, by its number.
+abbrev pub recordEdition : RecordGroup → Answer ℕ Nothing
+recordEdition g = orderBy (g .answer) (editionOf (g .edition) .number)
+
 -- Operations as 48 slots.
 unfoldable pub slots : List Operation → List Operation
 slots l = l ++ replicate (48 - length l) identityOperation
 
 -- The answer for a record that is read,
-unfoldable pub acceptedGroup : Centering → List Operation → RecordGroup
-acceptedGroup c l = record { answer = Accepted; centering = c; count = length l; operations = slots l }
+unfoldable pub acceptedGroup : Known → Centering → List Operation → RecordGroup
+acceptedGroup k c l = record { answer = Accepted; edition = k; centering = c; count = length l; operations = slots l }
 
 -- and for one that is refused.
 unfoldable pub refusedGroup : Refusal → RecordGroup
-refusedGroup r = record { answer = Refused r; centering = P; count = 0; operations = replicate 48 identityOperation }
+refusedGroup r = record { answer = Refused r; edition = First; centering = P; count = 0; operations = replicate 48 identityOperation }
 
 -- ---- items
 -- Refusal 34 is given unless each code is at most 19682, each coordinate at most 11, each triple the smallest of its class, and codes ascend.
@@ -158,7 +164,7 @@ rulesOf G =
       isAllowed = λ c items. isAllowed (G .lattice c) items && G .further c (map operationOfItem items);
     }
 
--- ---- the reading of edition 1
+-- ---- the readings with the letters of the lattices
 -- The letter that a byte spells.
 abbrev pub letterIn : Letter → Option Centering
 letterIn (Is c) = some c
@@ -194,6 +200,29 @@ one-number number b k e = go (eqb b number) refl e
     go true q p = eqb-true b number q
     go false q p = let z : _≡_ {A = ℕ} 0 1 = cc in absurd (omega arith)
 
+-- The reading of editions 1 and 3.
+abbrev pub bothReading : GroupReading Centering Known
+bothReading =
+    record {
+      least = 9;
+      edition = editionOf;
+      editions = knownEditions;
+      byte = byteOf;
+      signs = latticeLetters;
+      lattice = λ c. c;
+      further = λ c l. true;
+      Further = λ c l. Unit {0};
+      further-test = λ c l. ((λ e. tt), λ u. refl);
+      in-range = known-range;
+      by-code = known-key;
+      trailer-there = omega arith;
+      long-enough = known-length;
+    }
+
+abbrev pub bothRules : Rules Item Centering Known
+bothRules = rulesOf bothReading
+
+-- The reading of edition 1 alone: software that knows no other.
 abbrev pub firstReading : GroupReading Centering (Unit {0})
 firstReading =
     record {
@@ -216,9 +245,16 @@ abbrev pub firstRules : Rules Item Centering (Unit {0})
 firstRules = rulesOf firstReading
 
 -- What is told, as the reader hands it back.
-abbrev pub groupOf : Told Item Centering (Unit {0}) → RecordGroup
+abbrev pub groupOf : Told Item Centering Known → RecordGroup
 groupOf (not-held r) = refusedGroup r
-groupOf (holds k c items) = acceptedGroup c (map operationOfItem items)
+groupOf (holds k c items) = acceptedGroup k c (map operationOfItem items)
 
 unfoldable pub readOf : List ℕ → RecordGroup
-readOf bytes = groupOf (toldBy firstRules bytes)
+readOf bytes = groupOf (toldBy bothRules bytes)
+
+abbrev pub firstGroupOf : Told Item Centering (Unit {0}) → RecordGroup
+firstGroupOf (not-held r) = refusedGroup r
+firstGroupOf (holds k c items) = acceptedGroup First c (map operationOfItem items)
+
+unfoldable pub readFirstOf : List ℕ → RecordGroup
+readFirstOf bytes = firstGroupOf (toldBy firstRules bytes)

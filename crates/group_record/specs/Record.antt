@@ -1,5 +1,5 @@
 -- The bytes of a record: each operation by its item, ascending by code, each translation the smallest of its class; then the trailer.
--- In any edition and under any letter's byte; the record itself is edition 1 under its lattice's letter.
+-- In any edition and under any letter's byte; the record of a symbol is edition 1 under its lattice's letter.
 use mathlib.Core.Path.{_≡_}
 use mathlib.Core.Bool.{Bool}
 use mathlib.Core.List.{List, _++_, map}
@@ -18,6 +18,8 @@ use Rattle.group_record.specs.Editions.{Edition, trailerBytes}
 pub use Rattle.group_record.specs.OperationItems.{Item, item≡, itemOf}
 unfoldable pub use Rattle.group_record.specs.FirstEdition.{itemWidth, editionNumber, itemBytes}
 use Rattle.group_record.specs.FirstEdition.{firstEdition}
+use Rattle.group_record.specs.BothEditions.{editionOf}
+use Rattle.group_record.specs.declared.Edition.{Edition as Known}
 
 -- ---- the bytes
 -- The trailer of n operations under a lattice's letter.
@@ -50,6 +52,10 @@ listedForm c l = sort beforeByCode (map (smallestOperation c) l)
 unfoldable pub recordIn : Edition Item → ℕ → Centering → List Operation → List ℕ
 recordIn E letter c l = writtenIn E letter (listedForm c l)
 
--- In edition 1, under its lattice's letter.
+-- In an edition that is read and written, under its lattice's letter.
+unfoldable pub recordBy : Known → Centering → List Operation → List ℕ
+recordBy k c l = recordIn (editionOf k) (byteOf c) c l
+
+-- In edition 1.
 unfoldable pub recordOf : Centering → List Operation → List ℕ
 recordOf c l = recordIn firstEdition (byteOf c) c l

@@ -1,6 +1,6 @@
 -- The refusals of records by number and place, each exactly when: 30 to 35 for a record that is read, then 20 for one that is copied;
 -- and for a symbol's record the symbol's own, 1 to 14, then 20. Number, place and value determine an answer.
-use mathlib.Core.Path.{_≡_, refl, sym, _∙_, ap}
+use mathlib.Core.Path.{_≡_, refl, sym, _∙_, ap, ap₂}
 use mathlib.Core.Logic.{_⊎_, inl, inr, _↔_}
 use mathlib.Core.Bool.{Bool, true, false, cond, not}
 use mathlib.Core.List.{List, _++_, map}
@@ -23,19 +23,21 @@ use Rattle.group_record.specs.OperationItems.{Item, operationOfItem}
 use Rattle.group_record.specs.Rules.{Rules, Told, holds, toldBy}
 use Rattle.group_record.specs.Rules.{refused as not-held}
 use Rattle.group_record.specs.Outcomes.{Meaning, GoodBy, record-bytes, firstItems, trailerOf, Outcome, too-short, wrong-edition, wrong-letter, wrong-length, wrong-item, not-allowed, accepted, outcome-told, told-outcome}
-use Rattle.group_record.specs.Reading.{refusalNumber, groupAnswer, orderBy, recordOrder, acceptedGroup, refusedGroup, firstRules, groupOf, readOf}
-use Rattle.group_record.specs.Places.{start-beyond, too-near-end, room-there}
-use Rattle.group_record.specs.Copying.{roomFor, copyAnswer, copiedBy, copiedOf}
+use Rattle.group_record.specs.BothEditions.{editionOf, widthIn, one-edition}
+use Rattle.group_record.specs.Reading.{refusalNumber, groupAnswer, orderBy, recordOrder, recordEdition, acceptedGroup, refusedGroup, bothRules, groupOf, readOf}
+use Rattle.group_record.specs.Places.{roomFrom, start-beyond, too-near-end, room-there}
+use Rattle.group_record.specs.Copying.{chosenEdition, copyAnswer, copiedBy, writtenAs}
 use Rattle.group_record.specs.SymbolRecords.{writtenBy, symbolRecordOf, symbolRecordAnswer}
-use Rattle.group_record.specs.Acceptance.{firstMeaning}
+use Rattle.group_record.specs.Acceptance.{bothMeaning}
 use Rattle.group_record.specs.RoundTrips.{accepted-answer}
+use Rattle.group_record.specs.declared.Edition.{Edition as Known}
 use Rattle.group_record.specs.declared.Copied.{Copied}
-use Rattle.group_record.specs.declared.Copied.the-variants.{Written as CopyWritten, Refused as NotCopied}
+use Rattle.group_record.specs.declared.Copied.the-variants.{Written as CopyWritten, NoRoom as CopyNoRoom, Refused as NotCopied}
 use Rattle.group_record.specs.declared.Reading.{Reading}
 use Rattle.group_record.specs.declared.Reading.the-variants.{Accepted, Refused}
 use Rattle.group_record.specs.declared.RecordGroup.{RecordGroup}
 use Rattle.group_record.specs.declared.Refusal.{Refusal}
-use Rattle.group_record.specs.declared.Refusal.the-variants.{NoRoom, Short, WrongEdition, WrongLetter, WrongLength, WrongItem, NotAllowed}
+use Rattle.group_record.specs.declared.Refusal.the-variants.{Short, WrongEdition, WrongLetter, WrongLength, WrongItem, NotAllowed}
 use Rattle.group_record.specs.declared.SymbolRecord.the-variants as symbol-record
 use Rattle.group_record.specs.declared.SymbolRecord.the-variants.{Written}
 
@@ -96,32 +98,32 @@ module _ {Item Letter Kind : Type 0} (R : Rules Item Letter Kind) (W : Meaning R
     λ (p, r). rw p (rule-answer bytes number r),
   )
 
--- ---- edition 1
+-- ---- editions 1 and 3
 -- What the reader hands back has the number and the place that are told.
-group-number : (t : Told Item Centering (Unit {0})) (number place : ℕ) → (groupAnswer (groupOf t) ≡ refused number place tt) ↔ (toldAnswer t ≡ refused number place tt)
+group-number : (t : Told Item Centering Known) (number place : ℕ) → (groupAnswer (groupOf t) ≡ refused number place tt) ↔ (toldAnswer t ≡ refused number place tt)
 unfolding refusedGroup
 group-number (not-held r) number place = ((λ e. cc), λ e. cc)
 group-number (holds k c items) number place = (
   (λ e.
-      let clash : _≡_ {A = Answer (Centering × List Operation) Nothing} (given (c, map operationOfItem items)) (refused number place tt) = sym (accepted-answer c (map operationOfItem items)) ∙ e in
+      let clash : _≡_ {A = Answer (Centering × List Operation) Nothing} (given (c, map operationOfItem items)) (refused number place tt) = sym (accepted-answer k c (map operationOfItem items)) ∙ e in
       let z : _≡_ {A = ℕ} 0 1 = cc in
       absurd (omega arith)),
   λ e. let z : _≡_ {A = ℕ} 0 1 = cc in absurd (omega arith),
 )
 
 -- A buffer is refused with a number exactly if that number's rule says so, and its place is 0.
-pub read-refused : (bytes : List ℕ) → Bytes bytes → (number place : ℕ) → (groupAnswer (readOf bytes) ≡ refused number place tt) ↔ ((place ≡ 0) × Refuses firstRules firstMeaning bytes number)
+pub read-refused : (bytes : List ℕ) → Bytes bytes → (number place : ℕ) → (groupAnswer (readOf bytes) ≡ refused number place tt) ↔ ((place ≡ 0) × Refuses bothRules bothMeaning bytes number)
 unfolding readOf
 read-refused bytes b number place = (
-  (λ e. told-refused firstRules firstMeaning bytes b number place .0 (group-number (toldBy firstRules bytes) number place .0 e)),
-  λ h. group-number (toldBy firstRules bytes) number place .1 (told-refused firstRules firstMeaning bytes b number place .1 h),
+  (λ e. told-refused bothRules bothMeaning bytes b number place .0 (group-number (toldBy bothRules bytes) number place .0 e)),
+  λ h. group-number (toldBy bothRules bytes) number place .1 (told-refused bothRules bothMeaning bytes b number place .1 h),
 )
 
--- So 30 is given exactly if there are under ten bytes.
-pub short-exactly : (bytes : List ℕ) → Bytes bytes → (groupAnswer (readOf bytes) ≡ refused 30 0 tt) ↔ (length bytes < 10)
+-- So 30 is given exactly if there are under nine bytes.
+pub short-exactly : (bytes : List ℕ) → Bytes bytes → (groupAnswer (readOf bytes) ≡ refused 30 0 tt) ↔ (length bytes < 9)
 short-exactly bytes b = ((λ e. from (read-refused bytes b 30 0 .0 e .1)), λ h. read-refused bytes b 30 0 .1 (refl, too-few h))
   where
-    from : Refuses firstRules firstMeaning bytes 30 → length bytes < 10
+    from : Refuses bothRules bothMeaning bytes 30 → length bytes < 9
     from (too-few h) = h
 
 -- ---- a record that is written
@@ -129,61 +131,64 @@ short-exactly bytes b = ((λ e. from (read-refused bytes b 30 0 .0 e .1)), λ h.
 abbrev pub noRoom : Answer ℕ Nothing
 noRoom = refused 20 0 tt
 
--- Refusals of what is to be written go first; then 20 where under 5n + 5 bytes stand from the start on; else the count.
-abbrev pub orNoRoom : Answer ℕ Nothing → ℕ → ℕ → Answer ℕ Nothing
-orNoRoom (given n) start size = cond (ltb size (start + (5 * n + 5))) noRoom (given n)
-orNoRoom (refused number place c) start size = refused number place c
+-- Refusals of what is to be written go first; then 20 where fewer bytes than n items and the trailer take stand from the start on; else the count.
+abbrev pub orNoRoom : ℕ → Answer ℕ Nothing → ℕ → ℕ → Answer ℕ Nothing
+orNoRoom width (given n) start size = cond (ltb size (start + (width * n + 5))) noRoom (given n)
+orNoRoom width (refused number place c) start size = refused number place c
 
--- An answer is refused 20 for want of room: n operations were to be written, and under 5n + 5 bytes stand from the start on.
-abbrev pub WantsRoom : Answer ℕ Nothing → ℕ → ℕ → Type 0
-WantsRoom a start size = (n : ℕ) × (a ≡ given n) × (size < start + (5 * n + 5))
+-- An answer is refused 20 for want of room: n operations were to be written, and fewer bytes than these take stand from the start on.
+abbrev pub WantsRoom : ℕ → Answer ℕ Nothing → ℕ → ℕ → Type 0
+WantsRoom width a start size = (n : ℕ) × (a ≡ given n) × (size < start + (width * n + 5))
 
 -- 20 exactly so; every other refusal is that of what was to be written.
-pub no-room-exactly : (a : Answer ℕ Nothing) (start size number place : ℕ) → (orNoRoom a start size ≡ refused number place tt) ↔ ((a ≡ refused number place tt) ⊎ ((number ≡ 20) × (place ≡ 0) × WantsRoom a start size))
-no-room-exactly a start size number place = (forth a, back a)
+pub no-room-exactly : (width : ℕ) (a : Answer ℕ Nothing) (start size number place : ℕ)
+    → (orNoRoom width a start size ≡ refused number place tt) ↔ ((a ≡ refused number place tt) ⊎ ((number ≡ 20) × (place ≡ 0) × WantsRoom width a start size))
+no-room-exactly width a start size number place = (forth a, back a)
   where
-    short : (n : ℕ) (b : Bool) → ltb size (start + (5 * n + 5)) ≡ b → cond b noRoom (given n) ≡ refused number place tt → (_≡_ {A = Answer ℕ Nothing} (given n) (refused number place tt)) ⊎ ((number ≡ 20) × (place ≡ 0) × WantsRoom (given n) start size)
-    short n true t e = inr ((cc), (cc), (n, refl, ltb-true size (start + (5 * n + 5)) t))
+    short : (n : ℕ) (b : Bool) → ltb size (start + (width * n + 5)) ≡ b → cond b noRoom (given n) ≡ refused number place tt
+        → (_≡_ {A = Answer ℕ Nothing} (given n) (refused number place tt)) ⊎ ((number ≡ 20) × (place ≡ 0) × WantsRoom width (given n) start size)
+    short n true t e = inr ((cc), (cc), (n, refl, ltb-true size (start + (width * n + 5)) t))
     short n false t e = inl e
 
-    forth : (a : Answer ℕ Nothing) → orNoRoom a start size ≡ refused number place tt → (a ≡ refused number place tt) ⊎ ((number ≡ 20) × (place ≡ 0) × WantsRoom a start size)
-    forth (given n) e = short n (ltb size (start + (5 * n + 5))) refl e
+    forth : (a : Answer ℕ Nothing) → orNoRoom width a start size ≡ refused number place tt → (a ≡ refused number place tt) ⊎ ((number ≡ 20) × (place ≡ 0) × WantsRoom width a start size)
+    forth (given n) e = short n (ltb size (start + (width * n + 5))) refl e
     forth (refused m p c) e = inl e
 
-    back : (a : Answer ℕ Nothing) → (a ≡ refused number place tt) ⊎ ((number ≡ 20) × (place ≡ 0) × WantsRoom a start size) → orNoRoom a start size ≡ refused number place tt
+    back : (a : Answer ℕ Nothing) → (a ≡ refused number place tt) ⊎ ((number ≡ 20) × (place ≡ 0) × WantsRoom width a start size) → orNoRoom width a start size ≡ refused number place tt
     back (refused m p c) (inl e) = e
     back (refused m p c) (inr (q, r, (n, e, h))) = let z : _≡_ {A = ℕ} 0 1 = cc in absurd (omega arith)
     back (given n) (inl e) = let z : _≡_ {A = ℕ} 0 1 = cc in absurd (omega arith)
     back (given n) (inr (q, r, (m, e, h))) =
         let same : n ≡ m = cc in
-        rw (lt-ltb size (start + (5 * n + 5)) (omega arith), q, r)
+        rw (lt-ltb size (start + (width * n + 5)) (rw same h), q, r)
 
 -- The test for room is this comparison.
-room-as : (start n size : ℕ) → roomFor start n size ≡ not (ltb size (start + (5 * n + 5)))
-room-as start n size = elim (decLt size (start + (5 * n + 5))) [
-  | yes h ↦ rw (lt-ltb size (start + (5 * n + 5)) h) (short (decLt size start) h)
-  | no h ↦ rw (le-ltb size (start + (5 * n + 5)) (omega arith)) (room-there start (5 * n + 5) size (omega arith) (omega arith))
+room-as : (long start size : ℕ) → roomFrom start long size ≡ not (ltb size (start + long))
+room-as long start size = elim (decLt size (start + long)) [
+  | yes h ↦ rw (lt-ltb size (start + long) h) (short (decLt size start) h)
+  | no h ↦ rw (le-ltb size (start + long) (omega arith)) (room-there start long size (omega arith) (omega arith))
 ]
   where
-    short : Dec (size < start) → size < start + (5 * n + 5) → roomFor start n size ≡ false
-    short (yes b) h = start-beyond start (5 * n + 5) size b
-    short (no b) h = too-near-end start (5 * n + 5) size (omega arith) (omega arith)
+    short : Dec (size < start) → size < start + long → roomFrom start long size ≡ false
+    short (yes b) h = start-beyond start long size b
+    short (no b) h = too-near-end start long size (omega arith) (omega arith)
 
--- What a copy answers: 30 to 35 as the reading does, then 20, else the count.
-pub copy-told : (bytes out : List ℕ) (start : ℕ) → copyAnswer (copiedOf bytes out start) ≡ orNoRoom (recordOrder (readOf bytes)) start (length out)
-unfolding copiedOf
-copy-told bytes out start = by (readOf bytes .answer) (readOf bytes .count)
+-- What a copy or a move answers: 30 to 35 as the reading does, then 20 by the edition that is written, else the count.
+pub copy-told : (moved : Bool) (bytes out : List ℕ) (start : ℕ)
+    → copyAnswer (writtenAs moved bytes out start) ≡ orNoRoom (widthIn (chosenEdition moved (readOf bytes .edition))) (recordOrder (readOf bytes)) start (length out)
+unfolding writtenAs
+copy-told moved bytes out start = by (readOf bytes .answer) (chosenEdition moved (readOf bytes .edition)) (readOf bytes .count)
   where
-    fits : (n : ℕ) (b : Bool) → ltb (length out) (start + (5 * n + 5)) ≡ b → copyAnswer (cond (not b) (CopyWritten n) (NotCopied NoRoom)) ≡ cond b noRoom (given n)
-    fits n true e = refl
-    fits n false e = refl
+    fits : (chosen : Known) (n : ℕ) (b : Bool) → ltb (length out) (start + (widthIn chosen * n + 5)) ≡ b → copyAnswer (cond (not b) (CopyWritten n) CopyNoRoom) ≡ cond b noRoom (given n)
+    fits chosen n true e = refl
+    fits chosen n false e = refl
 
-    by : (a : Reading) (n : ℕ) → copyAnswer (copiedBy a n start (length out)) ≡ orNoRoom (orderBy a n) start (length out)
-    by Accepted n = rw (room-as start n (length out)) (fits n (ltb (length out) (start + (5 * n + 5))) refl)
-    by (Refused r) n = refl
+    by : (a : Reading) (chosen : Known) (n : ℕ) → copyAnswer (copiedBy a chosen n start (length out)) ≡ orNoRoom (widthIn chosen) (orderBy a n) start (length out)
+    by Accepted chosen n = rw (room-as (widthIn chosen * n + 5) start (length out)) (fits chosen n (ltb (length out) (start + (widthIn chosen * n + 5))) refl)
+    by (Refused r) chosen n = refl
 
 -- What is answered for a symbol's record: 1 to 14 as for the symbol's order, then 20, else the order.
-pub symbol-record-told : (text out : List ℕ) (start : ℕ) → symbolRecordAnswer (symbolRecordOf text out start) ≡ orNoRoom (orderAnswer (orderOf text)) start (length out)
+pub symbol-record-told : (text out : List ℕ) (start : ℕ) → symbolRecordAnswer (symbolRecordOf text out start) ≡ orNoRoom 5 (orderAnswer (orderOf text)) start (length out)
 unfolding symbolRecordOf orderOf
 symbol-record-told text out start = by (symbolAnswer text .answer) (symbolAnswer text .count)
   where
@@ -191,21 +196,19 @@ symbol-record-told text out start = by (symbolAnswer text .answer) (symbolAnswer
     fits n true e = refl
     fits n false e = refl
 
-    by : (a : symbol-answer.Answer) (n : ℕ) → symbolRecordAnswer (writtenBy a n start (length out)) ≡ orNoRoom (orderAnswer (symbol.orderBy a n)) start (length out)
-    by symbol-answers.Group n = rw (room-as start n (length out)) (fits n (ltb (length out) (start + (5 * n + 5))) refl)
+    by : (a : symbol-answer.Answer) (n : ℕ) → symbolRecordAnswer (writtenBy a n start (length out)) ≡ orNoRoom 5 (orderAnswer (symbol.orderBy a n)) start (length out)
+    by symbol-answers.Group n = rw (room-as (5 * n + 5) start (length out)) (fits n (ltb (length out) (start + (5 * n + 5))) refl)
     by (symbol-answers.Refused r) n = refl
 
 -- ---- number, place and value determine the answer
 -- The refusal of a number.
 refusalOf : ℕ → Refusal
 refusalOf n =
-    cond (eqb n 20) NoRoom
-    (cond (eqb n 30) Short
-    (cond (eqb n 31) WrongEdition (cond (eqb n 32) WrongLetter (cond (eqb n 33) WrongLength (cond (eqb n 34) WrongItem NotAllowed)))))
+    cond (eqb n 30) Short
+    (cond (eqb n 31) WrongEdition (cond (eqb n 32) WrongLetter (cond (eqb n 33) WrongLength (cond (eqb n 34) WrongItem NotAllowed))))
 
 refusal-again : (r : Refusal) → refusalOf (refusalNumber r) ≡ r
 unfolding refusalOf
-refusal-again NoRoom = refl
 refusal-again Short = refl
 refusal-again WrongEdition = refl
 refusal-again WrongLetter = refl
@@ -217,41 +220,62 @@ refusal-again NotAllowed = refl
 pub one-refusal : (r s : Refusal) → refusalNumber r ≡ refusalNumber s → r ≡ s
 one-refusal r s e = sym (refusal-again r) ∙ ap refusalOf e ∙ refusal-again s
 
+-- No refusal of a reading is 20.
+not-twenty : (r : Refusal) → ¬ (refusalNumber r ≡ 20)
+not-twenty Short e = absurd (omega arith)
+not-twenty WrongEdition e = absurd (omega arith)
+not-twenty WrongLetter e = absurd (omega arith)
+not-twenty WrongLength e = absurd (omega arith)
+not-twenty WrongItem e = absurd (omega arith)
+not-twenty NotAllowed e = absurd (omega arith)
+
 -- Copies that are answered alike are one.
 pub one-copy : (a b : Copied) → copyAnswer a ≡ copyAnswer b → a ≡ b
 one-copy (CopyWritten n) (CopyWritten m) e = cc
+one-copy (CopyWritten n) CopyNoRoom e = let z : _≡_ {A = ℕ} 0 1 = cc in absurd (omega arith)
 one-copy (CopyWritten n) (NotCopied s) e = let z : _≡_ {A = ℕ} 0 1 = cc in absurd (omega arith)
+one-copy CopyNoRoom (CopyWritten m) e = let z : _≡_ {A = ℕ} 0 1 = cc in absurd (omega arith)
+one-copy CopyNoRoom CopyNoRoom e = refl
+one-copy CopyNoRoom (NotCopied s) e = let same : refusalNumber s ≡ 20 = cc in absurd (not-twenty s same)
 one-copy (NotCopied r) (CopyWritten m) e = let z : _≡_ {A = ℕ} 0 1 = cc in absurd (omega arith)
+one-copy (NotCopied r) CopyNoRoom e = let same : refusalNumber r ≡ 20 = cc in absurd (not-twenty r same)
 one-copy (NotCopied r) (NotCopied s) e = let same : refusalNumber r ≡ refusalNumber s = cc in ap NotCopied (one-refusal r s same)
 
 -- A reading is refused or accepted.
 abbrev Shape : RecordGroup → Type 0
-Shape g = ((r : Refusal) × (g ≡ refusedGroup r)) ⊎ ((c : Centering) × (l : List Operation) × (g ≡ acceptedGroup c l))
+Shape g = ((r : Refusal) × (g ≡ refusedGroup r)) ⊎ ((k : Known) × (c : Centering) × (l : List Operation) × (g ≡ acceptedGroup k c l))
 
-shape : (t : Told Item Centering (Unit {0})) → Shape (groupOf t)
+shape : (t : Told Item Centering Known) → Shape (groupOf t)
 shape (not-held r) = inl (r, refl)
-shape (holds k c items) = inr (c, map operationOfItem items, refl)
+shape (holds k c items) = inr (k, c, map operationOfItem items, refl)
 
-same-shape : (g h : RecordGroup) → Shape g → Shape h → groupAnswer g ≡ groupAnswer h → g ≡ h
+-- Accepted readings that state one edition are of one.
+accepted-edition : (a b : Known) (c d : Centering) (l k : List Operation) → recordEdition (acceptedGroup a c l) ≡ recordEdition (acceptedGroup b d k) → a ≡ b
+unfolding acceptedGroup
+accepted-edition a b c d l k e = let same : editionOf a .number ≡ editionOf b .number = cc in one-edition a b same
+
+same-shape : (g h : RecordGroup) → Shape g → Shape h → groupAnswer g ≡ groupAnswer h → recordEdition g ≡ recordEdition h → g ≡ h
 unfolding refusedGroup
-same-shape g h (inl (r, p)) (inl (s, q)) e =
+same-shape g h (inl (r, p)) (inl (s, q)) e n =
     let answers : groupAnswer (refusedGroup r) ≡ groupAnswer (refusedGroup s) = sym (ap groupAnswer p) ∙ e ∙ ap groupAnswer q in
     let same : refusalNumber r ≡ refusalNumber s = cc in
     p ∙ ap refusedGroup (one-refusal r s same) ∙ sym q
-same-shape g h (inl (r, p)) (inr (c, l, q)) e =
-    let clash : groupAnswer (refusedGroup r) ≡ given (c, l) = sym (ap groupAnswer p) ∙ e ∙ ap groupAnswer q ∙ accepted-answer c l in
+same-shape g h (inl (r, p)) (inr (k, c, l, q)) e n =
+    let clash : groupAnswer (refusedGroup r) ≡ given (c, l) = sym (ap groupAnswer p) ∙ e ∙ ap groupAnswer q ∙ accepted-answer k c l in
     let z : _≡_ {A = ℕ} 0 1 = cc in
     absurd (omega arith)
-same-shape g h (inr (c, l, p)) (inl (r, q)) e =
-    let clash : groupAnswer (refusedGroup r) ≡ given (c, l) = sym (ap groupAnswer q) ∙ sym e ∙ ap groupAnswer p ∙ accepted-answer c l in
+same-shape g h (inr (k, c, l, p)) (inl (r, q)) e n =
+    let clash : groupAnswer (refusedGroup r) ≡ given (c, l) = sym (ap groupAnswer q) ∙ sym e ∙ ap groupAnswer p ∙ accepted-answer k c l in
     let z : _≡_ {A = ℕ} 0 1 = cc in
     absurd (omega arith)
-same-shape g h (inr (c, l, p)) (inr (d, k, q)) e =
-    let answers : _≡_ {A = Answer (Centering × List Operation) Nothing} (given (c, l)) (given (d, k)) = sym (accepted-answer c l) ∙ sym (ap groupAnswer p) ∙ e ∙ ap groupAnswer q ∙ accepted-answer d k in
+same-shape g h (inr (a, c, l, p)) (inr (b, d, k, q)) e n =
+    let answers : _≡_ {A = Answer (Centering × List Operation) Nothing} (given (c, l)) (given (d, k)) = sym (accepted-answer a c l) ∙ sym (ap groupAnswer p) ∙ e ∙ ap groupAnswer q ∙ accepted-answer b d k in
     let same : _≡_ {A = Centering × List Operation} (c, l) (d, k) = cc in
-    p ∙ ap (λ (x : Centering × List Operation). acceptedGroup (x .0) (x .1)) same ∙ sym q
+    let edition : a ≡ b = accepted-edition a b c d l k (sym (ap recordEdition p) ∙ n ∙ ap recordEdition q) in
+    p ∙ ap₂ (λ (m : Known) (x : Centering × List Operation). acceptedGroup m (x .0) (x .1)) edition same ∙ sym q
 
 -- Readings that are answered alike are one: nothing else is in what the reader hands back.
-pub one-reading : (bytes other : List ℕ) → groupAnswer (readOf bytes) ≡ groupAnswer (readOf other) → readOf bytes ≡ readOf other
+pub one-reading : (bytes other : List ℕ) → groupAnswer (readOf bytes) ≡ groupAnswer (readOf other) → recordEdition (readOf bytes) ≡ recordEdition (readOf other)
+    → readOf bytes ≡ readOf other
 unfolding readOf
-one-reading bytes other e = same-shape (readOf bytes) (readOf other) (shape (toldBy firstRules bytes)) (shape (toldBy firstRules other)) e
+one-reading bytes other e n = same-shape (readOf bytes) (readOf other) (shape (toldBy bothRules bytes)) (shape (toldBy bothRules other)) e n

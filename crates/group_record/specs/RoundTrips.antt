@@ -12,31 +12,34 @@ use Rattle.operation.specs.Composed.{identity-motion}
 use Rattle.operation.specs.Meaning.{motionOf}
 use Rattle.operation.specs.Product.{identityOperation}
 use Rattle.operation.specs.declared.Operation.{Operation}
+use Rattle.centering.specs.Letters.{byteOf}
 use Rattle.centering.specs.declared.Centering.{Centering}
 use Rattle.group_record.specs.Items.{Bytes}
 use Rattle.group_record.specs.OperationItems.{Item, itemOf, operationOfItem}
-use Rattle.group_record.specs.FirstEdition.{itemWidth}
-use Rattle.group_record.specs.Record.{totalLength, smallestOperation, listedForm, writtenIn, written, recordIn, recordOf}
+use Rattle.group_record.specs.BothEditions.{editionOf, widthIn}
+use Rattle.group_record.specs.Record.{totalLength, smallestOperation, listedForm, writtenIn, recordIn, recordBy, recordOf}
 use Rattle.group_record.specs.Rules.{Told, holds, toldBy}
 use Rattle.group_record.specs.Rules.{refused as not-held}
-use Rattle.group_record.specs.Reading.{GroupReading, rulesOf, firstReading, firstRules, groupOf, readOf, acceptedGroup, refusedGroup, slots, groupAnswer}
+use Rattle.group_record.specs.Reading.{GroupReading, rulesOf, bothReading, bothRules, groupOf, readOf, acceptedGroup, refusedGroup, slots, groupAnswer}
 use Rattle.group_record.specs.Groups.{Alike, InSet, Allowed, Listing, Form}
 use Rattle.group_record.specs.ListedForm.{form-member, member-form, form-length, listed-form, form-listing, form-again, alike-symmetric, alike-transitive, smallest-alike}
-use Rattle.group_record.specs.OneRecord.{operations-of-items, record-length}
+use Rattle.group_record.specs.OneRecord.{operations-of-items, record-by-length}
 use Rattle.group_record.specs.GroupLaws.{SpaceGroup, allowed-group, compose-alike, identity-listed}
 use Rattle.group_record.specs.ReadingTests.{origin-smallest}
 use Rattle.group_record.specs.Acceptance.{Holds, Tells, tells-exactly, holds-told}
+use Rattle.group_record.specs.declared.Edition.{Edition as Known}
+use Rattle.group_record.specs.declared.Edition.the-variants.{First}
 use Rattle.group_record.specs.declared.Reading.the-variants.{Accepted, Refused}
 use Rattle.group_record.specs.declared.RecordGroup.{RecordGroup}
 
 -- ---- the answer says the letter and the operations
-pub accepted-answer : (c : Centering) (l : List Operation) → groupAnswer (acceptedGroup c l) ≡ given (c, l)
+pub accepted-answer : (edition : Known) (c : Centering) (l : List Operation) → groupAnswer (acceptedGroup edition c l) ≡ given (c, l)
 unfolding acceptedGroup slots
-accepted-answer c l = ap (λ (k : List Operation). given (c, k)) (take-at l (replicate (48 - length l) identityOperation) (length l) refl)
+accepted-answer edition c l = ap (λ (k : List Operation). given (c, k)) (take-at l (replicate (48 - length l) identityOperation) (length l) refl)
 
-accepted-says : (c : Centering) (l : List Operation) → acceptedGroup c l .answer ≡ Accepted
+accepted-says : (edition : Known) (c : Centering) (l : List Operation) → acceptedGroup edition c l .answer ≡ Accepted
 unfolding acceptedGroup
-accepted-says c l = refl
+accepted-says edition c l = refl
 
 -- ---- allowed operations stay allowed in the listed form
 module _ (c : Centering) {l : List Operation} (L : Listing l) (A : Allowed c (map motionOf l)) where
@@ -110,39 +113,46 @@ module _ {Sign Kind : Type 0} (G : GroupReading Sign Kind) where
         group = allowed-group (G .lattice c) (form-listing (G .lattice c) (h .form)) (h .allowed);
       }
 
--- ---- edition 1
+-- ---- editions 1 and 3
 -- What was written reads back, wherever it stands at the end of a buffer; and it is the same group.
-pub reads-back : (c : Centering) {l : List Operation} → Listing l → Allowed c (map motionOf l) → (front : List ℕ) → readOf (front ++ recordOf c l) ≡ acceptedGroup c (listedForm c l)
-unfolding readOf recordOf
-reads-back c {l} L A front =
-    ap groupOf (tells-back firstReading tt c L A tt front) ∙ ap (acceptedGroup c) (operations-of-items (listedForm c l) (listed-form c L .entries))
+pub reads-back-in : (edition : Known) (c : Centering) {l : List Operation} → Listing l → Allowed c (map motionOf l) → (front : List ℕ)
+    → readOf (front ++ recordBy edition c l) ≡ acceptedGroup edition c (listedForm c l)
+unfolding readOf recordBy
+reads-back-in edition c {l} L A front =
+    ap groupOf (tells-back bothReading edition c L A tt front) ∙ ap (acceptedGroup edition c) (operations-of-items (listedForm c l) (listed-form c L .entries))
+
+-- In edition 1.
+pub reads-back : (c : Centering) {l : List Operation} → Listing l → Allowed c (map motionOf l) → (front : List ℕ) → readOf (front ++ recordOf c l) ≡ acceptedGroup First c (listedForm c l)
+unfolding recordBy recordOf
+reads-back c L A front = reads-back-in First c L A front
 
 -- What is read as a group holds it: its operations are those of the items that are told.
 pub accepted-holds : (bytes : List ℕ) → Bytes bytes → readOf bytes .answer ≡ Accepted
-    → Holds firstReading bytes tt (readOf bytes .centering) (take (readOf bytes .count) (readOf bytes .operations))
+    → Holds bothReading bytes (readOf bytes .edition) (readOf bytes .centering) (take (readOf bytes .count) (readOf bytes .operations))
 unfolding readOf refusedGroup acceptedGroup slots
-accepted-holds bytes g e = by (toldBy firstRules bytes) refl e
+accepted-holds bytes g e = by (toldBy bothRules bytes) refl e
   where
-    by : (t : Told Item Centering (Unit {0})) → toldBy firstRules bytes ≡ t → groupOf t .answer ≡ Accepted
-        → Holds firstReading bytes tt (groupOf t .centering) (take (groupOf t .count) (groupOf t .operations))
+    by : (t : Told Item Centering Known) → toldBy bothRules bytes ≡ t → groupOf t .answer ≡ Accepted
+        → Holds bothReading bytes (groupOf t .edition) (groupOf t .centering) (take (groupOf t .count) (groupOf t .operations))
     by (not-held r) p a = let z : _≡_ {A = ℕ} 0 1 = cc in absurd (omega arith)
     by (holds k c items) p a =
         let l = map operationOfItem items in
-        rw (take-at l (replicate (48 - length l) identityOperation) (length l) refl) (tells-exactly firstReading bytes g tt c l .0 (items, p, refl))
+        rw (take-at l (replicate (48 - length l) identityOperation) (length l) refl) (tells-exactly bothReading bytes g k c l .0 (items, p, refl))
 
 -- ---- what was read
 -- What is read is the record of a group, and is written as the bytes it was read from.
-pub record Reads (bytes : List ℕ) (c : Centering) (l : List Operation) : Type 0 where
+pub record Reads (bytes : List ℕ) (edition : Known) (c : Centering) (l : List Operation) : Type 0 where
   pub front : List ℕ
-  pub same-bytes : bytes ≡ front ++ recordOf c l
+  pub same-bytes : bytes ≡ front ++ recordBy edition c l
   pub form : Form c l
   pub allowed : Allowed c (map motionOf l)
   pub group : SpaceGroup c (InSet c (map motionOf l))
 
-pub written-again : (bytes : List ℕ) → Bytes bytes → readOf bytes .answer ≡ Accepted → Reads bytes (readOf bytes .centering) (take (readOf bytes .count) (readOf bytes .operations))
-unfolding recordOf
+pub written-again : (bytes : List ℕ) → Bytes bytes → readOf bytes .answer ≡ Accepted
+    → Reads bytes (readOf bytes .edition) (readOf bytes .centering) (take (readOf bytes .count) (readOf bytes .operations))
+unfolding recordBy
 written-again bytes g e =
-    let again = holds-again firstReading bytes tt _ _ (accepted-holds bytes g e) in
+    let again = holds-again bothReading bytes _ _ _ (accepted-holds bytes g e) in
     record { front = again .front; same-bytes = again .same-bytes; form = again .form; allowed = again .allowed; group = again .group }
 
 -- ---- what the writer is asked
@@ -155,13 +165,13 @@ pub record Writable (g : RecordGroup) : Type 0 where
 -- What was read may be written.
 pub read-writable : (bytes : List ℕ) (g : RecordGroup) → Bytes bytes → g ≡ readOf bytes → g .answer ≡ Accepted → Writable g
 unfolding readOf refusedGroup acceptedGroup slots
-read-writable bytes g b e a = subst Writable (sym e) (by (toldBy firstRules bytes) refl (ap (λ (h : RecordGroup). h .answer) (sym e) ∙ a))
+read-writable bytes g b e a = subst Writable (sym e) (by (toldBy bothRules bytes) refl (ap (λ (h : RecordGroup). h .answer) (sym e) ∙ a))
   where
-    by : (t : Told Item Centering (Unit {0})) → toldBy firstRules bytes ≡ t → groupOf t .answer ≡ Accepted → Writable (groupOf t)
+    by : (t : Told Item Centering Known) → toldBy bothRules bytes ≡ t → groupOf t .answer ≡ Accepted → Writable (groupOf t)
     by (not-held r) p q = let z : _≡_ {A = ℕ} 0 1 = cc in absurd (omega arith)
     by (holds k c items) p q =
         let l = map operationOfItem items in
-        let h = tells-exactly firstReading bytes b tt c l .0 (items, p, refl) in
+        let h = tells-exactly bothReading bytes b k c l .0 (items, p, refl) in
         let size = length-append l (replicate (48 - length l) identityOperation) in
         record {
           few = rw (length-map l motionOf) at (h .allowed .count .1);
@@ -170,10 +180,11 @@ read-writable bytes g b e a = subst Writable (sym e) (by (toldBy firstRules byte
         }
 
 -- ---- acceptance
--- The answer says its letter and its list: two accepted answers that are equal hold the same.
-accepted-injective : (c d : Centering) (l k : List Operation) → acceptedGroup c l ≡ acceptedGroup d k → (c ≡ d) × (l ≡ k)
+-- The answer says its edition, its letter and its list: two accepted answers that are equal hold the same.
+pub accepted-injective : (a b : Known) (c d : Centering) (l k : List Operation) → acceptedGroup a c l ≡ acceptedGroup b d k → (a ≡ b) × (c ≡ d) × (l ≡ k)
 unfolding acceptedGroup slots
-accepted-injective c d l k e = (
+accepted-injective a b c d l k e = (
+  ap (λ (g : RecordGroup). g .edition) e,
   ap (λ (g : RecordGroup). g .centering) e,
   sym (take-at l (replicate (48 - length l) identityOperation) (length l) refl)
       ∙ ap (λ (g : RecordGroup). take (g .count) (g .operations)) e
@@ -181,38 +192,41 @@ accepted-injective c d l k e = (
 )
 
 -- What is read as a group are the operations that are told.
-accepted-tells : (bytes : List ℕ) (c : Centering) (l : List Operation) → readOf bytes ≡ acceptedGroup c l → Tells firstReading bytes tt c l
+accepted-tells : (bytes : List ℕ) (edition : Known) (c : Centering) (l : List Operation) → readOf bytes ≡ acceptedGroup edition c l → Tells bothReading bytes edition c l
 unfolding readOf refusedGroup
-accepted-tells bytes c l e = by (toldBy firstRules bytes) refl e
+accepted-tells bytes edition c l e = by (toldBy bothRules bytes) refl e
   where
-    by : (t : Told Item Centering (Unit {0})) → toldBy firstRules bytes ≡ t → groupOf t ≡ acceptedGroup c l → Tells firstReading bytes tt c l
+    by : (t : Told Item Centering Known) → toldBy bothRules bytes ≡ t → groupOf t ≡ acceptedGroup edition c l → Tells bothReading bytes edition c l
     by (not-held r) p q =
-        let clash : Refused r ≡ Accepted = ap (λ (g : RecordGroup). g .answer) q ∙ accepted-says c l in
+        let clash : Refused r ≡ Accepted = ap (λ (g : RecordGroup). g .answer) q ∙ accepted-says edition c l in
         let z : _≡_ {A = ℕ} 0 1 = cc in
         absurd (omega arith)
     by (holds k d items) p q =
-        let (same-letter, same-list) = accepted-injective d c (map operationOfItem items) l q in
-        (items, p ∙ ap (λ (a : Centering). holds tt a items) same-letter, same-list)
+        let (same-edition, same-letter, same-list) = accepted-injective k edition d c (map operationOfItem items) l q in
+        (items, p ∙ ap₂ (λ (j : Known) (a : Centering). holds j a items) same-edition same-letter, same-list)
 
 -- A buffer is read as a group exactly if it ends with the record of allowed operations in the listed form.
-pub accepted-exactly : (bytes : List ℕ) → Bytes bytes → (c : Centering) (l : List Operation)
-    → (readOf bytes ≡ acceptedGroup c l) ↔ ((front : List ℕ) × (bytes ≡ front ++ written c l) × Form c l × Allowed c (map motionOf l))
-unfolding readOf written
-accepted-exactly bytes g c l = (
-  (λ e. let h = tells-exactly firstReading bytes g tt c l .0 (accepted-tells bytes c l e) in (h .front, h .same-bytes, h .form, h .allowed)),
+pub accepted-exactly : (bytes : List ℕ) → Bytes bytes → (edition : Known) (c : Centering) (l : List Operation)
+    → (readOf bytes ≡ acceptedGroup edition c l) ↔ ((front : List ℕ) × (bytes ≡ front ++ writtenIn (editionOf edition) (byteOf c) l) × Form c l × Allowed c (map motionOf l))
+unfolding readOf
+accepted-exactly bytes g edition c l = (
+  (λ e. let h = tells-exactly bothReading bytes g edition c l .0 (accepted-tells bytes edition c l e) in (h .front, h .same-bytes, h .form, h .allowed)),
   λ (front, e, F, A).
-      let (items, p, q) = tells-exactly firstReading bytes g tt c l .1 (record { front = front; same-bytes = e; form = F; allowed = A; further = tt }) in
-      ap groupOf p ∙ ap (acceptedGroup c) q,
+      let (items, p, q) = tells-exactly bothReading bytes g edition c l .1 (record { front = front; same-bytes = e; form = F; allowed = A; further = tt }) in
+      ap groupOf p ∙ ap (acceptedGroup edition c) q,
 )
 
 -- A copy's bytes are those that were read: the last ones of the buffer.
-pub copied-bytes : (bytes : List ℕ) → Bytes bytes → readOf bytes .answer ≡ Accepted → recordOf (readOf bytes .centering) (take (readOf bytes .count) (readOf bytes .operations)) ≡ drop (length bytes - totalLength itemWidth (readOf bytes .count)) bytes
+pub copied-bytes : (bytes : List ℕ) → Bytes bytes → readOf bytes .answer ≡ Accepted
+    → recordBy (readOf bytes .edition) (readOf bytes .centering) (take (readOf bytes .count) (readOf bytes .operations))
+    ≡ drop (length bytes - totalLength (widthIn (readOf bytes .edition)) (readOf bytes .count)) bytes
 copied-bytes bytes g e =
+    let edition = readOf bytes .edition in
     let c = readOf bytes .centering in
     let n = readOf bytes .count in
     let l = take n (readOf bytes .operations) in
     let r = written-again bytes g e in
     let few = length-take-le n (readOf bytes .operations) (read-writable bytes (readOf bytes) g refl e .there) in
-    let size : length (recordOf c l) ≡ totalLength itemWidth n = record-length c l ∙ ap (totalLength itemWidth) few in
-    let place : length (r .front) ≡ length bytes - totalLength itemWidth n = omega (arith, size, length-append (r .front) (recordOf c l), ap length (r .same-bytes)) in
-    sym (ap (drop (length bytes - totalLength itemWidth n)) (r .same-bytes) ∙ drop-at (r .front) (recordOf c l) (length bytes - totalLength itemWidth n) place)
+    let size : length (recordBy edition c l) ≡ totalLength (widthIn edition) n = record-by-length edition c l ∙ ap (totalLength (widthIn edition)) few in
+    let place : length (r .front) ≡ length bytes - totalLength (widthIn edition) n = omega (arith, size, length-append (r .front) (recordBy edition c l), ap length (r .same-bytes)) in
+    sym (ap (drop (length bytes - totalLength (widthIn edition) n)) (r .same-bytes) ∙ drop-at (r .front) (recordBy edition c l) (length bytes - totalLength (widthIn edition) n) place)

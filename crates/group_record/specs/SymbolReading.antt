@@ -26,6 +26,7 @@ use Rattle.group_record.specs.Copying.{roomFor}
 use Rattle.group_record.specs.SymbolRecords.{textRecord, writtenBy, symbolRecordOf, placedBy, symbolBufferOf}
 use Rattle.group_record.specs.AcceptedSymbols.{accepted-listing, accepted-allowed}
 use Rattle.group_record.specs.SymbolSets.{InSetOf, record-of-list, set-of-list}
+use Rattle.group_record.specs.declared.Edition.the-variants.{First}
 use Rattle.group_record.specs.declared.Reading.the-variants.{Accepted}
 use Rattle.group_record.specs.declared.RecordGroup.{RecordGroup}
 use Rattle.group_record.specs.declared.SymbolRecord.the-variants.{Written, NoRoom}
@@ -56,7 +57,7 @@ module _ (text : List ℕ) (A : AcceptedText text) where
   )
 
   -- So what a record of them is read as is the symbol's group.
-  form-reads : ReadsAs text (acceptedGroup (A .letter) form)
+  form-reads : ReadsAs text (acceptedGroup First (A .letter) form)
   unfolding acceptedGroup
   form-reads =
       record {
@@ -68,7 +69,7 @@ module _ (text : List ℕ) (A : AcceptedText text) where
       }
 
   -- Whatever stands before the record.
-  record-reads : (front : List ℕ) → readOf (front ++ textRecord text) ≡ acceptedGroup (A .letter) form
+  record-reads : (front : List ℕ) → readOf (front ++ textRecord text) ≡ acceptedGroup First (A .letter) form
   record-reads front =
       ap (λ (bytes : List ℕ). readOf (front ++ bytes)) (record-of-list text A)
       ∙ reads-back (A .letter) (accepted-listing (A .letter) (A .generators) (A .operations) (A .steps) (A .accepted)) (accepted-allowed (A .letter) (A .generators) (A .operations) (A .steps) (A .accepted)) front

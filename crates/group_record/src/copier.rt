@@ -1,15 +1,15 @@
-// A record copied: what is read from one buffer is written at a stated place of another.
+// What is read from one buffer, written at a stated place of another: a copy in its own edition, or moved to the other edition.
 ghost use mathlib.Core.Path.{_≡_};
-ghost use lib.ListN.{length, take};
-ghost use Rattle.group_record.specs.Record.{recordOf};
+ghost use mathlib.Core.Bool.{true, false};
+ghost use lib.ListN.{length};
 ghost use Rattle.group_record.specs.Places.{placedIn};
-ghost use Rattle.group_record.specs.Copying.{copiedBy, copiedOf, bufferOf};
+ghost use Rattle.group_record.specs.Copying.{chosenEdition, copiedBy, groupBytes, writtenAs, copiedOf, movedOf, bufferAs, bufferOf, movedBufferOf};
 ghost use Rattle.group_record.specs.RoundTrips.{Writable};
 ghost use Rattle.group_record.specs.declared.Reading.the-variants.{Accepted};
 use super::Copied;
+use super::Edition;
 use super::Reading;
 use super::RecordGroup;
-use super::Refusal;
 use super::reader::read_record;
 use super::writer::place_group;
 
@@ -17,23 +17,46 @@ use super::writer::place_group;
 pub fn copy_record(bytes: &[u8], out: &mut [u8], start: usize) -> Copied
     ensures { λ r. ⌜ (r ≡ copiedOf (now (bytes .entry)) (now (out .entry)) start) × (now (out .exit) ≡ bufferOf (now (bytes .entry)) (now (out .entry)) start) ⌝ }
 {
+    write_read(bytes, out, start, false)
+}
+
+// The same in the other edition.
+pub fn move_record(bytes: &[u8], out: &mut [u8], start: usize) -> Copied
+    ensures { λ r. ⌜ (r ≡ movedOf (now (bytes .entry)) (now (out .entry)) start) × (now (out .exit) ≡ movedBufferOf (now (bytes .entry)) (now (out .entry)) start) ⌝ }
+{
+    write_read(bytes, out, start, true)
+}
+
+fn write_read(bytes: &[u8], out: &mut [u8], start: usize, moved: bool) -> Copied
+    ensures { λ r. ⌜ (r ≡ writtenAs moved (now (bytes .entry)) (now (out .entry)) start) × (now (out .exit) ≡ bufferAs moved (now (bytes .entry)) (now (out .entry)) start) ⌝ }
+{
     let group = read_record(bytes);
     let answer = group.answer;
+    let edition = chosen(group.edition, moved);
     match answer {
-        Reading::Accepted => place_read(out, start, group),
+        Reading::Accepted => place_read(out, start, edition, group),
         Reading::Refused(why) => Copied::Refused(why),
     }
 }
 
-fn place_read(out: &mut [u8], start: usize, group: RecordGroup) -> Copied
+fn chosen(edition: Edition, moved: bool) -> Edition
+    ensures { λ r. ⌜ r ≡ chosenEdition moved edition ⌝ }
+{
+    if moved {
+        return edition.other();
+    }
+    edition
+}
+
+fn place_read(out: &mut [u8], start: usize, edition: Edition, group: RecordGroup) -> Copied
     requires { ⌜ Writable group ⌝ }
-    ensures { λ r. ⌜ (r ≡ copiedBy Accepted (group .count) start (length (now (out .entry)))) × (now (out .exit) ≡ placedIn (now (out .entry)) start (recordOf (group .centering) (take (group .count) (group .operations)))) ⌝ }
+    ensures { λ r. ⌜ (r ≡ copiedBy Accepted edition (group .count) start (length (now (out .entry)))) × (now (out .exit) ≡ placedIn (now (out .entry)) start (groupBytes edition group)) ⌝ }
 {
     let n = group.count;
     let c = group.centering;
     let operations = group.operations;
-    if !place_group(out, start, c, operations, n) {
-        return Copied::Refused(Refusal::NoRoom);
+    if !place_group(out, start, edition, c, operations, n) {
+        return Copied::NoRoom;
     }
     Copied::Written(n)
 }

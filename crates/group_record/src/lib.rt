@@ -1,17 +1,46 @@
 // The group record: the byte form of a group of operations, written and read. New in the port: the Rust has no such form.
 pub mod copier;
+mod items;
 pub mod reader;
 pub mod symbol;
 mod writer;
 
 ghost use mathlib.Core.Path.{_≡_};
+ghost use Rattle.group_record.specs.BothEditions.{editionOf, otherEdition};
 ghost use Rattle.group_record.specs.Reading.{refusalNumber};
 use centering::Centering;
 use operation::Operation;
 
-// Why a record is not read, or not written.
+// The editions that are read and written: five bytes an operation, and four.
+pub enum Edition {
+    First,
+    Third,
+}
+
+impl Edition {
+    // The number that its records state.
+    pub fn number(self) -> u8
+        ensures { λ r. ⌜ r ≡ editionOf self .number ⌝ }
+    {
+        match self {
+            Edition::First => 1,
+            Edition::Third => 3,
+        }
+    }
+
+    // The edition that a record is moved to.
+    pub fn other(self) -> Edition
+        ensures { λ r. ⌜ r ≡ otherEdition self ⌝ }
+    {
+        match self {
+            Edition::First => Edition::Third,
+            Edition::Third => Edition::First,
+        }
+    }
+}
+
+// Why a record is not read.
 pub enum Refusal {
-    NoRoom,
     Short,
     WrongEdition,
     WrongLetter,
@@ -26,7 +55,6 @@ impl Refusal {
         ensures { λ r. ⌜ r ≡ refusalNumber self ⌝ }
     {
         match self {
-            Refusal::NoRoom => 20,
             Refusal::Short => 30,
             Refusal::WrongEdition => 31,
             Refusal::WrongLetter => 32,
@@ -43,16 +71,19 @@ pub enum Reading {
 }
 
 // What a record holds: count operations, ascending by code; the rest of the 48 is the identity.
-// A refused record leaves P, no operation, and the identity 48 times.
+// A refused record leaves edition 1, P, no operation, and the identity 48 times.
 pub struct RecordGroup {
     pub answer: Reading,
+    pub edition: Edition,
     pub centering: Centering,
     pub count: usize,
     pub operations: [Operation; 48],
 }
 
+// What was read, written: how many operations it holds. `NoRoom` is refusal 20 at place 0.
 pub enum Copied {
     Written(usize),
+    NoRoom,
     Refused(Refusal),
 }
 

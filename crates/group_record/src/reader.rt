@@ -1,52 +1,89 @@
 // Reading a record: the rules of refusals 30 to 35, in order, tried on the bytes as they stand.
 ghost use mathlib.Core.Path.{_≡_};
 ghost use Prim.Native.Nat.{_+_, _*_, _≤_, _<_};
-ghost use lib.ListN.{length};
+ghost use lib.ListN.{length, drop};
 ghost use Rattle.laws.specs.Distinct.{has};
 ghost use Rattle.laws.specs.Lattice.{all, sameTriple};
 ghost use Rattle.laws.specs.Sorted.{ascending};
+ghost use Rattle.centering.specs.Letters.{letterOf};
 ghost use Rattle.centering.specs.Lattices.{tripleOf};
-ghost use Rattle.group_record.specs.Reading.{operationOfItem, isItem, itemBefore, areItems, alikeItems, productListed, memberAllowed, isAllowed, readOf};
+ghost use Rattle.group_record.specs.Reading.{isItem, itemBefore, areItems, alikeItems, productListed, memberAllowed, isAllowed, readOf, readFirstOf};
 ghost use Rattle.group_record.specs.Editions.{fromEnd};
+ghost use Rattle.group_record.specs.BothEditions.{widthIn};
 ghost use Rattle.group_record.specs.Rules.{lengthFits};
 ghost use Rattle.group_record.specs.Record.{itemOf};
-ghost use Rattle.group_record.specs.Search.{itemsOf, itemAt, readCounted};
+ghost use Rattle.group_record.specs.Search.{itemsOf, itemAt, readCounted, readLettered};
 ghost use Rattle.group_record.specs.Found.{nothingFound, laidOut, Stands};
+use super::Edition;
 use super::Reading;
 use super::RecordGroup;
 use super::Refusal;
+use super::items::item_at;
+use super::items::items_length;
+use super::items::operation_at;
 use centering::Centering;
 use centering::Letter;
 use operation::Operation;
 use operation::Translation;
-use operation::code::Decoded;
 use operation::code::rotation_code;
-use operation::code::rotation_of_code;
 use operation::product::Product;
 use operation::product::identity;
 use operation::product::mul;
 
-// What is found at a buffer's end: the answer, and of a record that is accepted the letter, the count and the place of its first item.
+// What is found at a buffer's end: the answer, and of a record that is accepted the edition, the letter, the count and the place of its first item.
 struct Found {
     answer: Reading,
+    edition: Edition,
     centering: Centering,
     count: usize,
     start: usize,
 }
 
-// The record that ends where the bytes end. Its operations are laid out in one place for every answer, so that the code for 48 slots stands once.
+// The record that ends where the bytes end, of edition 1 or 3.
 pub fn read_record(bytes: &[u8]) -> RecordGroup
     ensures { λ r. ⌜ r ≡ readOf (now (bytes .entry)) ⌝ }
 {
-    let found = find(bytes);
+    lay_found(bytes, find(bytes))
+}
+
+// The same where edition 1 alone is known.
+pub fn read_first_record(bytes: &[u8]) -> RecordGroup
+    ensures { λ r. ⌜ r ≡ readFirstOf (now (bytes .entry)) ⌝ }
+{
+    lay_found(bytes, find_first(bytes))
+}
+
+// Operations are laid out in one place for every answer, so that the code for 48 slots stands once.
+fn lay_found(bytes: &[u8], found: Found) -> RecordGroup
+    requires { ⌜ (found .count ≤ 48) × (found .start + widthIn (found .edition) * found .count ≤ length (now bytes)) ⌝ }
+    ensures { λ r. ⌜ r ≡ laidOut (found .answer) (found .edition) (found .centering) (found .count) (drop (found .start) (now (bytes .entry))) ⌝ }
+{
     let start = found.start;
     let answer = found.answer;
+    let edition = found.edition;
     let c = found.centering;
-    laid_out(&bytes[start..], answer, c, found.count)
+    laid_out(&bytes[start..], answer, edition, c, found.count)
 }
 
 fn find(bytes: &[u8]) -> Found
     ensures { λ r. ⌜ Stands (now (bytes .entry)) r (readOf (now (bytes .entry))) ⌝ }
+{
+    let size = bytes.len();
+    if size < 9 {
+        return nothing(Refusal::Short);
+    }
+    let number = from_end(bytes, 4);
+    if number == 1 {
+        return find_lettered(bytes, Edition::First);
+    }
+    if number == 3 {
+        return find_lettered(bytes, Edition::Third);
+    }
+    nothing(Refusal::WrongEdition)
+}
+
+fn find_first(bytes: &[u8]) -> Found
+    ensures { λ r. ⌜ Stands (now (bytes .entry)) r (readFirstOf (now (bytes .entry))) ⌝ }
 {
     let size = bytes.len();
     if size < 10 {
@@ -55,10 +92,7 @@ fn find(bytes: &[u8]) -> Found
     if from_end(bytes, 4) != 1 {
         return nothing(Refusal::WrongEdition);
     }
-    let Letter::Is(c) = Centering::from_byte(from_end(bytes, 5)) else {
-        return nothing(Refusal::WrongLetter);
-    };
-    find_counted(bytes, c)
+    find_lettered(bytes, Edition::First)
 }
 
 fn nothing(why: Refusal) -> Found
@@ -66,6 +100,7 @@ fn nothing(why: Refusal) -> Found
 {
     Found {
         answer: Reading::Refused(why),
+        edition: Edition::First,
         centering: Centering::P,
         count: 0,
         start: 0,
@@ -80,25 +115,36 @@ fn from_end(bytes: &[u8], k: usize) -> u8
     bytes[bytes.len() - k]
 }
 
-fn find_counted(bytes: &[u8], c: Centering) -> Found
-    requires { ⌜ 10 ≤ length (now bytes) ⌝ }
-    ensures { λ r. ⌜ Stands (now (bytes .entry)) r (readCounted c (fromEnd (now (bytes .entry)) 3) (now (bytes .entry))) ⌝ }
+fn find_lettered(bytes: &[u8], edition: Edition) -> Found
+    requires { ⌜ 9 ≤ length (now bytes) ⌝ }
+    ensures { λ r. ⌜ Stands (now (bytes .entry)) r (readLettered edition (letterOf (fromEnd (now (bytes .entry)) 5)) (now (bytes .entry))) ⌝ }
+{
+    let Letter::Is(c) = Centering::from_byte(from_end(bytes, 5)) else {
+        return nothing(Refusal::WrongLetter);
+    };
+    find_counted(bytes, edition, c)
+}
+
+fn find_counted(bytes: &[u8], edition: Edition, c: Centering) -> Found
+    requires { ⌜ 9 ≤ length (now bytes) ⌝ }
+    ensures { λ r. ⌜ Stands (now (bytes .entry)) r (readCounted edition c (fromEnd (now (bytes .entry)) 3) (now (bytes .entry))) ⌝ }
 {
     let size = bytes.len();
     let n = from_end(bytes, 3) as usize;
     let stated = from_end(bytes, 2) as usize * 256 + from_end(bytes, 1) as usize;
-    if !length_fits(n, stated, size) {
+    if !length_fits(edition, n, stated, size) {
         return nothing(Refusal::WrongLength);
     }
-    let start = size - (5 * n + 5);
-    if !are_items(&bytes[start..], c, n) {
+    let start = size - stated;
+    if !are_items(&bytes[start..], edition, c, n) {
         return nothing(Refusal::WrongItem);
     }
-    if !is_allowed(&bytes[start..], c, n) {
+    if !is_allowed(&bytes[start..], edition, c, n) {
         return nothing(Refusal::NotAllowed);
     }
     Found {
         answer: Reading::Accepted,
+        edition,
         centering: c,
         count: n,
         start,
@@ -106,8 +152,8 @@ fn find_counted(bytes: &[u8], c: Centering) -> Found
 }
 
 // 1 to 48 operations, and the stated length right and within the buffer.
-fn length_fits(n: usize, stated: usize, size: usize) -> bool
-    ensures { λ r. ⌜ r ≡ lengthFits 5 48 n stated size ⌝ }
+fn length_fits(edition: Edition, n: usize, stated: usize, size: usize) -> bool
+    ensures { λ r. ⌜ r ≡ lengthFits (widthIn edition) 48 n stated size ⌝ }
 {
     if n < 1 {
         return false;
@@ -115,70 +161,30 @@ fn length_fits(n: usize, stated: usize, size: usize) -> bool
     if 48 < n {
         return false;
     }
-    let total = 5 * n + 5;
+    let total = items_length(edition, n) + 5;
     if stated != total {
         return false;
     }
     total <= size
 }
 
-fn item_code(bytes: &[u8], i: usize) -> u32
-    requires { ⌜ 5 * i + 5 ≤ length (now bytes) ⌝ }
-    ensures { λ r. ⌜ r ≡ itemAt (now (bytes .entry)) i .code ⌝ }
+fn are_items(bytes: &[u8], edition: Edition, c: Centering, n: usize) -> bool
+    requires { ⌜ (1 ≤ n) × (n ≤ 48) × (widthIn edition * n ≤ length (now bytes)) ⌝ }
+    ensures { λ r. ⌜ r ≡ areItems c (itemsOf edition n (now (bytes .entry))) ⌝ }
 {
-    let at = 5 * i;
-    bytes[at] as u32 * 256 + bytes[at + 1] as u32
-}
-
-fn item_translation(bytes: &[u8], i: usize) -> Translation
-    requires { ⌜ 5 * i + 5 ≤ length (now bytes) ⌝ }
-    ensures { λ r. ⌜ r ≡ itemAt (now (bytes .entry)) i .translation ⌝ }
-{
-    let at = 5 * i;
-    Translation {
-        x: bytes[at + 2],
-        y: bytes[at + 3],
-        z: bytes[at + 4],
-    }
-}
-
-// A code over 19682 gives the identity; no record that is accepted has one.
-fn operation_at(bytes: &[u8], i: usize) -> Operation
-    requires { ⌜ 5 * i + 5 ≤ length (now bytes) ⌝ }
-    ensures { λ r. ⌜ r ≡ operationOfItem (itemAt (now (bytes .entry)) i) ⌝ }
-{
-    let translation = item_translation(bytes, i);
-    let Decoded::Inside(rotation) = rotation_of_code(item_code(bytes, i)) else {
-        let unit = identity();
-        let rotation = unit.rotation;
-        return Operation {
-            rotation,
-            translation,
-        };
-    };
-    Operation {
-        rotation,
-        translation,
-    }
-}
-
-fn are_items(bytes: &[u8], c: Centering, n: usize) -> bool
-    requires { ⌜ (1 ≤ n) × (n ≤ 48) × (5 * n ≤ length (now bytes)) ⌝ }
-    ensures { λ r. ⌜ r ≡ areItems c (itemsOf n (now (bytes .entry))) ⌝ }
-{
-    if !items_fit(bytes, c, n) {
+    if !items_fit(bytes, edition, c, n) {
         return false;
     }
-    codes_ascend(bytes, n)
+    codes_ascend(bytes, edition, n)
 }
 
-fn items_fit(bytes: &[u8], c: Centering, n: usize) -> bool
-    requires { ⌜ (n ≤ 48) × (5 * n ≤ length (now bytes)) ⌝ }
-    ensures { λ r. ⌜ r ≡ all (isItem c) (itemsOf n (now (bytes .entry))) ⌝ }
+fn items_fit(bytes: &[u8], edition: Edition, c: Centering, n: usize) -> bool
+    requires { ⌜ (n ≤ 48) × (widthIn edition * n ≤ length (now bytes)) ⌝ }
+    ensures { λ r. ⌜ r ≡ all (isItem c) (itemsOf edition n (now (bytes .entry))) ⌝ }
 {
     let mut i = 0usize;
     while i < n {
-        if !is_item(bytes, c, i) {
+        if !is_item(bytes, edition, c, i) {
             return false;
         }
         i += 1;
@@ -187,14 +193,15 @@ fn items_fit(bytes: &[u8], c: Centering, n: usize) -> bool
 }
 
 // The smallest triple of a class is below 12, so a triple that is the smallest is.
-fn is_item(bytes: &[u8], c: Centering, i: usize) -> bool
-    requires { ⌜ 5 * i + 5 ≤ length (now bytes) ⌝ }
-    ensures { λ r. ⌜ r ≡ isItem c (itemAt (now (bytes .entry)) i) ⌝ }
+fn is_item(bytes: &[u8], edition: Edition, c: Centering, i: usize) -> bool
+    requires { ⌜ widthIn edition * i + widthIn edition ≤ length (now bytes) ⌝ }
+    ensures { λ r. ⌜ r ≡ isItem c (itemAt edition (now (bytes .entry)) i) ⌝ }
 {
-    if 19683 <= item_code(bytes, i) {
+    let item = item_at(bytes, edition, i);
+    if 19683 <= item.code {
         return false;
     }
-    let t = item_translation(bytes, i);
+    let t = item.translation;
     same(c.smallest(t), t)
 }
 
@@ -210,13 +217,15 @@ fn same(s: Translation, t: Translation) -> bool
     s.z == t.z
 }
 
-fn codes_ascend(bytes: &[u8], n: usize) -> bool
-    requires { ⌜ (1 ≤ n) × (n ≤ 48) × (5 * n ≤ length (now bytes)) ⌝ }
-    ensures { λ r. ⌜ r ≡ ascending itemBefore (itemsOf n (now (bytes .entry))) ⌝ }
+fn codes_ascend(bytes: &[u8], edition: Edition, n: usize) -> bool
+    requires { ⌜ (1 ≤ n) × (n ≤ 48) × (widthIn edition * n ≤ length (now bytes)) ⌝ }
+    ensures { λ r. ⌜ r ≡ ascending itemBefore (itemsOf edition n (now (bytes .entry))) ⌝ }
 {
     let mut i = 0usize;
     while i + 1 < n {
-        if item_code(bytes, i + 1) <= item_code(bytes, i) {
+        let item = item_at(bytes, edition, i);
+        let next = item_at(bytes, edition, i + 1);
+        if next.code <= item.code {
             return false;
         }
         i += 1;
@@ -225,23 +234,23 @@ fn codes_ascend(bytes: &[u8], n: usize) -> bool
 }
 
 // The identity is listed, and every member is as `member_allowed` says.
-fn is_allowed(bytes: &[u8], c: Centering, n: usize) -> bool
-    requires { ⌜ (n ≤ 48) × (5 * n ≤ length (now bytes)) ⌝ }
-    ensures { λ r. ⌜ r ≡ isAllowed c (itemsOf n (now (bytes .entry))) ⌝ }
+fn is_allowed(bytes: &[u8], edition: Edition, c: Centering, n: usize) -> bool
+    requires { ⌜ (n ≤ 48) × (widthIn edition * n ≤ length (now bytes)) ⌝ }
+    ensures { λ r. ⌜ r ≡ isAllowed c (itemsOf edition n (now (bytes .entry))) ⌝ }
 {
-    if !is_listed(bytes, c, n, identity()) {
+    if !is_listed(bytes, edition, c, n, identity()) {
         return false;
     }
-    members_allowed(bytes, c, n)
+    members_allowed(bytes, edition, c, n)
 }
 
-fn members_allowed(bytes: &[u8], c: Centering, n: usize) -> bool
-    requires { ⌜ (n ≤ 48) × (5 * n ≤ length (now bytes)) ⌝ }
-    ensures { λ r. ⌜ r ≡ all (memberAllowed c (itemsOf n (now (bytes .entry)))) (itemsOf n (now (bytes .entry))) ⌝ }
+fn members_allowed(bytes: &[u8], edition: Edition, c: Centering, n: usize) -> bool
+    requires { ⌜ (n ≤ 48) × (widthIn edition * n ≤ length (now bytes)) ⌝ }
+    ensures { λ r. ⌜ r ≡ all (memberAllowed c (itemsOf edition n (now (bytes .entry)))) (itemsOf edition n (now (bytes .entry))) ⌝ }
 {
     let mut i = 0usize;
     while i < n {
-        if !member_allowed(bytes, c, n, i) {
+        if !member_allowed(bytes, edition, c, n, i) {
             return false;
         }
         i += 1;
@@ -250,17 +259,17 @@ fn members_allowed(bytes: &[u8], c: Centering, n: usize) -> bool
 }
 
 // The rotation maps the lattice onto itself, and each product with this left factor is listed.
-fn member_allowed(bytes: &[u8], c: Centering, n: usize, i: usize) -> bool
-    requires { ⌜ (n ≤ 48) × (5 * n ≤ length (now bytes)) × (i < n) ⌝ }
-    ensures { λ r. ⌜ r ≡ memberAllowed c (itemsOf n (now (bytes .entry))) (itemAt (now (bytes .entry)) i) ⌝ }
+fn member_allowed(bytes: &[u8], edition: Edition, c: Centering, n: usize, i: usize) -> bool
+    requires { ⌜ (n ≤ 48) × (widthIn edition * n ≤ length (now bytes)) × (i < n) ⌝ }
+    ensures { λ r. ⌜ r ≡ memberAllowed c (itemsOf edition n (now (bytes .entry))) (itemAt edition (now (bytes .entry)) i) ⌝ }
 {
-    let f = operation_at(bytes, i);
+    let f = operation_at(bytes, edition, i);
     if !c.keeps(f.rotation) {
         return false;
     }
     let mut j = 0usize;
     while j < n {
-        if !product_listed(bytes, c, n, mul(f, operation_at(bytes, j))) {
+        if !product_listed(bytes, edition, c, n, mul(f, operation_at(bytes, edition, j))) {
             return false;
         }
         j += 1;
@@ -268,25 +277,25 @@ fn member_allowed(bytes: &[u8], c: Centering, n: usize, i: usize) -> bool
     true
 }
 
-fn product_listed(bytes: &[u8], c: Centering, n: usize, product: Product) -> bool
-    requires { ⌜ (n ≤ 48) × (5 * n ≤ length (now bytes)) ⌝ }
-    ensures { λ r. ⌜ r ≡ productListed c (itemsOf n (now (bytes .entry))) product ⌝ }
+fn product_listed(bytes: &[u8], edition: Edition, c: Centering, n: usize, product: Product) -> bool
+    requires { ⌜ (n ≤ 48) × (widthIn edition * n ≤ length (now bytes)) ⌝ }
+    ensures { λ r. ⌜ r ≡ productListed c (itemsOf edition n (now (bytes .entry))) product ⌝ }
 {
     match product {
-        Product::Inside(h) => is_listed(bytes, c, n, h),
+        Product::Inside(h) => is_listed(bytes, edition, c, n, h),
         Product::Outside => false,
     }
 }
 
 // An operation with this rotation is listed, and its translation differs by a vector of the lattice.
-fn is_listed(bytes: &[u8], c: Centering, n: usize, f: Operation) -> bool
-    requires { ⌜ (n ≤ 48) × (5 * n ≤ length (now bytes)) ⌝ }
-    ensures { λ r. ⌜ r ≡ has (alikeItems c) (itemOf f) (itemsOf n (now (bytes .entry))) ⌝ }
+fn is_listed(bytes: &[u8], edition: Edition, c: Centering, n: usize, f: Operation) -> bool
+    requires { ⌜ (n ≤ 48) × (widthIn edition * n ≤ length (now bytes)) ⌝ }
+    ensures { λ r. ⌜ r ≡ has (alikeItems c) (itemOf f) (itemsOf edition n (now (bytes .entry))) ⌝ }
 {
     let code = rotation_code(f.rotation);
     let mut i = 0usize;
     while i < n {
-        if alike(bytes, c, i, code, f.translation) {
+        if alike(bytes, edition, c, i, code, f.translation) {
             return true;
         }
         i += 1;
@@ -294,28 +303,30 @@ fn is_listed(bytes: &[u8], c: Centering, n: usize, f: Operation) -> bool
     false
 }
 
-fn alike(bytes: &[u8], c: Centering, i: usize, code: u32, t: Translation) -> bool
-    requires { ⌜ 5 * i + 5 ≤ length (now bytes) ⌝ }
-    ensures { λ r. ⌜ r ≡ alikeItems c (record { code = code; translation = t }) (itemAt (now (bytes .entry)) i) ⌝ }
+fn alike(bytes: &[u8], edition: Edition, c: Centering, i: usize, code: u32, t: Translation) -> bool
+    requires { ⌜ widthIn edition * i + widthIn edition ≤ length (now bytes) ⌝ }
+    ensures { λ r. ⌜ r ≡ alikeItems c (record { code = code; translation = t }) (itemAt edition (now (bytes .entry)) i) ⌝ }
 {
-    if code != item_code(bytes, i) {
+    let item = item_at(bytes, edition, i);
+    if code != item.code {
         return false;
     }
-    c.congruent(t, item_translation(bytes, i))
+    c.congruent(t, item.translation)
 }
 
-fn laid_out(bytes: &[u8], answer: Reading, c: Centering, n: usize) -> RecordGroup
-    requires { ⌜ (n ≤ 48) × (5 * n ≤ length (now bytes)) ⌝ }
-    ensures { λ r. ⌜ r ≡ laidOut answer c n (now (bytes .entry)) ⌝ }
+fn laid_out(bytes: &[u8], answer: Reading, edition: Edition, c: Centering, n: usize) -> RecordGroup
+    requires { ⌜ (n ≤ 48) × (widthIn edition * n ≤ length (now bytes)) ⌝ }
+    ensures { λ r. ⌜ r ≡ laidOut answer edition c n (now (bytes .entry)) ⌝ }
 {
     let mut operations = [identity(); 48];
     let mut i = 0usize;
     while i < n {
-        operations[i] = operation_at(bytes, i);
+        operations[i] = operation_at(bytes, edition, i);
         i += 1;
     }
     RecordGroup {
         answer,
+        edition,
         centering: c,
         count: n,
         operations,

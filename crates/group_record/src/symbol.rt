@@ -1,6 +1,7 @@
 // The record of a symbol: from the symbol's text to bytes at a stated place of a lent buffer.
 ghost use mathlib.Core.Path.{_≡_};
 ghost use Rattle.group_record.specs.SymbolRecords.{symbolRecordOf, symbolBufferOf};
+use super::Edition;
 use super::SymbolRecord;
 use super::writer::place_group;
 use symbol_group::Answer;
@@ -18,7 +19,7 @@ pub fn write_record(text: &[u8], out: &mut [u8], start: usize) -> SymbolRecord
             let n = group.count;
             let c = group.centering;
             let operations = group.operations;
-            if !place_group(out, start, c, operations, n) {
+            if !place_group(out, start, Edition::First, c, operations, n) {
                 return SymbolRecord::NoRoom;
             }
             SymbolRecord::Written(n)

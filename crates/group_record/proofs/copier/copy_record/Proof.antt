@@ -1,59 +1,17 @@
--- By cases of what was read; what was read may be written.
-use mathlib.Core.Path.{_∙_}
-use native.Mathlib.Omega.{arith}
-use Rattle.group_record.specs.RoundTrips.{read-writable}
-use Rattle.group_record.specs.Copying.{copied-by, buffer-by}
-use Rattle.group_record.specs.declared.Reading.the-variants.{Accepted}
-use borrow.Author.Needs.{needs}
 use Rattle.group_record.proofs.copier.copy_record.Statement.{statement}
 use Rattle.group_record.proofs.copier.copy_record.Tie as tie
 use Rattle.group_record.proofs.copier.copy_record.Reads as reads
 use Rattle.group_record.proofs.copier.copy_record.Lts as lts
-use Rattle.group_record.proofs.copier.place_read.Reads as place-read-reads
-use Rattle.group_record.proofs.reader.read_record.Reads as read-record-reads
+use Rattle.group_record.proofs.copier.write_read.Reads as write-read-reads
 
-read-record-requires : tie.Need-read-record-requires
-read-record-requires c κs = search needs
-
-enum-told : tie.Need-enum-told
-enum-told c = search needs
-
-place-read-requires : tie.Need-place-read-requires
-place-read-requires c κs = read-writable (c .before .before .before .before .before .before .args .bytes .now) _ (λ i. omega (arith, c .before .before .before .before .before .shared-slice-known .given i)) (c .before .before .before .read-record .ensures) (c .before .enum-told .given .1)
-
-enum-known-answer : tie.Need-enum-known-answer
-enum-known-answer c = search needs
+write-read-requires : tie.Need-write-read-requires
+write-read-requires c κs = search needs
 
 same-length : tie.Need-same-length
 same-length c = search needs
 
 returns : tie.Need-returns
-returns c =
-    let a = c .before .before .before .before .before .before .before .before .before .args in
-    let read = c .before .before .before .before .before .before .read-record .ensures in
-    let told = c .before .before .before .before .enum-told .given .1 in
-    let placed = c .before .before .place-read .ensures in (
-      placed .0 ∙ copied-by (a .bytes .now) (a .out .now) (a .start) _ read Accepted told,
-      placed .1 ∙ buffer-by (a .bytes .now) (a .out .now) (a .start) _ read Accepted told,
-    )
-
-returns-2 : tie.Need-returns-2
-returns-2 c =
-    let a = c .before .before .before .before .before .before .args in
-    let read = c .before .before .before .read-record .ensures in
-    let told = c .before .answer .given .1 in (
-      copied-by (a .bytes .now) (a .out .now) (a .start) _ read _ told,
-      buffer-by (a .bytes .now) (a .out .now) (a .start) _ read _ told,
-    )
+returns c = c .write-read .ensures
 
 pub copy-record-spec : {M : Type 1} → statement M
-copy-record-spec =
-    tie.close
-    (tie.spec
-    read-record-requires
-    enum-told
-    place-read-requires
-    enum-known-answer
-    same-length
-    returns
-    returns-2)
+copy-record-spec = tie.close (tie.spec write-read-requires same-length returns)

@@ -1,13 +1,13 @@
 -- Where the length fits, the items are tried on the rest of the buffer from the record's start; what is found there stands for the group that is read.
-use mathlib.Core.Path.{sym, _∙_}
-use Prim.Native.Nat.{_+_, _*_, _-_}
-use native.Mathlib.Omega.{arith}
-use borrow.Author.Tests.{not-true, not-false}
-use lib.ListN.{length, length-drop}
-use Rattle.group_record.specs.Outcomes.{length-test}
-use Rattle.group_record.specs.Found.{nothing-found, stands-as, record-stands, items-wrong, items-barred, items-right}
-use Rattle.group_record.specs.Parts.{tail-part}
 use Rattle.group_record.specs.Search.{counted-fits, counted-fails}
+use Rattle.group_record.specs.Parts.{tail-part}
+use Rattle.group_record.specs.Found.{nothing-found, stands-as, record-stands, items-wrong, items-barred, items-right}
+use Rattle.group_record.specs.Outcomes.{length-test}
+use lib.ListN.{length, length-drop}
+use borrow.Author.Tests.{not-true, not-false}
+use native.Mathlib.Omega.{arith}
+use Prim.Native.Nat.{_+_, _*_, _-_}
+use mathlib.Core.Path.{sym, _∙_}
 use borrow.Author.Needs.{needs}
 use Rattle.group_record.proofs.reader.find_counted.Statement.{statement}
 use Rattle.group_record.proofs.reader.find_counted.Tie as tie
@@ -53,13 +53,7 @@ returns : tie.Need-returns
 returns c =
     let a = c .before .before .before .before .before .before .before .args in
     nothing-found (c .nothing .ensures)
-    (counted-fails (a .c) (a .bytes .now) _ _ _ (c .before .before .before .before .before .from-end .ensures) (c .before .before .before .before .from-end2 .ensures) (c .before .before .before .from-end3 .ensures) (sym (c .before .before .length-fits .ensures) ∙ not-true (c .before .before .length-fits .result) (c .before .if1 .taken)))
-
-mul-start : tie.Need-mul-start
-mul-start c = search needs
-
-add-start : tie.Need-add-start
-add-start c = search needs
+    (counted-fails (a .edition) (a .c) (a .bytes .now) _ _ _ (c .before .before .before .before .before .from-end .ensures) (c .before .before .before .before .from-end2 .ensures) (c .before .before .before .from-end3 .ensures) (sym (c .before .before .length-fits .ensures) ∙ not-true (c .before .before .length-fits .result) (c .before .if1 .taken)))
 
 sub-start : tie.Need-sub-start
 sub-start c = let fits = length-test _ _ _ _ _ .0 (sym (c .before .length-fits .ensures) ∙ not-false (c .before .length-fits .result) (c .if1 .left)) in omega (arith, fits)
@@ -77,7 +71,7 @@ are-items-requires : tie.Need-are-items-requires
 are-items-requires c κs =
     let a = c .before .before .before .before .before .before .before .args in
     let fits = length-test _ _ _ _ _ .0 (sym (c .before .before .length-fits .ensures) ∙ not-false (c .before .before .length-fits .result) (c .before .if1 .left)) in
-    (fits .0, fits .1, rw (tail-part (a .bytes .now) (length (a .bytes .now) - (5 * c .before .before .before .before .before .from-end .result + 5)), length-drop) (omega (arith, fits)))
+    (fits .0, fits .1, rw (tail-part (a .bytes .now) (length (a .bytes .now) - (c .before .before .before .before .from-end2 .result * 256 + c .before .before .before .from-end3 .result)), length-drop) (omega (arith, fits)))
 
 nothing-requires-2 : tie.Need-nothing-requires-2
 nothing-requires-2 c κs = search needs
@@ -86,9 +80,10 @@ returns-2 : tie.Need-returns-2
 returns-2 c =
     let a = c .before .before .before .before .before .before .before .before .before .before .args in
     let n = c .before .before .before .before .before .before .before .before .from-end .result in
+    let fits = sym (c .before .before .before .before .before .length-fits .ensures) ∙ not-false (c .before .before .before .before .before .length-fits .result) (c .before .before .before .before .if1 .left) in
     nothing-found (c .nothing2 .ensures)
-    (counted-fits (a .c) (a .bytes .now) _ _ _ (c .before .before .before .before .before .before .before .before .from-end .ensures) (c .before .before .before .before .before .before .before .from-end2 .ensures) (c .before .before .before .before .before .before .from-end3 .ensures) (sym (c .before .before .before .before .before .length-fits .ensures) ∙ not-false (c .before .before .before .before .before .length-fits .result) (c .before .before .before .before .if1 .left))
-    ∙ items-wrong (a .c) n _ _ (tail-part (a .bytes .now) (length (a .bytes .now) - (5 * n + 5))) (sym (c .before .before .are-items .ensures) ∙ not-true (c .before .before .are-items .result) (c .before .if2 .taken)))
+    (counted-fits (a .edition) (a .c) (a .bytes .now) _ _ _ (c .before .before .before .before .before .before .before .before .from-end .ensures) (c .before .before .before .before .before .before .before .from-end2 .ensures) (c .before .before .before .before .before .before .from-end3 .ensures) fits
+    ∙ items-wrong (a .edition) (a .c) n _ _ (tail-part (a .bytes .now) (length (a .bytes .now) - (c .before .before .before .before .before .before .before .from-end2 .result * 256 + c .before .before .before .before .before .before .from-end3 .result))) (sym (c .before .before .are-items .ensures) ∙ not-true (c .before .before .are-items .result) (c .before .if2 .taken)))
 
 sub-is-allowed : tie.Need-sub-is-allowed
 sub-is-allowed c = search needs
@@ -103,7 +98,7 @@ is-allowed-requires : tie.Need-is-allowed-requires
 is-allowed-requires c κs =
     let a = c .before .before .before .before .before .before .before .before .before .before .args in
     let fits = length-test _ _ _ _ _ .0 (sym (c .before .before .before .before .before .length-fits .ensures) ∙ not-false (c .before .before .before .before .before .length-fits .result) (c .before .before .before .before .if1 .left)) in
-    (fits .1, rw (tail-part (a .bytes .now) (length (a .bytes .now) - (5 * c .before .before .before .before .before .before .before .before .from-end .result + 5)), length-drop) (omega (arith, fits)))
+    (fits .1, rw (tail-part (a .bytes .now) (length (a .bytes .now) - (c .before .before .before .before .before .before .before .from-end2 .result * 256 + c .before .before .before .before .before .before .from-end3 .result)), length-drop) (omega (arith, fits)))
 
 nothing-requires-3 : tie.Need-nothing-requires-3
 nothing-requires-3 c κs = search needs
@@ -112,9 +107,10 @@ returns-3 : tie.Need-returns-3
 returns-3 c =
     let a = c .before .before .before .before .before .before .before .before .before .before .before .before .before .args in
     let n = c .before .before .before .before .before .before .before .before .before .before .before .from-end .result in
+    let fits = sym (c .before .before .before .before .before .before .before .before .length-fits .ensures) ∙ not-false (c .before .before .before .before .before .before .before .before .length-fits .result) (c .before .before .before .before .before .before .before .if1 .left) in
     nothing-found (c .nothing3 .ensures)
-    (counted-fits (a .c) (a .bytes .now) _ _ _ (c .before .before .before .before .before .before .before .before .before .before .before .from-end .ensures) (c .before .before .before .before .before .before .before .before .before .before .from-end2 .ensures) (c .before .before .before .before .before .before .before .before .before .from-end3 .ensures) (sym (c .before .before .before .before .before .before .before .before .length-fits .ensures) ∙ not-false (c .before .before .before .before .before .before .before .before .length-fits .result) (c .before .before .before .before .before .before .before .if1 .left))
-    ∙ items-barred (a .c) n _ _ (tail-part (a .bytes .now) (length (a .bytes .now) - (5 * n + 5))) (sym (c .before .before .before .before .before .are-items .ensures) ∙ not-false (c .before .before .before .before .before .are-items .result) (c .before .before .before .before .if2 .left)) (sym (c .before .before .is-allowed .ensures) ∙ not-true (c .before .before .is-allowed .result) (c .before .if3 .taken)))
+    (counted-fits (a .edition) (a .c) (a .bytes .now) _ _ _ (c .before .before .before .before .before .before .before .before .before .before .before .from-end .ensures) (c .before .before .before .before .before .before .before .before .before .before .from-end2 .ensures) (c .before .before .before .before .before .before .before .before .before .from-end3 .ensures) fits
+    ∙ items-barred (a .edition) (a .c) n _ _ (tail-part (a .bytes .now) (length (a .bytes .now) - (c .before .before .before .before .before .before .before .before .before .before .from-end2 .result * 256 + c .before .before .before .before .before .before .before .before .before .from-end3 .result))) (sym (c .before .before .before .before .before .are-items .ensures) ∙ not-false (c .before .before .before .before .before .are-items .result) (c .before .before .before .before .if2 .left)) (sym (c .before .before .is-allowed .ensures) ∙ not-true (c .before .before .is-allowed .result) (c .before .if3 .taken)))
 
 returns-4 : tie.Need-returns-4
 returns-4 c =
@@ -122,9 +118,9 @@ returns-4 c =
     let n = c .before .before .before .before .before .before .before .before .before .before .from-end .result in
     let fits = sym (c .before .before .before .before .before .before .before .length-fits .ensures) ∙ not-false (c .before .before .before .before .before .before .before .length-fits .result) (c .before .before .before .before .before .before .if1 .left) in
     let bounds = length-test _ _ _ _ _ .0 fits in
-    stands-as (record-stands (a .bytes .now) (a .c) n (length (a .bytes .now) - (5 * n + 5)) (bounds .1) (omega (arith, bounds)))
-    (counted-fits (a .c) (a .bytes .now) _ _ _ (c .before .before .before .before .before .before .before .before .before .before .from-end .ensures) (c .before .before .before .before .before .before .before .before .before .from-end2 .ensures) (c .before .before .before .before .before .before .before .before .from-end3 .ensures) fits
-    ∙ items-right (a .c) n _ _ (tail-part (a .bytes .now) (length (a .bytes .now) - (5 * n + 5))) (sym (c .before .before .before .before .are-items .ensures) ∙ not-false (c .before .before .before .before .are-items .result) (c .before .before .before .if2 .left)) (sym (c .before .is-allowed .ensures) ∙ not-false (c .before .is-allowed .result) (c .if3 .left)))
+    stands-as (record-stands (a .bytes .now) (a .edition) (a .c) n (length (a .bytes .now) - (c .before .before .before .before .before .before .before .before .before .from-end2 .result * 256 + c .before .before .before .before .before .before .before .before .from-end3 .result)) (bounds .1) (omega (arith, bounds)))
+    (counted-fits (a .edition) (a .c) (a .bytes .now) _ _ _ (c .before .before .before .before .before .before .before .before .before .before .from-end .ensures) (c .before .before .before .before .before .before .before .before .before .from-end2 .ensures) (c .before .before .before .before .before .before .before .before .from-end3 .ensures) fits
+    ∙ items-right (a .edition) (a .c) n _ _ (tail-part (a .bytes .now) (length (a .bytes .now) - (c .before .before .before .before .before .before .before .before .before .from-end2 .result * 256 + c .before .before .before .before .before .before .before .before .from-end3 .result))) (sym (c .before .before .before .before .are-items .ensures) ∙ not-false (c .before .before .before .before .are-items .result) (c .before .before .before .if2 .left)) (sym (c .before .is-allowed .ensures) ∙ not-false (c .before .is-allowed .result) (c .if3 .left)))
 
 pub find-counted-spec : {M : Type 1} → statement M
 find-counted-spec =
@@ -141,8 +137,6 @@ find-counted-spec =
     length-fits-requires
     nothing-requires
     returns
-    mul-start
-    add-start
     sub-start
     sub-are-items
     part-are-items-start

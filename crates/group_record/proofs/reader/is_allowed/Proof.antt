@@ -25,7 +25,7 @@ returns : tie.Need-returns
 unfolding isAllowed
 returns c =
     let a = c .before .before .before .before .args in
-    let same = ap (λ (f : Operation). has (alikeItems (a .c)) (itemOf f) (itemsOf (a .n) (a .bytes .now))) (sym (c .before .before .identity .ensures)) ∙ sym (c .before .is-listed .ensures) in
+    let same = ap (λ (f : Operation). has (alikeItems (a .c)) (itemOf f) (itemsOf (a .edition) (a .n) (a .bytes .now))) (sym (c .before .before .identity .ensures)) ∙ sym (c .before .is-listed .ensures) in
     simp (same, not-true (c .before .is-listed .result) (c .if1 .taken))
 
 members-allowed-requires : tie.Need-members-allowed-requires
@@ -35,7 +35,7 @@ returns-2 : tie.Need-returns-2
 unfolding isAllowed
 returns-2 c =
     let a = c .before .before .before .before .before .args in
-    let same = ap (λ (f : Operation). has (alikeItems (a .c)) (itemOf f) (itemsOf (a .n) (a .bytes .now))) (sym (c .before .before .before .identity .ensures)) ∙ sym (c .before .before .is-listed .ensures) in
+    let same = ap (λ (f : Operation). has (alikeItems (a .c)) (itemOf f) (itemsOf (a .edition) (a .n) (a .bytes .now))) (sym (c .before .before .before .identity .ensures)) ∙ sym (c .before .before .is-listed .ensures) in
     simp (same, not-false (c .before .before .is-listed .result) (c .before .if1 .left)) (c .members-allowed .ensures)
 
 pub is-allowed-spec : {M : Type 1} → statement M

@@ -1,3 +1,4 @@
+use Rattle.group_record.specs.BothEditions.{item-inside}
 -- The loop's invariant: the first slots hold the operations read so far, the others the identity. The measure is what is left.
 use mathlib.Core.Path.{_≡_, sym, _∙_}
 use Prim.Native.Nat.{_-_, _≤_}
@@ -9,23 +10,23 @@ use Rattle.group_record.proofs.reader.laid_out.Statement.{statement}
 use Rattle.group_record.proofs.reader.laid_out.Tie as tie
 use Rattle.group_record.proofs.reader.laid_out.Reads as reads
 use Rattle.group_record.proofs.reader.laid_out.Lts as lts
-use Rattle.group_record.proofs.reader.operation_at.Reads as operation-at-reads
+use Rattle.group_record.proofs.items.operation_at.Reads as operation-at-reads
 use Rattle.operation.proofs.product.identity.Reads as identity-reads
 
 abbrev Inv-loop : tie.InvT-loop
-Inv-loop bytes answer c n operations₀ i₀ operations i = (i ≤ n) × (operations ≡ filledTo n bytes i)
+Inv-loop bytes answer edition c n operations₀ i₀ operations i = (i ≤ n) × (operations ≡ filledTo edition n bytes i)
 
 abbrev μ-loop : tie.MeasureT-loop
-μ-loop bytes answer c n operations₀ i₀ operations i = n - i
+μ-loop bytes answer edition c n operations₀ i₀ operations i = n - i
 
 identity-requires : tie.Need-identity-requires Inv-loop μ-loop
 identity-requires c κs = search needs
 
 loop-holds : tie.Need-loop-holds Inv-loop μ-loop
-loop-holds c = (omega arith, rw (c .identity .ensures) (sym (filled-start (c .before .before .args .n) (c .before .before .args .bytes .now))))
+loop-holds c = (omega arith, rw (c .identity .ensures) (sym (filled-start (c .before .before .args .edition) (c .before .before .args .n) (c .before .before .args .bytes .now))))
 
 operation-at-requires : tie.Need-operation-at-requires Inv-loop μ-loop
-operation-at-requires c κs = omega arith
+operation-at-requires c κs = item-inside (c .before .before .before .before .args .edition) (c .before .loop .i) (c .before .before .before .before .args .n) _ (omega arith) (c .before .before .before .before .pre .1)
 
 mul-operations : tie.Need-mul-operations Inv-loop μ-loop
 mul-operations c = omega arith
@@ -44,7 +45,7 @@ loop-again c =
     let a = c .before .before .before .before .before .args in
     let l = c .before .before .loop in (
       omega arith,
-      rw (l .inv .1, c .operation-at .ensures) (filled-next (a .n) (a .bytes .now) (l .i) (omega arith) (omega arith)),
+      rw (l .inv .1, c .operation-at .ensures) (filled-next (a .edition) (a .n) (a .bytes .now) (l .i) (omega arith) (omega arith)),
     )
 
 returns : tie.Need-returns Inv-loop μ-loop
@@ -52,8 +53,8 @@ unfolding laidOut
 returns c =
     let a = c .before .before .before .before .args in
     let l = c .before .loop in
-    let done = l .inv .1 ∙ filled-end (a .n) (a .bytes .now) (l .i) (omega arith) (omega arith) in
-    λ k. record { answer = a .answer; centering = a .c; count = a .n; operations = done k }
+    let done = l .inv .1 ∙ filled-end (a .edition) (a .n) (a .bytes .now) (l .i) (omega arith) (omega arith) in
+    λ k. record { answer = a .answer; edition = a .edition; centering = a .c; count = a .n; operations = done k }
 
 pub laid-out-spec : {M : Type 1} → statement M
 laid-out-spec =

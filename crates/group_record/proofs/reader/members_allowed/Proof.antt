@@ -14,10 +14,10 @@ use Rattle.group_record.proofs.reader.members_allowed.Lts as lts
 use Rattle.group_record.proofs.reader.member_allowed.Reads as member-allowed-reads
 
 abbrev Inv-loop : tie.InvT-loop
-Inv-loop bytes c n i₀ i = (i ≤ n) × (all (memberAllowed c (itemsOf n bytes)) (drop i (itemsOf n bytes)) ≡ all (memberAllowed c (itemsOf n bytes)) (itemsOf n bytes))
+Inv-loop bytes edition c n i₀ i = (i ≤ n) × (all (memberAllowed c (itemsOf edition n bytes)) (drop i (itemsOf edition n bytes)) ≡ all (memberAllowed c (itemsOf edition n bytes)) (itemsOf edition n bytes))
 
 abbrev μ-loop : tie.MeasureT-loop
-μ-loop bytes c n i₀ i = n - i
+μ-loop bytes edition c n i₀ i = n - i
 
 loop-holds : tie.Need-loop-holds Inv-loop μ-loop
 loop-holds c = (omega arith, refl)
@@ -29,7 +29,7 @@ returns : tie.Need-returns Inv-loop μ-loop
 returns c =
     let a = c .before .before .before .before .before .args in
     let l = c .before .before .before .loop in
-    sym (all-stop (a .n) (a .bytes .now) (memberAllowed (a .c) (itemsOf (a .n) (a .bytes .now))) (l .i) (omega arith) (sym (c .before .member-allowed .ensures) ∙ not-true (c .before .member-allowed .result) (c .if1 .taken))) ∙ l .inv .1
+    sym (all-stop (a .edition) (a .n) (a .bytes .now) (memberAllowed (a .c) (itemsOf (a .edition) (a .n) (a .bytes .now))) (l .i) (omega arith) (sym (c .before .member-allowed .ensures) ∙ not-true (c .before .member-allowed .result) (c .if1 .taken))) ∙ l .inv .1
 
 add-i : tie.Need-add-i Inv-loop μ-loop
 add-i c = omega arith
@@ -42,14 +42,14 @@ loop-again c =
     let a = c .before .before .before .before .before .args in
     let l = c .before .before .before .loop in (
       omega arith,
-      sym (all-next (a .n) (a .bytes .now) (memberAllowed (a .c) (itemsOf (a .n) (a .bytes .now))) (l .i) (omega arith) (sym (c .before .member-allowed .ensures) ∙ not-false (c .before .member-allowed .result) (c .if1 .left))) ∙ l .inv .1,
+      sym (all-next (a .edition) (a .n) (a .bytes .now) (memberAllowed (a .c) (itemsOf (a .edition) (a .n) (a .bytes .now))) (l .i) (omega arith) (sym (c .before .member-allowed .ensures) ∙ not-false (c .before .member-allowed .result) (c .if1 .left))) ∙ l .inv .1,
     )
 
 returns-2 : tie.Need-returns-2 Inv-loop μ-loop
 returns-2 c =
     let a = c .before .before .before .args in
     let l = c .before .loop in
-    sym (all-end (a .n) (a .bytes .now) (memberAllowed (a .c) (itemsOf (a .n) (a .bytes .now))) (l .i) (omega arith) (omega arith)) ∙ l .inv .1
+    sym (all-end (a .edition) (a .n) (a .bytes .now) (memberAllowed (a .c) (itemsOf (a .edition) (a .n) (a .bytes .now))) (l .i) (omega arith) (omega arith)) ∙ l .inv .1
 
 pub members-allowed-spec : {M : Type 1} → statement M
 members-allowed-spec =

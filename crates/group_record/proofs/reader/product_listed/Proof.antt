@@ -21,7 +21,7 @@ enum-told c = search needs
 returns : tie.Need-returns
 returns c =
     let a = c .before .before .before .before .before .args in
-    c .is-listed .ensures ∙ sym (ap (productListed (a .c) (itemsOf (a .n) (a .bytes .now))) (c .before .before .product .given .1))
+    c .is-listed .ensures ∙ sym (ap (productListed (a .c) (itemsOf (a .edition) (a .n) (a .bytes .now))) (c .before .before .product .given .1))
 
 returns-2 : tie.Need-returns-2
 returns-2 c = search needs

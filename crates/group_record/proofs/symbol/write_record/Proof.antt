@@ -1,4 +1,5 @@
 -- The symbol's answer decides, then whether there was room; an accepted symbol's operations may be written.
+use Rattle.group_record.specs.Record.{recordOf, recordBy}
 use mathlib.Core.Path.{_≡_, sym, _∙_}
 use mathlib.Core.Bool.{Bool, true, false, cond}
 use borrow.Author.Tests.{not-true, not-false}
@@ -30,6 +31,7 @@ same-length c = search needs
 
 -- What is answered, by what the writer answered.
 placed-answer : (c : tie.After-place-group) (b : Bool) → c .place-group .result ≡ b → (cond b (Written (c .before .before .before .before .before .new .result .count)) NoRoom ≡ symbolRecordOf (c .before .before .before .before .before .before .before .before .args .text .now) (c .before .before .before .before .before .before .before .before .args .out .now) (c .before .before .before .before .before .before .before .before .args .start)) × (c .place-group .last .0 ≡ symbolBufferOf (c .before .before .before .before .before .before .before .before .args .text .now) (c .before .before .before .before .before .before .before .before .args .out .now) (c .before .before .before .before .before .before .before .before .args .start))
+unfolding recordOf recordBy
 placed-answer c b told =
     let a = c .before .before .before .before .before .before .before .before .args in
     let new = c .before .before .before .before .before .new in
