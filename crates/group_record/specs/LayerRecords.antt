@@ -2,11 +2,13 @@
 -- and no layer symbol has the record of a plain one.
 use mathlib.Core.Path.{_≡_, refl, sym, _∙_, ap, ap₂}
 use mathlib.Core.Logic.{_↔_}
+use mathlib.Core.Bool.{cond}
 use mathlib.Core.List.{List, map}
 use Prim.Native.Nat.{ℕ, _+_, _≤_}
 use native.Mathlib.Omega.{arith}
-use lib.ListN.{take}
+use lib.ListN.{length, take}
 use Rattle.laws.specs.Motion.{SpaceMotion}
+use Rattle.operation.specs.Answer as answer
 use Rattle.operation.specs.Meaning.{motionOf}
 use Rattle.operation.specs.declared.Operation.{Operation}
 use Rattle.centering.specs.Letters.{byteOf}
@@ -20,16 +22,22 @@ use Rattle.layer_group.specs.Answers.{layerAnswer, smallOf}
 use Rattle.layer_group.specs.Capitals.{capitalised}
 use Rattle.layer_group.specs.Spelling.{LayerSpells}
 use Rattle.layer_group.specs.Told.{spells-exactly, layer-table}
-use Rattle.layer_group.specs.declared.Answer.the-variants.{Group}
+use Rattle.layer_group.specs.Refusals.{numberOf, placeOf}
+use Rattle.layer_group.specs.declared.Answer.{Answer}
+use Rattle.layer_group.specs.declared.Answer.the-variants.{Group, Refused}
 use Rattle.layer_group.specs.declared.LayerGroup.{LayerGroup}
 use Rattle.group_record.specs.Editions.{fromEnd, framed-letter}
 use Rattle.group_record.specs.FirstEdition.{firstEdition}
 use Rattle.group_record.specs.Record.{itemOf, listedForm, writtenIn, recordIn, recordOf}
+use Rattle.group_record.specs.Places.{placedIn}
+use Rattle.group_record.specs.Copying.{roomFor}
 use Rattle.group_record.specs.Groups.{InSet}
 use Rattle.group_record.specs.OneRecord.{one-record-in, written-items}
 use Rattle.group_record.specs.SymbolRecords.{textRecord}
 use Rattle.group_record.specs.AcceptedSymbols.{accepted-listing, accepted-identity}
 use Rattle.group_record.specs.SymbolSets.{InSetOf, set-of-list}
+use Rattle.group_record.specs.declared.LayerRecord.{LayerRecord}
+use Rattle.group_record.specs.declared.LayerRecord.the-variants.{Written, NoRoom, Refused as NotWritten}
 
 -- The record of operations under the small letter.
 unfoldable pub smallRecord : Centering → List Operation → List ℕ
@@ -42,6 +50,30 @@ layerGroupRecord g = smallRecord (g .centering) (take (g .count) (g .operations)
 unfoldable pub layerTextRecord : List ℕ → List ℕ
 layerTextRecord text = layerGroupRecord (layerAnswer text)
 
+-- ---- what is answered
+-- The layer symbol's refusal goes first; then there is room, or 20.
+abbrev pub layerWrittenBy : Answer → ℕ → ℕ → ℕ → LayerRecord
+layerWrittenBy Group n start size = cond (roomFor start n size) (Written n) NoRoom
+layerWrittenBy (Refused r) n start size = NotWritten r
+
+unfoldable pub layerRecordOf : List ℕ → List ℕ → ℕ → LayerRecord
+layerRecordOf text out start = layerWrittenBy (layerAnswer text .answer) (layerAnswer text .count) start (length out)
+
+-- Each answer in numbers: the count, or the refusal's number and place.
+abbrev pub layerRecordAnswer : LayerRecord → answer.Answer ℕ answer.Nothing
+layerRecordAnswer (Written n) = answer.given n
+layerRecordAnswer NoRoom = answer.refused 20 0 tt
+layerRecordAnswer (NotWritten r) = answer.refused (numberOf r) (placeOf r) tt
+
+-- What the lent buffer holds afterwards: a refusal touches nothing.
+abbrev pub layerPlacedBy : Answer → List ℕ → ℕ → List ℕ → List ℕ
+layerPlacedBy Group out start bytes = placedIn out start bytes
+layerPlacedBy (Refused r) out start bytes = out
+
+unfoldable pub layerBufferOf : List ℕ → List ℕ → ℕ → List ℕ
+layerBufferOf text out start = layerPlacedBy (layerAnswer text .answer) out start (layerTextRecord text)
+
+-- ---- what it says
 -- The set of motions of a layer text: it spells a layer symbol, and the motion is a finite product of the symbol's generators and translations by L.
 abbrev pub InLayerSet : List ℕ → SpaceMotion → Type 0
 InLayerSet text m = (c : Centering) × (gens : List Operation) × LayerSpells text c gens × generated.InSet c gens m

@@ -9,9 +9,9 @@ pub mod FirstEdition
 pub mod ThirdEdition
 pub mod BothEditions
 pub mod Record
-pub mod Reading
 pub mod Groups
 pub mod Signs
+pub mod Reading
 pub mod Places
 pub mod Copying
 pub mod SymbolRecords

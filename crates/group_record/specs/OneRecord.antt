@@ -26,6 +26,8 @@ use Rattle.group_record.specs.OperationItems.{Item, itemOf, operationOfI
 use Rattle.group_record.specs.FirstEdition.{itemWidth, itemBytes, itemIn, item-wide, item-again, firstEdition}
 use Rattle.group_record.specs.BothEditions.{editionOf, widthIn}
 use Rattle.group_record.specs.Record.{writtenIn, listedForm, recordIn, recordBy, recordOf}
+use Rattle.group_record.specs.Signs.{latticeOf, signByte}
+use Rattle.group_record.specs.declared.sign.Sign.{Sign}
 use Rattle.group_record.specs.declared.Edition.{Edition as Known}
 use Rattle.group_record.specs.Groups.{Alike, InSet, Listing, Form}
 use Rattle.group_record.specs.ListedForm.{operation≡, told-by-rotation, alike-reflexive, alike-smallest, matrix-injective, form-member, member-form, form-length, CodeBefore, codeKey, listed-form, form-set}
@@ -96,9 +98,9 @@ module _ (E : Edition Item) where
         (p, sym (operations-of-items l (F .entries)) ∙ ap (map operationOfItem) q ∙ operations-of-items k (K .entries))
 
 -- A record's length by its edition,
-pub record-by-length : (edition : Known) (c : Centering) (l : List Operation) → length (recordBy edition c l) ≡ totalLength (widthIn edition) (length l)
+pub record-by-length : (edition : Known) (s : Sign) (l : List Operation) → length (recordBy edition s l) ≡ totalLength (widthIn edition) (length l)
 unfolding recordBy
-record-by-length edition c l = record-in-length (editionOf edition) (byteOf c) c l
+record-by-length edition s l = record-in-length (editionOf edition) (signByte s) (latticeOf s) l
 
 -- and in edition 1.
 pub record-length : (c : Centering) (l : List Operation) → length (recordOf c l) ≡ totalLength itemWidth (length l)

@@ -3,7 +3,7 @@
 use mathlib.Core.Path.{_≡_, refl, sym, _∙_, ap}
 use mathlib.Core.Logic.{inl, inr, _↔_}
 use mathlib.Core.Bool.{Bool, true, false, cond, true≢false}
-use mathlib.Core.List.{List, List·Memᴰ as Mem}
+use mathlib.Core.List.{List, [], _∷_, List·Memᴰ as Mem}
 use mathlib.Core.Option.{Option, none, some}
 use Prim.Native.Nat.{ℕ}
 use native.Mathlib.Omega.{arith}
@@ -13,7 +13,7 @@ use Rattle.laws.specs.Lattice.{all}
 use Rattle.operation.specs.Entries.{digits-entries}
 use Rattle.operation.specs.Meaning.{motionOf}
 use Rattle.operation.specs.declared.Operation.{Operation}
-use Rattle.centering.specs.Letters.{byteOf, letterOf}
+use Rattle.centering.specs.Letters.{letters, byteOf, letterOf, letterAmong}
 use Rattle.centering.specs.LatticeLaws.{letter-by-byte}
 use Rattle.centering.specs.declared.Centering.{Centering}
 use Rattle.centering.specs.declared.Centering.the-variants.{P, A, B, C, I, R, F, H}
@@ -24,44 +24,64 @@ use Rattle.layer_group.specs.Layers.{LayerMotion, isLayer}
 use Rattle.layer_group.specs.Motions.{test-exactly}
 use Rattle.layer_group.specs.Spelling.{OfLayer}
 use Rattle.group_record.specs.Groups.{Form}
-use Rattle.group_record.specs.Reading.{spelled-letter}
 use Rattle.group_record.specs.Rules.{Spelled}
 use Rattle.group_record.specs.Tests.{all-true}
-
-pub data Sign : Type 0 where
-  plain : Centering → Sign
-  smallP : Sign
-  smallC : Sign
+use Rattle.group_record.specs.declared.sign.Sign.{Sign}
+use Rattle.group_record.specs.declared.sign.Sign.the-variants.{Plain, SmallP, SmallC}
 
 -- A letter is told by whether it is small and by its lattice.
 abbrev pub isSmall : Sign → Bool
-isSmall (plain c) = false
-isSmall smallP = true
-isSmall smallC = true
+isSmall (Plain c) = false
+isSmall SmallP = true
+isSmall SmallC = true
 
 abbrev pub latticeOf : Sign → Centering
-latticeOf (plain c) = c
-latticeOf smallP = P
-latticeOf smallC = C
+latticeOf (Plain c) = c
+latticeOf SmallP = P
+latticeOf SmallC = C
 
 pub sign-told : (s t : Sign) → isSmall s ≡ isSmall t → latticeOf s ≡ latticeOf t → s ≡ t
-sign-told (plain c) (plain d) p q = ap plain q
-sign-told (plain c) smallP p q = absurd (true≢false (sym p))
-sign-told (plain c) smallC p q = absurd (true≢false (sym p))
-sign-told smallP (plain d) p q = absurd (true≢false p)
-sign-told smallC (plain d) p q = absurd (true≢false p)
-sign-told smallP smallP p q = refl
-sign-told smallC smallC p q = refl
-sign-told smallP smallC p q = let z : byteOf P ≡ byteOf C = ap byteOf q in absurd (omega arith)
-sign-told smallC smallP p q = let z : byteOf C ≡ byteOf P = ap byteOf q in absurd (omega arith)
+sign-told (Plain c) (Plain d) p q = ap Plain q
+sign-told (Plain c) SmallP p q = absurd (true≢false (sym p))
+sign-told (Plain c) SmallC p q = absurd (true≢false (sym p))
+sign-told SmallP (Plain d) p q = absurd (true≢false p)
+sign-told SmallC (Plain d) p q = absurd (true≢false p)
+sign-told SmallP SmallP p q = refl
+sign-told SmallC SmallC p q = refl
+sign-told SmallP SmallC p q = let z : byteOf P ≡ byteOf C = ap byteOf q in absurd (omega arith)
+sign-told SmallC SmallP p q = let z : byteOf C ≡ byteOf P = ap byteOf q in absurd (omega arith)
 
 -- The lattice of a small letter is that of a layer.
 pub small-lattice : (s : Sign) → isSmall s ≡ true → OfLayer (latticeOf s)
-small-lattice (plain c) e = absurd (true≢false (sym e))
-small-lattice smallP e = inl refl
-small-lattice smallC e = inr refl
+small-lattice (Plain c) e = absurd (true≢false (sym e))
+small-lattice SmallP e = inl refl
+small-lattice SmallC e = inr refl
 
 -- ---- bytes
+-- The letter that a byte spells.
+abbrev pub letterIn : Letter → Option Centering
+letterIn (Is c) = some c
+letterIn None = none
+
+-- A byte that spells a letter is its byte.
+some-letter : (b : ℕ) (cs : List Centering) (c : Centering) → letterAmong b cs ≡ Is c → b ≡ byteOf c
+unfolding letterAmong
+some-letter b [] c e = let h : _≡_ {A = ℕ} 0 1 = cc in absurd (omega arith)
+some-letter b (d ∷ cs) c e = found (eqb b (byteOf d)) refl e (some-letter b cs c)
+  where
+    found : (t : Bool) → eqb b (byteOf d) ≡ t → cond t (Is d) (letterAmong b cs) ≡ Is c → (letterAmong b cs ≡ Is c → b ≡ byteOf c) → b ≡ byteOf c
+    found true q e rest = let same : d ≡ c = cc in eqb-true b (byteOf d) q ∙ ap byteOf same
+    found false q e rest = rest e
+
+pub spelled-letter : (b : ℕ) (c : Centering) (a : Letter) → letterOf b ≡ a → letterIn a ≡ some c → b ≡ byteOf c
+unfolding letterOf
+spelled-letter b c (Is d) e q = let same : d ≡ c = cc in some-letter b letters d e ∙ ap byteOf same
+spelled-letter b c None e q = let z : _≡_ {A = ℕ} 0 1 = cc in absurd (omega arith)
+
+-- The letters of the lattices.
+abbrev pub latticeLetters : Spelled byteOf
+latticeLetters = record { from = λ b. letterIn (letterOf b); there = λ c. ap letterIn (letter-by-byte c); back = λ b c e. spelled-letter b c (letterOf b) refl e }
+
 abbrev pub letterByte : Bool → Centering → ℕ
 letterByte true c = smallOf c
 letterByte false c = byteOf c
@@ -71,39 +91,39 @@ signByte s = letterByte (isSmall s) (latticeOf s)
 
 -- How a byte is read: p, c, or the letter of a lattice.
 abbrev pub plainIn : Letter → Option Sign
-plainIn (Is c) = some (plain c)
+plainIn (Is c) = some (Plain c)
 plainIn None = none
 
 unfoldable pub signOf : ℕ → Option Sign
-signOf b = cond (eqb b 112) (some smallP) (cond (eqb b 99) (some smallC) (plainIn (letterOf b)))
+signOf b = cond (eqb b 112) (some SmallP) (cond (eqb b 99) (some SmallC) (plainIn (letterOf b)))
 
 pub sign-there : (s : Sign) → signOf (signByte s) ≡ some s
 unfolding signOf
-sign-there (plain P) = ap plainIn (letter-by-byte P)
-sign-there (plain A) = ap plainIn (letter-by-byte A)
-sign-there (plain B) = ap plainIn (letter-by-byte B)
-sign-there (plain C) = ap plainIn (letter-by-byte C)
-sign-there (plain I) = ap plainIn (letter-by-byte I)
-sign-there (plain R) = ap plainIn (letter-by-byte R)
-sign-there (plain F) = ap plainIn (letter-by-byte F)
-sign-there (plain H) = ap plainIn (letter-by-byte H)
-sign-there smallP = refl
-sign-there smallC = refl
+sign-there (Plain P) = ap plainIn (letter-by-byte P)
+sign-there (Plain A) = ap plainIn (letter-by-byte A)
+sign-there (Plain B) = ap plainIn (letter-by-byte B)
+sign-there (Plain C) = ap plainIn (letter-by-byte C)
+sign-there (Plain I) = ap plainIn (letter-by-byte I)
+sign-there (Plain R) = ap plainIn (letter-by-byte R)
+sign-there (Plain F) = ap plainIn (letter-by-byte F)
+sign-there (Plain H) = ap plainIn (letter-by-byte H)
+sign-there SmallP = refl
+sign-there SmallC = refl
 
 pub sign-back : (b : ℕ) (s : Sign) → signOf b ≡ some s → b ≡ signByte s
 unfolding signOf
 sign-back b s e = by-p (eqb b 112) refl e
   where
     by-letter : (a : Letter) → letterOf b ≡ a → plainIn a ≡ some s → b ≡ signByte s
-    by-letter (Is c) p q = let same : plain c ≡ s = cc in spelled-letter b c (Is c) p refl ∙ ap signByte same
+    by-letter (Is c) p q = let same : Plain c ≡ s = cc in spelled-letter b c (Is c) p refl ∙ ap signByte same
     by-letter None p q = let z : _≡_ {A = ℕ} 0 1 = cc in absurd (omega arith)
 
-    by-c : (t : Bool) → eqb b 99 ≡ t → cond t (some smallC) (plainIn (letterOf b)) ≡ some s → b ≡ signByte s
-    by-c true p q = let same : smallC ≡ s = cc in eqb-true b 99 p ∙ ap signByte same
+    by-c : (t : Bool) → eqb b 99 ≡ t → cond t (some SmallC) (plainIn (letterOf b)) ≡ some s → b ≡ signByte s
+    by-c true p q = let same : SmallC ≡ s = cc in eqb-true b 99 p ∙ ap signByte same
     by-c false p q = by-letter (letterOf b) refl q
 
-    by-p : (t : Bool) → eqb b 112 ≡ t → cond t (some smallP) (cond (eqb b 99) (some smallC) (plainIn (letterOf b))) ≡ some s → b ≡ signByte s
-    by-p true p q = let same : smallP ≡ s = cc in eqb-true b 112 p ∙ ap signByte same
+    by-p : (t : Bool) → eqb b 112 ≡ t → cond t (some SmallP) (cond (eqb b 99) (some SmallC) (plainIn (letterOf b))) ≡ some s → b ≡ signByte s
+    by-p true p q = let same : SmallP ≡ s = cc in eqb-true b 112 p ∙ ap signByte same
     by-p false p q = by-c (eqb b 99) refl q
 
 abbrev pub recordSigns : Spelled signByte

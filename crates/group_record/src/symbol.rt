@@ -19,7 +19,7 @@ pub fn write_record(text: &[u8], out: &mut [u8], start: usize) -> SymbolRecord
             let n = group.count;
             let c = group.centering;
             let operations = group.operations;
-            if !place_group(out, start, Edition::First, c, operations, n) {
+            if !place_group(out, start, Edition::First, c.byte(), c, operations, n) {
                 return SymbolRecord::NoRoom;
             }
             SymbolRecord::Written(n)

@@ -64,7 +64,7 @@ fn refused(refusal: Refusal) -> LayerGroup
 }
 
 // Zero in the four entries that mix z with x or y, and no translation along z where the zz entry is 1. A digit is an entry plus one.
-fn is_layer(o: Operation) -> bool
+pub fn is_layer(o: Operation) -> bool
     ensures { λ r. ⌜ r ≡ isLayer o ⌝ }
 {
     let r = o.rotation;
@@ -107,7 +107,7 @@ fn first_off(n: usize, operations: [Operation; 48]) -> usize
 }
 
 // The group of the text with its capital letter. A text of over 80 bytes is refused by the plain reader as it stands.
-fn plain(text: &[u8]) -> SymbolGroup
+pub fn plain(text: &[u8]) -> SymbolGroup
     ensures { λ r. ⌜ r ≡ symbolAnswer (capitalised (now (text .entry))) ⌝ }
 {
     let n = text.len();
