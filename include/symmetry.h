@@ -16,7 +16,7 @@
  *                                 the identity, right factors running over the symbol's generators in order. Refusals 1 to 14.
  *   symmetry_layer_...    text    the bytes of a layer symbol, which is spelt as a Hall symbol but with the letter p or c. Its list is that of the text
  *                                 with P or C. Refusals 1 to 14, then 19.
- *   symmetry_record_...   record  bytes that end with a group record; what stands before it is not looked at. Elements are numbered in the record's
+ *   symmetry_record_...   record  bytes that end with a group record, of edition 1 or 3; what stands before it is not looked at. Elements are numbered in the record's
  *                                 order, by ascending rotation code. Refusals 30 to 35.
  *   symmetry_table_...    order and table   n and n * n bytes by rows, the byte at i * n + j being the product of i and j. Refusals 21 to 25.
  * A source is checked in every call, before anything else that is asked; no function takes a group on trust.
@@ -57,7 +57,7 @@ enum symmetry_version { SYMMETRY_VERSION_MAJOR = 1, SYMMETRY_VERSION_MINOR = 1 }
 enum symmetry_most {
     SYMMETRY_MOST_TEXT = 80,              /* bytes of a symbol's text */
     SYMMETRY_MOST_ORDER = 48,             /* elements of a group */
-    SYMMETRY_MOST_RECORD = 245,           /* bytes of a record: 5 * 48 + 5 */
+    SYMMETRY_MOST_RECORD = 245,           /* bytes of a record: 5 * 48 + 5; of edition 3 4 * 48 + 5 */
     SYMMETRY_MOST_LIST = 240,             /* bytes of another program's list: 5 * 48 */
     SYMMETRY_MOST_TABLE = 2304,           /* bytes of a table: 48 * 48 */
     SYMMETRY_MOST_LINE = 64,              /* bytes of an operation line that is read */
@@ -111,8 +111,8 @@ enum symmetry_refusal {
     SYMMETRY_NOT_AN_ELEMENT = 28,   /* the element or the index is not below the order */
     SYMMETRY_NOT_NORMALIZING = 29,  /* a permutation asked for an element that does not conjugate the subgroup to itself */
     /* A group record; at 0. */
-    SYMMETRY_RECORD_SHORT = 30,     /* under 10 bytes */
-    SYMMETRY_RECORD_EDITION = 31,   /* the edition is not 1 */
+    SYMMETRY_RECORD_SHORT = 30,     /* under 9 bytes */
+    SYMMETRY_RECORD_EDITION = 31,   /* the edition is not 1 or 3 */
     SYMMETRY_RECORD_LETTER = 32,    /* the letter is not one of P A B C I R F H */
     SYMMETRY_RECORD_LENGTH = 33,    /* not 1 to 48 operations, or a stated length that is wrong or beyond the buffer */
     SYMMETRY_RECORD_ITEM = 34,      /* a code over 19682, a coordinate over 11, a translation not the smallest of its class, or codes not ascending;
@@ -169,7 +169,7 @@ static inline const char *symmetry_reason(unsigned number)
     case SYMMETRY_NOT_A_SUBGROUP: return "no subgroup";
     case SYMMETRY_NOT_AN_ELEMENT: return "no element";
     case SYMMETRY_NOT_NORMALIZING: return "an element outside the normalizer";
-    case SYMMETRY_RECORD_SHORT: return "a record of under 10 bytes";
+    case SYMMETRY_RECORD_SHORT: return "a record of under 9 bytes";
     case SYMMETRY_RECORD_EDITION: return "another edition of the record";
     case SYMMETRY_RECORD_LETTER: return "a record with no lattice letter";
     case SYMMETRY_RECORD_LENGTH: return "a wrong count or length in the record";
@@ -287,6 +287,11 @@ static inline unsigned symmetry_check_detail(uint64_t value) { return (unsigned)
  * the smallest such triple that differs from it by a vector of the lattice, x compared first. Behind them five bytes: the letter, the edition 1, the
  * count n, and the total length 5 * n + 5, high byte first. A record is found by its end. That of -P 1 is, in hex,
  *   0C 7E 00 00 00   40 64 00 00 00   50 01 02 00 0F
+ * Edition 3 has four bytes an operation: the number code * 1728 + x * 144 + y * 12 + z, high byte first. Else it is the same, with the edition 3 and the
+ * total length 4 * n + 5. That of -P 1 is
+ *   00 54 52 80   01 B2 A3 00   50 03 02 00 0D
+ * and the shortest, that of P 1, has nine bytes. Every symmetry_record_ function reads both editions. A program that knows edition 1 alone refuses
+ * edition 3 with 31, and nine bytes with 30.
  */
 
 /*
@@ -295,8 +300,17 @@ static inline unsigned symmetry_check_detail(uint64_t value) { return (unsigned)
  */
 uint64_t symmetry_symbol_record(const uint8_t *text, size_t text_length, uint8_t *out, size_t out_length, uint64_t start);
 
-/* The same for the group that a record holds: reads it, and writes it from out + start on. */
+/* The same for the group that a record holds: reads it, and writes it from out + start on, in the edition in which it was read. */
 uint64_t symmetry_record_copy(const uint8_t *record, size_t record_length, uint8_t *out, size_t out_length, uint64_t start);
+
+/* The edition of a record, 1 or 3. */
+uint64_t symmetry_record_edition(const uint8_t *record, size_t record_length);
+
+/*
+ * Moves a record to the other edition: reads one of edition 1 or 3, writes it in edition 3 or 1 from out + start on, and answers the count n. It holds the
+ * same letter and operations; moved back, it has the bytes that were read. 20 goes by the length that is written, 4 * n + 5 or 5 * n + 5.
+ */
+uint64_t symmetry_record_move(const uint8_t *record, size_t record_length, uint8_t *out, size_t out_length, uint64_t start);
 
 /* ---- operation lines ---- */
 

@@ -356,8 +356,9 @@ def twelfths(three_doubles):
 
 # Group record -----------------------------------------------------------------------------------------------------
 
-EDITION = 1
 ITEM = 5
+# How many bytes an operation takes, by edition.
+WIDTH = {1: ITEM, 3: 4}
 TRAILER = 5
 MOST_CODE = 3 ** 9 - 1
 
@@ -375,36 +376,51 @@ def record_operations(letter, operations):
     return sorted((code(rotation), smallest(letter, translation)) for rotation, translation in operations)
 
 
-def record(letter, operations):
+def item_of(number, triple, edition):
+    x, y, z = triple
+    if edition == 1:
+        return number.to_bytes(2, "big") + bytes(triple)
+    return (number * 1728 + x * 144 + y * 12 + z).to_bytes(4, "big")
+
+
+def read_item(item, edition):
+    """The code, and x y z."""
+    if edition == 1:
+        return struct.unpack(">HBBB", item)
+    number, = struct.unpack(">I", item)
+    return number // 1728, number // 144 % 12, number // 12 % 12, number % 12
+
+
+def record(letter, operations, edition=1):
     items = record_operations(letter, operations)
-    body = b"".join(number.to_bytes(2, "big") + bytes(triple) for number, triple in items)
-    length = ITEM * len(items) + TRAILER
-    return body + letter.encode() + bytes([EDITION, len(items)]) + length.to_bytes(2, "big")
+    body = b"".join(item_of(number, triple, edition) for number, triple in items)
+    length = WIDTH[edition] * len(items) + TRAILER
+    return body + letter.encode() + bytes([edition, len(items)]) + length.to_bytes(2, "big")
 
 
-def write_record(letter, operations, buffer, start):
+def write_record(letter, operations, buffer, start, edition=1):
     """Puts the record into a lent bytearray and answers the count; refusal 20."""
-    written = record(letter, operations)
+    written = record(letter, operations, edition)
     if start > len(buffer) or len(buffer) - start < len(written):
         raise Refusal(20, 0)
     buffer[start:start + len(written)] = written
     return len(operations)
 
 
-def read_record(buffer):
-    """Letter and operations of the record that ends where the buffer ends; refusals 30 to 35."""
-    if len(buffer) < ITEM + TRAILER:
+def read_editions(buffer, editions):
+    """Letter, operations and edition of the record that ends where the buffer ends; refusals 30 to 35."""
+    if len(buffer) < min(WIDTH[edition] for edition in editions) + TRAILER:
         raise Refusal(30, 0)
     letter, edition, count, length = struct.unpack(">BBBH", buffer[-TRAILER:])
-    if edition != EDITION:
+    if edition not in editions:
         raise Refusal(31, 0)
     letter = chr(letter)
     if letter not in LETTERS:
         raise Refusal(32, 0)
-    if not 1 <= count <= MOST_OPERATIONS or length != ITEM * count + TRAILER or length > len(buffer):
+    if not 1 <= count <= MOST_OPERATIONS or length != WIDTH[edition] * count + TRAILER or length > len(buffer):
         raise Refusal(33, 0)
     body = buffer[len(buffer) - length:len(buffer) - TRAILER]
-    items = [struct.unpack(">HBBB", body[i:i + ITEM]) for i in range(0, len(body), ITEM)]
+    items = [read_item(body[i:i + WIDTH[edition]], edition) for i in range(0, len(body), WIDTH[edition])]
     for number, *triple in items:
         if number > MOST_CODE or max(triple) > 11 or tuple(triple) != smallest(letter, triple):
             raise Refusal(34, 0)
@@ -413,7 +429,32 @@ def read_record(buffer):
     operations = [(rotation_of(number), tuple(triple)) for number, *triple in items]
     if not allowed(letter, operations):
         raise Refusal(35, 0)
-    return letter, operations
+    return letter, operations, edition
+
+
+def read_record(buffer):
+    """Letter and operations of a record of edition 1 or 3."""
+    return read_editions(buffer, (1, 3))[:2]
+
+
+def read_first_record(buffer):
+    """What software reads that knows edition 1 alone."""
+    return read_editions(buffer, (1,))[:2]
+
+
+def record_edition(buffer):
+    return read_editions(buffer, (1, 3))[2]
+
+
+def copied_record(buffer):
+    """The record that a buffer ends with, in its own edition."""
+    return record(*read_editions(buffer, (1, 3)))
+
+
+def moved_record(buffer):
+    """The same in the other edition."""
+    letter, operations, edition = read_editions(buffer, (1, 3))
+    return record(letter, operations, 4 - edition)
 
 
 def allowed(letter, operations):
@@ -911,6 +952,8 @@ def example_rest():
     """(name, what the model says, what 01 says) for the record, tables, program and the mistakes that 01 names."""
     cubic = table_of_symbol(b"-P 4 2 3")
     inverse_record = bytes.fromhex("0C7E0000004064000000500102000F")
+    shorter_record = bytes.fromhex("0054528001B2A300500302000D")
+    shortest_record = bytes.fromhex("01B2A3005003010009")
     all_subgroups = subgroups(cubic)
     just_fits, one_short = [7] * 98, [7] * 97
     lent = bytearray(range(20))
@@ -921,7 +964,17 @@ def example_rest():
         ("-P 1, no room", outcome(write_record, *group_of_symbol(b"-P 1"), bytearray(17), 3), (20, 0)),
         ("-P 1, start beyond", outcome(write_record, *group_of_symbol(b"-P 1"), bytearray(17), 18), (20, 0)),
         ("-P 1, read back", read_record(b"any" + inverse_record)[0], "P"),
-        ("nine bytes", outcome(read_record, bytes(9)), (30, 0)),
+        ("-P 1, edition 3", moved_record(inverse_record), shorter_record),
+        ("-P 1, moved twice", moved_record(b"any" + shorter_record), inverse_record),
+        ("P 1, edition 3", moved_record(record(*group_of_symbol(b"P 1"))), shortest_record),
+        ("edition 3, read back", read_record(shorter_record), read_record(inverse_record)),
+        ("edition 3, one code twice", outcome(read_record, bytes.fromhex("01B2A30001B2A301500302000D")), (34, 0)),
+        ("edition 3, a number too large", outcome(read_record, (34012224).to_bytes(4, "big") + shortest_record[4:]), (34, 0)),
+        ("edition 3, read by old software", outcome(read_first_record, shorter_record), (31, 0)),
+        ("edition 3, nine bytes read by old software", outcome(read_first_record, shortest_record), (30, 0)),
+        ("eight bytes", outcome(read_record, bytes(8)), (30, 0)),
+        ("nine bytes", outcome(read_record, bytes(9)), (31, 0)),
+        ("nine bytes read by old software", outcome(read_first_record, bytes(9)), (30, 0)),
         ("edition", outcome(read_record, inverse_record[:-4] + b"\x02\x02\x00\x0f"), (31, 0)),
         ("letter", outcome(read_record, inverse_record[:-5] + b"S\x01\x02\x00\x0f"), (32, 0)),
         ("count", outcome(read_record, inverse_record[:-5] + b"P\x01\x00\x00\x05"), (33, 0)),

@@ -262,18 +262,34 @@ static void layers(void) {
 /* The record of -P 1, as the rules print it. */
 static const uint8_t inversion[15] = { 0x0C, 0x7E, 0, 0, 0, 0x40, 0x64, 0, 0, 0, 0x50, 1, 2, 0, 0x0F };
 
-/* Written from every place of buffers of every length, by both functions that write records. */
+/* The same in edition 3, and that of P 1. */
+static const uint8_t shorter[13] = { 0, 0x54, 0x52, 0x80, 1, 0xB2, 0xA3, 0, 0x50, 3, 2, 0, 0x0D };
+static const uint8_t shortest[9] = { 1, 0xB2, 0xA3, 0, 0x50, 3, 1, 0, 9 };
+
+static uint64_t write_record(int way, uint8_t *out, size_t length, uint64_t start) {
+    switch (way) {
+    case 0: return symmetry_symbol_record(TEXT("-P 1"), out, length, start);
+    case 1: return symmetry_record_copy(inversion, 15, out, length, start);
+    case 2: return symmetry_record_copy(shorter, 13, out, length, start);
+    case 3: return symmetry_record_move(shorter, 13, out, length, start);
+    default: return symmetry_record_move(inversion, 15, out, length, start);
+    }
+}
+
+/* Written from every place of buffers of every length, by every function that writes records. */
 static void written(void) {
     for (size_t length = 0; length <= 20; length++)
         for (uint64_t start = 0; start <= 21; start++)
-            for (int copied = 0; copied < 2; copied++) {
+            for (int way = 0; way < 5; way++) {
                 uint8_t out[ROOM], after[ROOM];
                 memset(out, MARK, ROOM);
                 memset(after, MARK, ROOM);
-                int fits = start + 15 <= length;
-                if (fits) memcpy(after + start, inversion, 15);
-                uint8_t *lent = length ? out : NULL;
-                uint64_t got = copied ? symmetry_record_copy(inversion, 15, lent, length, start) : symmetry_symbol_record(TEXT("-P 1"), lent, length, start);
+                int third = way == 2 || way == 4;
+                const uint8_t *record = third ? shorter : inversion;
+                size_t bytes = third ? 13 : 15;
+                int fits = start + bytes <= length;
+                if (fits) memcpy(after + start, record, bytes);
+                uint64_t got = write_record(way, length ? out : NULL, length, start);
                 expect(got == (fits ? 2 : refusal(20, 0)) && memcmp(out, after, ROOM) == 0, "a record written", got);
             }
 }
@@ -287,7 +303,14 @@ static void records(void) {
     answers(symmetry_record_order(padded, 20), 2, "bytes before a record");
     answers(symmetry_record_letter(inversion, 15), 'P', "the letter of a record");
     answers(symmetry_record_order(NULL, 0), refusal(30, 0), "no record");
-    answers(symmetry_record_letter(inversion, 9), refusal(30, 0), "a short record");
+    answers(symmetry_record_letter(inversion, 8), refusal(30, 0), "a short record");
+    answers(symmetry_record_letter(inversion, 9), refusal(31, 0), "nine bytes of no edition");
+    answers(symmetry_record_edition(inversion, 15), 1, "the edition of a record");
+    answers(symmetry_record_edition(shorter, 13), 3, "the edition of a shorter record");
+    answers(symmetry_record_order(shorter, 13), 2, "the order of a shorter record");
+    answers(symmetry_record_letter(shorter, 13), 'P', "the letter of a shorter record");
+    answers(symmetry_record_order(shortest, 9), 1, "the order of the shortest record");
+    answers(symmetry_record_edition(shortest + 1, 8), refusal(30, 0), "a byte of the shortest record gone");
     answers(symmetry_record_order(inversion, 14), refusal(31, 0), "a byte of the record gone");
     /* edition, letter, count, a coordinate over 11, and the identity gone */
     static const struct { size_t at; uint8_t byte; unsigned number; } damage[] = { { 11, 2, 31 }, { 10, 'S', 32 }, { 12, 3, 33 }, { 2, 12, 34 }, { 6, 0x63, 35 } };
@@ -297,6 +320,8 @@ static void records(void) {
         answers(symmetry_record_order(spoilt, 15), refusal(damage[i].number, 0), "a damaged record");
         answers(symmetry_record_letter(spoilt, 15), refusal(damage[i].number, 0), "its letter");
         answers(symmetry_record_copy(spoilt, 15, out, 3, 9), refusal(damage[i].number, 0), "its copy");
+        answers(symmetry_record_move(spoilt, 15, out, 3, 9), refusal(damage[i].number, 0), "its move");
+        answers(symmetry_record_edition(spoilt, 15), refusal(damage[i].number, 0), "its edition");
     }
     answers(symmetry_symbol_record(TEXT("P 1a"), out, 3, 9), refusal(14, 0), "no group, and no room");
     answers(symmetry_symbol_record(NULL, 0, NULL, 0, 0), refusal(3, 0), "no text, and no room");

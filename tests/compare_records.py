@@ -92,7 +92,7 @@ def judged(calls, buffer, noise):
         (model.IDENTITY, model.NO_TRANSLATION))))
     start, more = noise.below(7), noise.below(7)
     lent = noise.bytes(start + len(buffer) + more)
-    copied = lent if isinstance(said[0], int) else written(lent, start, model.record(*said))
+    copied = lent if isinstance(said[0], int) else written(lent, start, model.copied_record(buffer))
     calls.call("record_copy", buffer, lent, start, gives=answer_of(said, lambda group: len(group[1])), leaves=[copied])
     no_room = answer_of(said, lambda _: packed(20))
     calls.call("record_copy", buffer, noise.bytes(5), 0, gives=no_room)

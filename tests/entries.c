@@ -58,6 +58,8 @@ struct entry {
     ENTRY(layer_operation, "sn", INPUT, call->number[0]) \
     ENTRY(symbol_record, "sln", INPUT, LENT(0), call->number[0]) \
     ENTRY(record_copy, "sln", INPUT, LENT(0), call->number[0]) \
+    ENTRY(record_edition, "s", INPUT) \
+    ENTRY(record_move, "sln", INPUT, LENT(0), call->number[0]) \
     ENTRY(line_operation, "s", INPUT) \
     ENTRY(operation_line, "sl", INPUT, LENT(0)) \
     ENTRY(symbol_check, "sl", INPUT, LENT(0)) \

@@ -7,26 +7,32 @@ use native.Mathlib.Omega.{arith}
 use lib.ListN.{length}
 use Rattle.centering.specs.declared.Centering.{Centering}
 use Rattle.group_record.specs.Acceptance.{Bytes}
-use Rattle.group_record.specs.Copying.{roomFor, copyAnswer, copiedBy, copiedOf}
-use Rattle.group_record.specs.Reading.{refusalNumber, orderBy, recordOrder, letterBy, recordLetter, readOf}
+use Rattle.group_record.specs.BothEditions.{editionOf}
+use Rattle.group_record.specs.Copying.{roomBy, chosenEdition, copyAnswer, copiedBy, writtenAs}
+use Rattle.group_record.specs.Reading.{refusalNumber, orderBy, recordOrder, letterBy, recordLetter, recordEdition, readOf}
 use Rattle.group_record.specs.RoundTrips.{read-writable}
-use Rattle.group_record.specs.declared.Copied.the-variants.{Written, Refused as NotCopied}
+use Rattle.group_record.specs.declared.Copied.the-variants.{Written, NoRoom}
+use Rattle.group_record.specs.declared.Edition.{Edition}
+use Rattle.group_record.specs.declared.Edition.the-variants.{First, Third}
 use Rattle.group_record.specs.declared.Reading.{Reading}
 use Rattle.group_record.specs.declared.Reading.the-variants.{Accepted, Refused}
 use Rattle.group_record.specs.declared.RecordGroup.{RecordGroup}
 use Rattle.group_record.specs.declared.Refusal.{Refusal}
-use Rattle.group_record.specs.declared.Refusal.the-variants.{NoRoom, Short, WrongEdition, WrongLetter, WrongLength, WrongItem, NotAllowed}
+use Rattle.group_record.specs.declared.Refusal.the-variants.{Short, WrongEdition, WrongLetter, WrongLength, WrongItem, NotAllowed}
 use Rattle.calls.specs.Packing.{Told, near, Within, Low, AnyLetter}
 
--- 20 and 30 to 35, at 0.
+-- 30 to 35, at 0;
 pub record-told : (r : Refusal) → Told (refusalNumber r) 0
-record-told NoRoom = near (omega arith) (omega arith) (omega arith)
 record-told Short = near (omega arith) (omega arith) (omega arith)
 record-told WrongEdition = near (omega arith) (omega arith) (omega arith)
 record-told WrongLetter = near (omega arith) (omega arith) (omega arith)
 record-told WrongLength = near (omega arith) (omega arith) (omega arith)
 record-told WrongItem = near (omega arith) (omega arith) (omega arith)
 record-told NotAllowed = near (omega arith) (omega arith) (omega arith)
+
+-- and 20.
+pub room-told : Told 20 0
+room-told = near (omega arith) (omega arith) (omega arith)
 
 -- A record that is read counts at most 48 operations.
 pub record-count : (bytes : List ℕ) → Bytes bytes → readOf bytes .answer ≡ Accepted → readOf bytes .count ≤ 48
@@ -42,19 +48,29 @@ module _ (bytes : List ℕ) (b : Bytes bytes) where
   pub order-within : Within Low (recordOrder (readOf bytes))
   order-within = order-by (readOf bytes .answer) refl
 
-  -- By what was read, and by the room for it.
-  copy-by : (a : Reading) (start size : ℕ) → readOf bytes .answer ≡ a → Within Low (copyAnswer (copiedBy a (readOf bytes .count) start size))
-  copy-by Accepted start size e = by-room (roomFor start (readOf bytes .count) size)
+  -- By what was read, and by the room for it in an edition.
+  copy-by : (a : Reading) (edition : Edition) (start size : ℕ) → readOf bytes .answer ≡ a → Within Low (copyAnswer (copiedBy a edition (readOf bytes .count) start size))
+  copy-by Accepted edition start size e = by-room (roomBy edition start (readOf bytes .count) size)
     where
-      by-room : (r : Bool) → Within Low (copyAnswer (cond r (Written (readOf bytes .count)) (NotCopied NoRoom)))
+      by-room : (r : Bool) → Within Low (copyAnswer (cond r (Written (readOf bytes .count)) NoRoom))
       by-room true = let few = record-count bytes b e in omega arith
-      by-room false = record-told NoRoom
-  copy-by (Refused r) start size e = record-told r
+      by-room false = room-told
+  copy-by (Refused r) edition start size e = record-told r
 
-  -- So can the answer of a copy.
-  pub copy-within : (out : List ℕ) (start : ℕ) → Within Low (copyAnswer (copiedOf bytes out start))
-  unfolding copiedOf
-  copy-within out start = copy-by (readOf bytes .answer) start (length out) refl
+  -- So can the answer of a copy and of a move.
+  pub copy-within : (moved : Bool) (out : List ℕ) (start : ℕ) → Within Low (copyAnswer (writtenAs moved bytes out start))
+  unfolding writtenAs
+  copy-within moved out start = copy-by (readOf bytes .answer) (chosenEdition moved (readOf bytes .edition)) start (length out) refl
+
+-- By what was read.
+edition-by : (a : Reading) (edition : Edition) → Within Low (orderBy a (editionOf edition .number))
+edition-by Accepted First = omega arith
+edition-by Accepted Third = omega arith
+edition-by (Refused r) edition = record-told r
+
+-- So can a record's edition.
+pub edition-within : (g : RecordGroup) → Within Low (recordEdition g)
+edition-within g = edition-by (g .answer) (g .edition)
 
 -- By what was read.
 letter-by : (a : Reading) (c : Centering) → Within AnyLetter (letterBy a c)

@@ -42,13 +42,21 @@ pub extern "C" fn symmetry_record_copy(bytes: &[u8], out: &mut [u8], start: u64)
     ensures { λ r. ⌜ (r ≡ packed (copyAnswer (copiedOf (now (bytes .entry)) (now (out .entry)) start)))
         × (now (out .exit) ≡ bufferOf (now (bytes .entry)) (now (out .entry)) start) ⌝ }
 {
-    match copy_record(bytes, out, start as usize) {
+    copied(copy_record(bytes, out, start as usize))
+}
+
+// What was read and written, or why not.
+pub(crate) fn copied(answer: Copied) -> u64
+    ensures { λ r. ⌜ r ≡ packed (copyAnswer answer) ⌝ }
+{
+    match answer {
         Copied::Written(n) => n as u64,
+        Copied::NoRoom => refused(20, 0),
         Copied::Refused(why) => refused_record(why),
     }
 }
 
-fn refused_record(why: Refusal) -> u64
+pub(crate) fn refused_record(why: Refusal) -> u64
     ensures { λ r. ⌜ r ≡ refusalNumber why * topByte + 0 ⌝ }
 {
     refused(why.number(), 0)

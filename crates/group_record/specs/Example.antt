@@ -1,4 +1,5 @@
--- The example of R5.6: the record of `-P 1`, byte by byte. It holds the definitions of code, order and trailer against the paper.
+-- The examples of R5.6: the record of `-P 1` in editions 1 and 3 and that of `P 1` in edition 3, byte by byte.
+-- They hold the definitions of code, number, order and trailer against the paper.
 use mathlib.Core.Path.{_≡_, refl}
 use mathlib.Core.List.{[], _∷_}
 use Rattle.laws.specs.Lattice.{smallest, leastRank, rank, unrank}
@@ -10,7 +11,9 @@ use Rattle.operation.specs.declared.Operation.{Operation}
 use Rattle.centering.specs.Lattices.{smallestOf}
 use Rattle.centering.specs.declared.Centering.the-variants.{P}
 use Rattle.group_record.specs.Items.{bytesOf}
-use Rattle.group_record.specs.Record.{itemBytes, writtenIn, smallestOperation, listedForm, recordIn, recordOf}
+use Rattle.group_record.specs.ThirdEdition.{numberOfItem, fourBytes, numberedBytes}
+use Rattle.group_record.specs.Record.{itemBytes, writtenIn, smallestOperation, listedForm, recordIn, recordBy, recordOf}
+use Rattle.group_record.specs.declared.Edition.the-variants.{Third}
 
 abbrev pub inversion : Operation
 inversion =
@@ -23,3 +26,13 @@ inversion =
 pub example : recordOf P (identityOperation ∷ inversion ∷ []) ≡ 12 ∷ 126 ∷ 0 ∷ 0 ∷ 0 ∷ 64 ∷ 100 ∷ 0 ∷ 0 ∷ 0 ∷ 80 ∷ 1 ∷ 2 ∷ 0 ∷ 15 ∷ []
 unfolding recordOf recordIn writtenIn listedForm smallestOperation smallestOf smallest leastRank rank unrank _⊕_ sort insert codeOf bytesOf itemBytes
 example = refl
+
+-- 00 54 52 80 01 B2 A3 00 50 03 02 00 0D
+pub third-example : recordBy Third P (identityOperation ∷ inversion ∷ []) ≡ 0 ∷ 84 ∷ 82 ∷ 128 ∷ 1 ∷ 178 ∷ 163 ∷ 0 ∷ 80 ∷ 3 ∷ 2 ∷ 0 ∷ 13 ∷ []
+unfolding recordBy recordIn writtenIn listedForm smallestOperation smallestOf smallest leastRank rank unrank _⊕_ sort insert codeOf bytesOf numberedBytes fourBytes numberOfItem
+third-example = refl
+
+-- 01 B2 A3 00 50 03 01 00 09
+pub shortest-example : recordBy Third P (identityOperation ∷ []) ≡ 1 ∷ 178 ∷ 163 ∷ 0 ∷ 80 ∷ 3 ∷ 1 ∷ 0 ∷ 9 ∷ []
+unfolding recordBy recordIn writtenIn listedForm smallestOperation smallestOf smallest leastRank rank unrank _⊕_ sort insert codeOf bytesOf numberedBytes fourBytes numberOfItem
+shortest-example = refl

@@ -30,6 +30,8 @@ pub mod SymbolSets
 pub mod LayerRecords
 pub mod SymbolReading
 pub mod RefusalNumbers
+pub mod Moving
+pub mod OldSoftware
 pub mod Example
 -- What the code does with items.
 pub mod Search

@@ -24,11 +24,10 @@ use Rattle.group_record.specs.Items.{bytesOf}
 use Rattle.group_record.specs.Editions.{Edition, totalLength, trailerBytes, framed, framed-length, framed-injective}
 use Rattle.group_record.specs.OperationItems.{Item, itemOf, operationOfItem, InRange}
 use Rattle.group_record.specs.FirstEdition.{itemWidth, itemBytes, itemIn, item-wide, item-again, firstEdition}
-use Rattle.group_record.specs.BothEditions.{editionOf, widthIn}
+use Rattle.group_record.specs.BothEditions.{editionOf, widthIn, known-range}
 use Rattle.group_record.specs.Record.{writtenIn, listedForm, recordIn, recordBy, recordOf}
-use Rattle.group_record.specs.Signs.{latticeOf, signByte}
-use Rattle.group_record.specs.declared.sign.Sign.{Sign}
 use Rattle.group_record.specs.declared.Edition.{Edition as Known}
+use Rattle.group_record.specs.declared.Edition.the-variants.{First}
 use Rattle.group_record.specs.Groups.{Alike, InSet, Listing, Form}
 use Rattle.group_record.specs.ListedForm.{operation≡, told-by-rotation, alike-reflexive, alike-smallest, matrix-injective, form-member, member-form, form-length, CodeBefore, codeKey, listed-form, form-set}
 
@@ -98,9 +97,9 @@ module _ (E : Edition Item) where
         (p, sym (operations-of-items l (F .entries)) ∙ ap (map operationOfItem) q ∙ operations-of-items k (K .entries))
 
 -- A record's length by its edition,
-pub record-by-length : (edition : Known) (s : Sign) (l : List Operation) → length (recordBy edition s l) ≡ totalLength (widthIn edition) (length l)
+pub record-by-length : (edition : Known) (c : Centering) (l : List Operation) → length (recordBy edition c l) ≡ totalLength (widthIn edition) (length l)
 unfolding recordBy
-record-by-length edition s l = record-in-length (editionOf edition) (signByte s) (latticeOf s) l
+record-by-length edition c l = record-in-length (editionOf edition) (byteOf c) c l
 
 -- and in edition 1.
 pub record-length : (c : Centering) (l : List Operation) → length (recordOf c l) ≡ totalLength itemWidth (length l)
@@ -194,8 +193,15 @@ one-record-in E ranged a b c d l k told apart L K i j = (forth, back)
     back : ((m : SpaceMotion) → InSet c (map motionOf l) m ↔ InSet d (map motionOf k) m) → writtenIn E a (listedForm c l) ≡ writtenIn E b (listedForm d k)
     back same = ap₂ (writtenIn E) (apart (letters same)) (forms d same (letters same))
 
--- Records are equal byte for byte exactly when the sets of motions are.
+-- Records of an edition are equal byte for byte exactly when the sets of motions are;
+pub one-record-by : (edition : Known) (c d : Centering) (l k : List Operation) → Listing l → Listing k → Mem identityOperation l → Mem identityOperation k
+    → (recordBy edition c l ≡ recordBy edition d k) ↔ ((m : SpaceMotion) → InSet c (map motionOf l) m ↔ InSet d (map motionOf k) m)
+unfolding recordBy
+one-record-by edition c d l k L K i j =
+    one-record-in (editionOf edition) (known-range edition) (byteOf c) (byteOf d) c d l k (byte-injective c d) (ap byteOf) L K i j
+
+-- in edition 1 too.
 pub one-record : (c d : Centering) (l k : List Operation) → Listing l → Listing k → Mem identityOperation l → Mem identityOperation k
     → (recordOf c l ≡ recordOf d k) ↔ ((m : SpaceMotion) → InSet c (map motionOf l) m ↔ InSet d (map motionOf k) m)
-unfolding recordOf
-one-record c d l k L K i j = one-record-in firstEdition (λ item h. tt) (byteOf c) (byteOf d) c d l k (byte-injective c d) (ap byteOf) L K i j
+unfolding recordOf recordBy
+one-record c d l k L K i j = one-record-by First c d l k L K i j

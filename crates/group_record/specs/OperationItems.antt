@@ -7,7 +7,6 @@ use Rattle.operation.specs.declared.Operation.{Operation}
 use Rattle.operation.specs.declared.Rotation.{Rotation}
 use Rattle.operation.specs.declared.code.Decoded.{Decoded}
 use Rattle.operation.specs.declared.code.Decoded.the-variants.{Inside, Outside}
-
 pub use Rattle.group_record.specs.declared.items.Item.{Item}
 
 -- Items are equal where their parts are.

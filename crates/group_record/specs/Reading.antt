@@ -229,17 +229,19 @@ oldReading =
       long-enough = λ k. omega arith;
     }
 
--- What is told, as the reader hands it back.
+-- What is told, as the reader hands it back, by the names of the editions.
+abbrev pub groupAs : {Kind : Type 0} → (Kind → Known) → Told Item Sign Kind → RecordGroup
+groupAs name (not-held r) = refusedGroup r
+groupAs name (holds k s items) = acceptedGroup (name k) s (map operationOfItem items)
+
 abbrev pub groupOf : Told Item Sign Known → RecordGroup
-groupOf (not-held r) = refusedGroup r
-groupOf (holds k s items) = acceptedGroup k s (map operationOfItem items)
+groupOf t = groupAs (λ (k : Known). k) t
+
+abbrev pub firstGroupOf : Told Item Sign (Unit {0}) → RecordGroup
+firstGroupOf t = groupAs (λ (k : Unit {0}). First) t
 
 unfoldable pub readOf : List ℕ → RecordGroup
 readOf bytes = groupOf (toldBy bothRules bytes)
-
-abbrev pub firstGroupOf : Told Item Sign (Unit {0}) → RecordGroup
-firstGroupOf (not-held r) = refusedGroup r
-firstGroupOf (holds k s items) = acceptedGroup First s (map operationOfItem items)
 
 unfoldable pub readFirstOf : List ℕ → RecordGroup
 readFirstOf bytes = firstGroupOf (toldBy firstRules bytes)

@@ -50,9 +50,13 @@ listedForm c l = sort beforeByCode (map (smallestOperation c) l)
 unfoldable pub recordIn : Edition Item → ℕ → Centering → List Operation → List ℕ
 recordIn E letter c l = writtenIn E letter (listedForm c l)
 
--- In an edition that is read and written, under a letter.
-unfoldable pub recordBy : Known → Sign → List Operation → List ℕ
-recordBy k s l = recordIn (editionOf k) (signByte s) (latticeOf s) l
+-- In an edition that is read and written, under any letter of a record;
+unfoldable pub signedRecord : Known → Sign → List Operation → List ℕ
+signedRecord k s l = recordIn (editionOf k) (signByte s) (latticeOf s) l
+
+-- under its lattice's letter.
+unfoldable pub recordBy : Known → Centering → List Operation → List ℕ
+recordBy k c l = recordIn (editionOf k) (byteOf c) c l
 
 -- In edition 1.
 unfoldable pub recordOf : Centering → List Operation → List ℕ

@@ -24,7 +24,7 @@ use Rattle.group_record.specs.Rules.{Rules, Told, holds, toldBy}
 use Rattle.group_record.specs.Rules.{refused as not-held}
 use Rattle.group_record.specs.Outcomes.{Meaning, GoodBy, record-bytes, firstItems, trailerOf, Outcome, too-short, wrong-edition, wrong-letter, wrong-length, wrong-item, not-allowed, accepted, outcome-told, told-outcome}
 use Rattle.group_record.specs.BothEditions.{editionOf, widthIn, one-edition}
-use Rattle.group_record.specs.Reading.{refusalNumber, groupAnswer, orderBy, recordOrder, recordEdition, acceptedGroup, refusedGroup, bothRules, groupOf, readOf}
+use Rattle.group_record.specs.Reading.{refusalNumber, groupAnswer, orderBy, recordOrder, recordEdition, acceptedGroup, refusedGroup, bothRules, groupAs, groupOf, readOf}
 use Rattle.group_record.specs.Places.{roomFrom, start-beyond, too-near-end, room-there}
 use Rattle.group_record.specs.Copying.{chosenEdition, copyAnswer, copiedBy, writtenAs}
 use Rattle.group_record.specs.SymbolRecords.{writtenBy, symbolRecordOf, symbolRecordAnswer}
@@ -102,12 +102,13 @@ module _ {Item Letter Kind : Type 0} (R : Rules Item Letter Kind) (W : Meaning R
 
 -- ---- editions 1 and 3
 -- What the reader hands back has the number and the place that are told.
-group-number : (t : Told Item Sign Known) (number place : ℕ) → (groupAnswer (groupOf t) ≡ refused number place tt) ↔ (toldAnswer t ≡ refused number place tt)
+pub group-number : {Kind : Type 0} (name : Kind → Known) (t : Told Item Sign Kind) (number place : ℕ)
+    → (groupAnswer (groupAs name t) ≡ refused number place tt) ↔ (toldAnswer t ≡ refused number place tt)
 unfolding refusedGroup
-group-number (not-held r) number place = ((λ e. cc), λ e. cc)
-group-number (holds k c items) number place = (
+group-number name (not-held r) number place = ((λ e. cc), λ e. cc)
+group-number name (holds k c items) number place = (
   (λ e.
-      let clash : _≡_ {A = Answer (Bool × Centering × List Operation) Nothing} (given (isSmall c, latticeOf c, map operationOfItem items)) (refused number place tt) = sym (accepted-answer k c (map operationOfItem items)) ∙ e in
+      let clash : _≡_ {A = Answer (Bool × Centering × List Operation) Nothing} (given (isSmall c, latticeOf c, map operationOfItem items)) (refused number place tt) = sym (accepted-answer (name k) c (map operationOfItem items)) ∙ e in
       let z : _≡_ {A = ℕ} 0 1 = cc in
       absurd (omega arith)),
   λ e. let z : _≡_ {A = ℕ} 0 1 = cc in absurd (omega arith),
@@ -117,8 +118,8 @@ group-number (holds k c items) number place = (
 pub read-refused : (bytes : List ℕ) → Bytes bytes → (number place : ℕ) → (groupAnswer (readOf bytes) ≡ refused number place tt) ↔ ((place ≡ 0) × Refuses bothRules bothMeaning bytes number)
 unfolding readOf
 read-refused bytes b number place = (
-  (λ e. told-refused bothRules bothMeaning bytes b number place .0 (group-number (toldBy bothRules bytes) number place .0 e)),
-  λ h. group-number (toldBy bothRules bytes) number place .1 (told-refused bothRules bothMeaning bytes b number place .1 h),
+  (λ e. told-refused bothRules bothMeaning bytes b number place .0 (group-number (λ (k : Known). k) (toldBy bothRules bytes) number place .0 e)),
+  λ h. group-number (λ (k : Known). k) (toldBy bothRules bytes) number place .1 (told-refused bothRules bothMeaning bytes b number place .1 h),
 )
 
 -- So 30 is given exactly if there are under nine bytes.

@@ -18,7 +18,7 @@ use Rattle.centering.specs.declared.Centering.{Centering}
 use Rattle.group_record.specs.Items.{Bytes}
 use Rattle.group_record.specs.OperationItems.{Item, itemOf, operationOfItem}
 use Rattle.group_record.specs.BothEditions.{editionOf, widthIn}
-use Rattle.group_record.specs.Record.{totalLength, smallestOperation, listedForm, writtenIn, recordIn, recordBy, recordOf}
+use Rattle.group_record.specs.Record.{totalLength, smallestOperation, listedForm, writtenIn, recordIn, signedRecord, recordOf}
 use Rattle.group_record.specs.Rules.{Told, holds, toldBy}
 use Rattle.group_record.specs.Rules.{refused as not-held}
 use Rattle.group_record.specs.Reading.{GroupReading, rulesOf, bothReading, bothRules, groupOf, readOf, acceptedGroup, refusedGroup, slots, groupAnswer}
@@ -121,15 +121,15 @@ module _ {Sign Kind : Type 0} (G : GroupReading Sign Kind) where
 -- ---- editions 1 and 3
 -- What was written reads back, wherever it stands at the end of a buffer; and it is the same group.
 pub reads-back-in : (edition : Known) (s : Sign) {l : List Operation} → Listing l → Allowed (latticeOf s) (map motionOf l) → LayersIf (isSmall s) (listedForm (latticeOf s) l) → (front : List ℕ)
-    → readOf (front ++ recordBy edition s l) ≡ acceptedGroup edition s (listedForm (latticeOf s) l)
-unfolding readOf recordBy
+    → readOf (front ++ signedRecord edition s l) ≡ acceptedGroup edition s (listedForm (latticeOf s) l)
+unfolding readOf signedRecord
 reads-back-in edition s {l} L A layers front =
     ap groupOf (tells-back bothReading edition s L A layers front)
     ∙ ap (acceptedGroup edition s) (operations-of-items (listedForm (latticeOf s) l) (listed-form (latticeOf s) L .entries))
 
 -- In edition 1, under a lattice's letter.
 pub reads-back : (c : Centering) {l : List Operation} → Listing l → Allowed c (map motionOf l) → (front : List ℕ) → readOf (front ++ recordOf c l) ≡ acceptedGroup First (Plain c) (listedForm c l)
-unfolding recordBy recordOf
+unfolding signedRecord recordOf
 reads-back c L A front = reads-back-in First (Plain c) L A tt front
 
 -- ---- what was read

@@ -33,9 +33,10 @@ fn write_read(bytes: &[u8], out: &mut [u8], start: usize, moved: bool) -> Copied
 {
     let group = read_record(bytes);
     let answer = group.answer;
-    let edition = chosen(group.edition, moved);
+    let edition = group.edition;
+    let target = chosen(edition, moved);
     match answer {
-        Reading::Accepted => place_read(out, start, edition, group),
+        Reading::Accepted => place_read(out, start, target, group),
         Reading::Refused(why) => Copied::Refused(why),
     }
 }

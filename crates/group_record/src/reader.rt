@@ -284,7 +284,13 @@ fn member_allowed(bytes: &[u8], edition: Edition, c: Centering, n: usize, i: usi
     }
     let mut j = 0usize;
     while j < n {
-        if !product_listed(bytes, edition, c, n, mul(f, operation_at(bytes, edition, j))) {
+        if !product_listed(
+            bytes,
+            edition,
+            c,
+            n,
+            mul(f, operation_at(bytes, edition, j)),
+        ) {
             return false;
         }
         j += 1;

@@ -1,7 +1,6 @@
 -- Number, place and value determine an answer on the group of a symbol or a record, as they do in the rooms of texts, of records and of tables: the numbers of
 -- the three rooms are apart.
-use mathlib.Core.Path.{_≡_, refl, sym, ap}
-use mathlib.Core.Logic.{_⊎_, inl, inr}
+use mathlib.Core.Path.{_≡_, ap}
 use Prim.Native.Nat.{ℕ, _<_, _≤_}
 use native.Mathlib.Omega.{arith}
 use Rattle.symbol_group.specs.Refusals as symbol
@@ -35,35 +34,26 @@ group-number group-refusals.Element = (omega arith, omega arith)
 group-number group-refusals.Normalizer = (omega arith, omega arith)
 
 -- the numbers of records are none of the others
-below-records : (j k : ℕ) → j < 20 → (k ≡ 20) ⊎ (30 ≤ k) → j ≡ k → ⊥
-below-records j k low (inl same) e = omega arith
-below-records j k low (inr high) e = omega arith
-
-between-records : (j k : ℕ) → 21 ≤ j → j ≤ 29 → (k ≡ 20) ⊎ (30 ≤ k) → j ≡ k → ⊥
-between-records j k low high (inl same) e = omega arith
-between-records j k low high (inr past) e = omega arith
-
 symbol-low : (r : symbol-refusal.Refusal) → symbol.numberOf r < 20
 symbol-low r = omega (arith, symbol-told.number-limit r)
 
-record-apart : (r : record-refusal.Refusal) → (refusalNumber r ≡ 20) ⊎ (30 ≤ refusalNumber r)
-record-apart record-refusals.NoRoom = inl refl
-record-apart record-refusals.Short = inr (omega arith)
-record-apart record-refusals.WrongEdition = inr (omega arith)
-record-apart record-refusals.WrongLetter = inr (omega arith)
-record-apart record-refusals.WrongLength = inr (omega arith)
-record-apart record-refusals.WrongItem = inr (omega arith)
-record-apart record-refusals.NotAllowed = inr (omega arith)
+record-high : (r : record-refusal.Refusal) → 30 ≤ refusalNumber r
+record-high record-refusals.Short = omega arith
+record-high record-refusals.WrongEdition = omega arith
+record-high record-refusals.WrongLetter = omega arith
+record-high record-refusals.WrongLength = omega arith
+record-high record-refusals.WrongItem = omega arith
+record-high record-refusals.NotAllowed = omega arith
 
 refusal-once : (r s : Refusal) → numberOf r ≡ numberOf s → placeOf r ≡ placeOf s → r ≡ s
 refusal-once (Symbol r) (Symbol s) e p = ap Symbol (symbol-told.told-once r s e p)
-refusal-once (Symbol r) (Record s) e p = absurd (below-records _ _ (symbol-low r) (record-apart s) e)
+refusal-once (Symbol r) (Record s) e p = absurd (omega (arith, symbol-low r, record-high s))
 refusal-once (Symbol r) (Group s) e p = absurd (omega (arith, symbol-low r, group-number s))
-refusal-once (Record r) (Symbol s) e p = absurd (below-records _ _ (symbol-low s) (record-apart r) (sym e))
+refusal-once (Record r) (Symbol s) e p = absurd (omega (arith, symbol-low s, record-high r))
 refusal-once (Record r) (Record s) e p = ap Record (one-refusal r s e)
-refusal-once (Record r) (Group s) e p = absurd (between-records _ _ (group-number s .0) (group-number s .1) (record-apart r) (sym e))
+refusal-once (Record r) (Group s) e p = absurd (omega (arith, group-number s, record-high r))
 refusal-once (Group r) (Symbol s) e p = absurd (omega (arith, symbol-low s, group-number r))
-refusal-once (Group r) (Record s) e p = absurd (between-records _ _ (group-number r .0) (group-number r .1) (record-apart s) e)
+refusal-once (Group r) (Record s) e p = absurd (omega (arith, group-number r, record-high s))
 refusal-once (Group r) (Group s) e p = ap Group (number-once r s e)
 
 pub answer-once : (a b : Answer) → motionAnswer a ≡ motionAnswer b → a ≡ b

@@ -1,3 +1,9 @@
+-- The capital's byte leaves room for the small one.
+use mathlib.Core.Path.{_≡_, ap, _∙_}
+use Prim.Native.Nat.{ℕ, _+_}
+use native.Mathlib.Omega.{arith}
+use Rattle.layer_group.specs.Slots.{small-fits}
+use Rattle.group_record.specs.Signs.{letterByte}
 use borrow.Author.Needs.{needs}
 use Rattle.group_record.proofs.letter_byte.Statement.{statement}
 use Rattle.group_record.proofs.letter_byte.Tie as tie
@@ -5,19 +11,15 @@ use Rattle.group_record.proofs.letter_byte.Reads as reads
 use Rattle.group_record.proofs.letter_byte.Lts as lts
 use Rattle.centering.proofs.Centering.byte.Reads as byte-reads
 
--- src/lib.rt:99:9
 byte-requires : tie.Need-byte-requires
 byte-requires c κs = search needs
 
--- src/lib.rt:101:16
 add-result : tie.Need-add-result
-add-result c = ?
+add-result c = omega (arith, c .before .byte .ensures, small-fits (c .before .before .before .args .c))
 
--- src/lib.rt:101:9
 returns : tie.Need-returns
-returns c = ?
+returns c = ap (λ (b : ℕ). b + 32) (c .before .byte .ensures) ∙ rw (c .if1 .taken)
 
--- src/lib.rt:96:1
 returns-2 : tie.Need-returns-2
 returns-2 c = search needs
 

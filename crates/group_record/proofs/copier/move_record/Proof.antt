@@ -1,3 +1,5 @@
+-- The common part, with the edition chosen.
+use borrow.Author.Needs.{needs}
 use Rattle.group_record.proofs.copier.move_record.Statement.{statement}
 use Rattle.group_record.proofs.copier.move_record.Tie as tie
 use Rattle.group_record.proofs.copier.move_record.Reads as reads
@@ -11,7 +13,7 @@ same-length : tie.Need-same-length
 same-length c = search needs
 
 returns : tie.Need-returns
-returns c = c .write-read .ensures
+returns c = c .before .before .write-read .ensures
 
 pub move-record-spec : {M : Type 1} → statement M
 move-record-spec = tie.close (tie.spec write-read-requires same-length returns)
