@@ -2,7 +2,7 @@
 -- and no layer symbol has the record of a plain one.
 use mathlib.Core.Path.{_≡_, refl, sym, _∙_, ap, ap₂}
 use mathlib.Core.Logic.{_↔_}
-use mathlib.Core.Bool.{cond}
+use mathlib.Core.Bool.{Bool, cond}
 use mathlib.Core.List.{List, map}
 use Prim.Native.Nat.{ℕ, _+_, _≤_}
 use native.Mathlib.Omega.{arith}
@@ -18,7 +18,8 @@ use Rattle.centering.specs.declared.Centering.the-variants.{P, A, B, C, I, R, F
 use Rattle.space_group_theorems.specs.SetOfMotions as generated
 use Rattle.symbol_group.specs.AcceptedTexts.{AcceptedText, accepted-text}
 use Rattle.symbol_group.specs.Answers.{symbolAnswer}
-use Rattle.layer_group.specs.Answers.{layerAnswer, smallOf}
+use Rattle.symbol_group.specs.declared.SymbolGroup.{SymbolGroup}
+use Rattle.layer_group.specs.Answers.{layerAnswer, orderBy, orderOf, smallOf}
 use Rattle.layer_group.specs.Capitals.{capitalised}
 use Rattle.layer_group.specs.Spelling.{LayerSpells}
 use Rattle.layer_group.specs.Told.{spells-exactly, layer-table}
@@ -26,15 +27,17 @@ use Rattle.layer_group.specs.Refusals.{numberOf, placeOf}
 use Rattle.layer_group.specs.declared.Answer.{Answer}
 use Rattle.layer_group.specs.declared.Answer.the-variants.{Group, Refused}
 use Rattle.layer_group.specs.declared.LayerGroup.{LayerGroup}
+use Rattle.layer_group.specs.declared.LayerOrder.the-variants.{Is, Refused as OrderRefused}
+use Rattle.layer_group.specs.declared.refusal.Refusal.{Refusal}
 use Rattle.group_record.specs.Editions.{fromEnd, framed-letter}
 use Rattle.group_record.specs.FirstEdition.{firstEdition}
 use Rattle.group_record.specs.Record.{itemOf, listedForm, writtenIn, recordIn, recordOf}
 use Rattle.group_record.specs.Places.{placedIn}
 use Rattle.group_record.specs.Copying.{roomFor}
-use Rattle.group_record.specs.Groups.{InSet}
+use Rattle.group_record.specs.Groups.{InSet, Listing}
 use Rattle.group_record.specs.OneRecord.{one-record-in, written-items}
 use Rattle.group_record.specs.SymbolRecords.{textRecord}
-use Rattle.group_record.specs.AcceptedSymbols.{accepted-listing, accepted-identity}
+use Rattle.group_record.specs.AcceptedSymbols.{symbol-writable, accepted-listing, accepted-identity}
 use Rattle.group_record.specs.SymbolSets.{InSetOf, set-of-list}
 use Rattle.group_record.specs.declared.LayerRecord.{LayerRecord}
 use Rattle.group_record.specs.declared.LayerRecord.the-variants.{Written, NoRoom, Refused as NotWritten}
@@ -72,6 +75,45 @@ layerPlacedBy (Refused r) out start bytes = out
 
 unfoldable pub layerBufferOf : List ℕ → List ℕ → ℕ → List ℕ
 layerBufferOf text out start = layerPlacedBy (layerAnswer text .answer) out start (layerTextRecord text)
+
+-- ---- by what the symbol's order says
+module _ (text : List ℕ) where
+  order-given : (n : ℕ) → orderOf text ≡ Is n → (layerAnswer text .answer ≡ Group) × (layerAnswer text .count ≡ n)
+  unfolding orderOf
+  order-given n e = by (layerAnswer text .answer) refl e
+    where
+      by : (a : Answer) → layerAnswer text .answer ≡ a → orderBy a (layerAnswer text .count) ≡ Is n → (layerAnswer text .answer ≡ Group) × (layerAnswer text .count ≡ n)
+      by Group p q = (p, cc)
+      by (Refused r) p q = let z : _≡_ {A = ℕ} 0 1 = cc in absurd (omega arith)
+
+  -- A refused symbol is not written.
+  pub record-refused : (out : List ℕ) (start : ℕ) (r : Refusal) → orderOf text ≡ OrderRefused r → (NotWritten r ≡ layerRecordOf text out start) × (out ≡ layerBufferOf text out start)
+  unfolding orderOf layerRecordOf layerBufferOf
+  record-refused out start r e = by (layerAnswer text .answer) refl e
+    where
+      by : (a : Answer) → layerAnswer text .answer ≡ a → orderBy a (layerAnswer text .count) ≡ OrderRefused r
+          → (NotWritten r ≡ layerWrittenBy (layerAnswer text .answer) (layerAnswer text .count) start (length out)) × (out ≡ layerPlacedBy (layerAnswer text .answer) out start (layerTextRecord text))
+      by Group p q = let z : _≡_ {A = ℕ} 0 1 = cc in absurd (omega arith)
+      by (Refused t) p q = let same : t ≡ r = cc in (rw p (ap NotWritten (sym same)), rw p refl)
+
+  module _ (n : ℕ) (order : orderOf text ≡ Is n) (g : SymbolGroup) (e : g ≡ symbolAnswer (capitalised text)) where
+    -- The list of the text with the capital letter may be written,
+    pub layer-writable : (n ≤ 48) × (n ≤ length (g .operations)) × Listing (take n (g .operations))
+    layer-writable =
+        let (a, count) = order-given n order in
+        let (group, _, counts, _) = layer-table text a in
+        let same : n ≡ g .count = sym count ∙ counts ∙ sym (ap (λ (h : SymbolGroup). h .count) e) in
+        rw same (symbol-writable (capitalised text) g e (ap (λ (h : SymbolGroup). h .answer) e ∙ group))
+
+    -- and is what is written under the small letter, if there is room.
+    pub record-written : (out : List ℕ) (start : ℕ) (b : Bool) → b ≡ roomFor start n (length out)
+        → (left : List ℕ) → left ≡ placedIn out start (recordIn firstEdition (smallOf (g .centering)) (g .centering) (take n (g .operations)))
+        → (cond b (Written n) NoRoom ≡ layerRecordOf text out start) × (left ≡ layerBufferOf text out start)
+    unfolding layerRecordOf layerBufferOf layerTextRecord smallRecord
+    record-written out start b room left placed =
+        let (a, count) = order-given n order in
+        let (_, letters, _, lists) = layer-table text a in
+        (rw (a, count) (ap (λ (x : Bool). cond x (Written n) NoRoom) room), rw (a, letters, count, lists, ← e) placed)
 
 -- ---- what it says
 -- The set of motions of a layer text: it spells a layer symbol, and the motion is a finite product of the symbol's generators and translations by L.

@@ -148,13 +148,14 @@ fn find_counted(bytes: &[u8], edition: Edition, sign: Sign) -> Found
     }
     let start = size - stated;
     let c = sign.lattice();
+    let small = sign.is_small();
     if !are_items(&bytes[start..], edition, c, n) {
         return nothing(Refusal::WrongItem);
     }
     if !is_allowed(&bytes[start..], edition, c, n) {
         return nothing(Refusal::NotAllowed);
     }
-    if !are_layers(&bytes[start..], edition, sign.is_small(), n) {
+    if !are_layers(&bytes[start..], edition, small, n) {
         return nothing(Refusal::NotAllowed);
     }
     Found {

@@ -15,7 +15,7 @@ byte-requires : tie.Need-byte-requires
 byte-requires c κs = search needs
 
 add-result : tie.Need-add-result
-add-result c = omega (arith, c .before .byte .ensures, small-fits (c .before .before .before .args .c))
+add-result c = omega (arith, c .before .byte .ensures, small-fits (c .before .before .args .c))
 
 returns : tie.Need-returns
 returns c = ap (λ (b : ℕ). b + 32) (c .before .byte .ensures) ∙ rw (c .if1 .taken)

@@ -11,6 +11,8 @@ use Rattle.group_record.proofs.reader.laid_out.Tie as tie
 use Rattle.group_record.proofs.reader.laid_out.Reads as reads
 use Rattle.group_record.proofs.reader.laid_out.Lts as lts
 use Rattle.group_record.proofs.items.operation_at.Reads as operation-at-reads
+use Rattle.group_record.proofs.sign.Sign.is_small.Reads as is-small-reads
+use Rattle.group_record.proofs.sign.Sign.lattice.Reads as lattice-reads
 use Rattle.operation.proofs.product.identity.Reads as identity-reads
 
 abbrev Inv-loop : tie.InvT-loop
@@ -48,6 +50,12 @@ loop-again c =
       rw (l .inv .1, c .operation-at .ensures) (filled-next (a .edition) (a .n) (a .bytes .now) (l .i) (omega arith) (omega arith)),
     )
 
+is-small-requires : tie.Need-is-small-requires Inv-loop μ-loop
+is-small-requires c κs = search needs
+
+lattice-requires : tie.Need-lattice-requires Inv-loop μ-loop
+lattice-requires c κs = search needs
+
 returns : tie.Need-returns Inv-loop μ-loop
 unfolding laidOut
 returns c =
@@ -70,4 +78,6 @@ laid-out-spec =
     add-i
     loop-less
     loop-again
+    is-small-requires
+    lattice-requires
     returns)
