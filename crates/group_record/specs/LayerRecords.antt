@@ -121,7 +121,7 @@ abbrev pub InLayerSet : List ℕ → SpaceMotion → Type 0
 InLayerSet text m = (c : Centering) × (gens : List Operation) × LayerSpells text c gens × generated.InSet c gens m
 
 -- It is that of the text with the capital letter.
-capital-set : (text : List ℕ) (m : SpaceMotion) → InLayerSet text m ↔ InSetOf (capitalised text) m
+pub capital-set : (text : List ℕ) (m : SpaceMotion) → InLayerSet text m ↔ InSetOf (capitalised text) m
 capital-set text m = (
   (λ (c, gens, s, h). (c, gens, spells-exactly text c gens .1 s, h)),
   λ (c, gens, s, h). (c, gens, spells-exactly text c gens .0 s, h),
@@ -187,7 +187,7 @@ record-letter letter c l =
     ap (λ (bytes : List ℕ). fromEnd bytes 5) (written-items firstEdition letter (listedForm c l)) ∙ framed-letter firstEdition letter (map itemOf (listedForm c l))
 
 -- A capital letter's byte is 65 to 90.
-capital-byte : (c : Centering) → (65 ≤ byteOf c) × (byteOf c ≤ 90)
+pub capital-byte : (c : Centering) → (65 ≤ byteOf c) × (byteOf c ≤ 90)
 capital-byte P = (omega arith, omega arith)
 capital-byte A = (omega arith, omega arith)
 capital-byte B = (omega arith, omega arith)

@@ -30,6 +30,7 @@ pub mod SymbolSets
 pub mod LayerRecords
 pub mod SymbolReading
 pub mod RefusalNumbers
+pub mod LayerReading
 pub mod Moving
 pub mod OldSoftware
 pub mod Example

@@ -361,13 +361,7 @@ fn all_layers(bytes: &[u8], edition: Edition, n: usize) -> bool
     true
 }
 
-fn laid_out(
-    bytes: &[u8],
-    answer: Reading,
-    edition: Edition,
-    sign: Sign,
-    n: usize,
-) -> RecordGroup
+fn laid_out(bytes: &[u8], answer: Reading, edition: Edition, sign: Sign, n: usize) -> RecordGroup
     requires { ⌜ (n ≤ 48) × (widthIn edition * n ≤ length (now bytes)) ⌝ }
     ensures { λ r. ⌜ r ≡ laidOut answer edition sign n (now (bytes .entry)) ⌝ }
 {
