@@ -79,7 +79,7 @@ def judged(calls, buffer, noise):
     calls.call("record_edition", buffer, gives=answer_of(said, lambda _: model.record_edition(buffer)))
     calls.call("record_order", buffer, gives=answer_of(said, lambda group: len(group[1])))
     start = noise.below(7)
-    lent = noise.bytes(start + 260)
+    lent = noise.bytes(start + 250)
     for entry, record in (("record_move", model.moved_record), ("record_copy", model.copied_record)):
         left = written(lent, start, record(buffer)) if accepted else lent
         calls.call(entry, buffer, lent, start, gives=answer_of(said, lambda group: len(group[1])), leaves=[left])
