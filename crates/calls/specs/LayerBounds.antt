@@ -6,7 +6,7 @@ use mathlib.Core.List.{List}
 use Prim.Native.Nat.{ℕ, _≤_}
 use native.Mathlib.Omega.{arith}
 use lib.Dec.{ltb}
-use lib.ListN.{getD, take}
+use lib.ListN.{length, getD, take}
 use borrow.Author.Tests.{ltb-true}
 use Rattle.operation.specs.Product.{identityOperation}
 use Rattle.operation.specs.declared.Operation.{Operation}
@@ -27,6 +27,9 @@ use Rattle.layer_group.specs.declared.Answer.the-variants.{Group, Refused}
 use Rattle.layer_group.specs.declared.LayerOperation.the-variants.{Operation as Found, PastEnd}
 use Rattle.layer_group.specs.declared.refusal.Refusal.{Refusal}
 use Rattle.layer_group.specs.declared.refusal.Refusal.the-variants.{Symbol, NoLayer}
+use Rattle.group_record.specs.Copying.{roomFor}
+use Rattle.group_record.specs.LayerRecords.{layerWrittenBy, layerRecordOf, layerRecordAnswer}
+use Rattle.group_record.specs.declared.LayerRecord.the-variants.{Written, NoRoom}
 use Rattle.calls.specs.Packing.{Told, near, Within, Low}
 use Rattle.calls.specs.SymbolBounds.{symbol-told, symbol-reduced}
 
@@ -89,3 +92,17 @@ operation-by bytes i (Refused r) e = layer-told bytes r e
 pub operation-within : (bytes : List ℕ) (i : ℕ) → Within Reduced (operationAnswer (operationAt bytes i))
 unfolding operationAt
 operation-within bytes i = operation-by bytes i (layerAnswer bytes .answer) refl
+
+-- ---- the record
+record-by : (bytes : List ℕ) (start size : ℕ) (a : Answer) → layerAnswer bytes .answer ≡ a → Within Low (layerRecordAnswer (layerWrittenBy a (layerAnswer bytes .count) start size))
+record-by bytes start size Group e = by-room (roomFor start (layerAnswer bytes .count) size)
+  where
+    by-room : (b : Bool) → Within Low (layerRecordAnswer (cond b (Written (layerAnswer bytes .count)) NoRoom))
+    by-room true = omega (arith, layer-places bytes .0)
+    by-room false = near (omega arith) (omega arith) (omega arith)
+record-by bytes start size (Refused r) e = layer-told bytes r e
+
+-- So can the answer of its record.
+pub record-within : (bytes out : List ℕ) (start : ℕ) → Within Low (layerRecordAnswer (layerRecordOf bytes out start))
+unfolding layerRecordOf
+record-within bytes out start = record-by bytes start (length out) (layerAnswer bytes .answer) refl

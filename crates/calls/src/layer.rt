@@ -3,9 +3,12 @@ ghost use mathlib.Core.Path.{_≡_};
 ghost use Prim.Native.Nat.{_+_, _*_};
 ghost use Rattle.layer_group.specs.Answers.{orderOf, orderAnswer, letterOf, letterAnswer, operationAt, operationAnswer};
 ghost use Rattle.layer_group.specs.Refusals.{numberOf, placeOf};
+ghost use Rattle.group_record.specs.LayerRecords.{layerRecordAnswer, layerRecordOf, layerBufferOf};
 ghost use Rattle.calls.specs.Packing.{topByte, packed, mapped, operationNumber, Told};
 use super::packing::operation_number;
 use super::packing::refused;
+use group_record::LayerRecord;
+use group_record::layer::write_record;
 use layer_group::LayerLetter;
 use layer_group::LayerOperation;
 use layer_group::LayerOrder;
@@ -39,6 +42,18 @@ pub extern "C" fn symmetry_layer_operation(text: &[u8], index: u64) -> u64
         LayerOperation::Operation(o) => operation_number(o),
         LayerOperation::PastEnd => refused(28, 0),
         LayerOperation::Refused(refusal) => refused_layer(refusal),
+    }
+}
+
+#[no_mangle]
+pub extern "C" fn symmetry_layer_record(text: &[u8], out: &mut [u8], start: u64) -> u64
+    ensures { λ r. ⌜ (r ≡ packed (layerRecordAnswer (layerRecordOf (now (text .entry)) (now (out .entry)) start)))
+        × (now (out .exit) ≡ layerBufferOf (now (text .entry)) (now (out .entry)) start) ⌝ }
+{
+    match write_record(text, out, start as usize) {
+        LayerRecord::Written(n) => n as u64,
+        LayerRecord::NoRoom => refused(20, 0),
+        LayerRecord::Refused(refusal) => refused_layer(refusal),
     }
 }
 
