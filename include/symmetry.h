@@ -113,11 +113,11 @@ enum symmetry_refusal {
     /* A group record; at 0. */
     SYMMETRY_RECORD_SHORT = 30,     /* under 9 bytes */
     SYMMETRY_RECORD_EDITION = 31,   /* the edition is not 1 or 3 */
-    SYMMETRY_RECORD_LETTER = 32,    /* the letter is not one of P A B C I R F H */
+    SYMMETRY_RECORD_LETTER = 32,    /* the letter is not one of P A B C I R F H p c */
     SYMMETRY_RECORD_LENGTH = 33,    /* not 1 to 48 operations, or a stated length that is wrong or beyond the buffer */
     SYMMETRY_RECORD_ITEM = 34,      /* a code over 19682, a coordinate over 11, a translation not the smallest of its class, or codes not ascending;
                                        of a single operation: not five bytes, or such a code or coordinate */
-    SYMMETRY_RECORD_NO_GROUP = 35,  /* what is listed is no group that a record may hold */
+    SYMMETRY_RECORD_NO_GROUP = 35,  /* what is listed is no group that a record may hold; under p or c also: an operation is none of a layer */
     /* An operation line. */
     SYMMETRY_LINE_TOO_LONG = 40,    /* over 64 bytes; at 0 */
     SYMMETRY_LINE_MISSPELT = 41,    /* at the first byte that no line has after the bytes before it, or at the line's length if it breaks off */
@@ -171,7 +171,7 @@ static inline const char *symmetry_reason(unsigned number)
     case SYMMETRY_NOT_NORMALIZING: return "an element outside the normalizer";
     case SYMMETRY_RECORD_SHORT: return "a record of under 9 bytes";
     case SYMMETRY_RECORD_EDITION: return "another edition of the record";
-    case SYMMETRY_RECORD_LETTER: return "a record with no lattice letter";
+    case SYMMETRY_RECORD_LETTER: return "a record with no letter of a lattice";
     case SYMMETRY_RECORD_LENGTH: return "a wrong count or length in the record";
     case SYMMETRY_RECORD_ITEM: return "a wrong operation in the record";
     case SYMMETRY_RECORD_NO_GROUP: return "a record that holds no group";
@@ -247,7 +247,7 @@ uint64_t symmetry_symbol_identity(const uint8_t *text, size_t text_length);
 uint64_t symmetry_record_identity(const uint8_t *record, size_t record_length);
 uint64_t symmetry_table_identity(uint64_t order, const uint8_t *table, size_t table_length);
 
-/* The byte of the centring letter, one of P A B C I R F H; of a layer symbol p or c. */
+/* The byte of the centring letter, one of P A B C I R F H; of a layer symbol p or c; of a record any of these. */
 uint64_t symmetry_symbol_letter(const uint8_t *text, size_t text_length);
 uint64_t symmetry_layer_letter(const uint8_t *text, size_t text_length);
 uint64_t symmetry_record_letter(const uint8_t *record, size_t record_length);
@@ -292,6 +292,11 @@ static inline unsigned symmetry_check_detail(uint64_t value) { return (unsigned)
  *   00 54 52 80   01 B2 A3 00   50 03 02 00 0D
  * and the shortest, that of P 1, has nine bytes. Every symmetry_record_ function reads both editions. A program that knows edition 1 alone refuses
  * edition 3 with 31, and nine bytes with 30.
+ * The record of a layer symbol has its small letter, p or c, and is else that of the same group with P or C: a layer symbol and a plain one never share a
+ * record, even where their motions agree. That of -p 1 is
+ *   0C 7E 00 00 00   40 64 00 00 00   70 01 02 00 0F
+ * Every symmetry_record_ function reads these too, in both editions, and a copy and a move keep the letter. A program that knows capital letters alone
+ * refuses them with 32.
  */
 
 /*
@@ -299,6 +304,12 @@ static inline unsigned symmetry_check_detail(uint64_t value) { return (unsigned)
  * were. Two symbols get the same bytes exactly if their groups are the same set of motions. 20 if the record has no room there.
  */
 uint64_t symmetry_symbol_record(const uint8_t *text, size_t text_length, uint8_t *out, size_t out_length, uint64_t start);
+
+/*
+ * The same for a layer symbol, with its small letter. Two layer symbols get the same bytes exactly if their groups are the same set of motions. 20 after
+ * the layer symbol's own refusals.
+ */
+uint64_t symmetry_layer_record(const uint8_t *text, size_t text_length, uint8_t *out, size_t out_length, uint64_t start);
 
 /* The same for the group that a record holds: reads it, and writes it from out + start on, in the edition in which it was read. */
 uint64_t symmetry_record_copy(const uint8_t *record, size_t record_length, uint8_t *out, size_t out_length, uint64_t start);

@@ -4,7 +4,7 @@
     python3 tests/compare_layers.py PROGRAM [--emulator COMMAND] [--harness HARNESS]
 
 PROGRAM is made from tests/entries.c. The Rust's own 116 layer symbols have its recorded lists; random symbols, damaged ones, and plain symbols with any
-first token have the model's answers. HARNESS is made by oracle/build.sh: with it 60,000 more random symbols are asked; where one is accepted the list is the
+first token have the model's answers; records with small letters, whole and damaged, have the model's verdict. HARNESS is made by oracle/build.sh: with it 60,000 more random symbols are asked; where one is accepted the list is the
 Rust's, and where 19 is answered the Rust has a list, since it never checks the layer rules. Prints 'N passed, M failed'.
 """
 
@@ -12,8 +12,9 @@ import argparse
 import itertools
 import sys
 
+from compare_records import judged, read_back, write_everywhere
 from compare_symbols import operation_number, rust_operations
-from entries import BEYOND, Comparison, packed, recorded
+from entries import BEYOND, Comparison, Noise, packed, recorded
 
 import cases
 import compare
@@ -25,6 +26,8 @@ DAMAGED_SYMBOLS = 3000
 LONG_RUN = 60000
 BATCH = 5000
 NO_LAYER = 19
+DAMAGES = 30
+PLAIN_SYMBOLS = 300
 FIRST_TOKENS = (b"p", b"c", b"-p", b"-c", b"P", b"C", b"-P", b"h", b"a", b"pp", b"p-", b"--p", b"-", b"-pc", b"p(", b"\xff", b"-\xff", b"\x7fp", b"p'", b"?")
 
 
@@ -33,6 +36,7 @@ def refused(calls, text, refusal):
     calls.call("layer_letter", text, gives=refusal)
     for index in (0, 47, BEYOND[-1]):
         calls.call("layer_operation", text, index, gives=refusal)
+    calls.call("layer_record", text, b"lent", 1, gives=refusal)
 
 
 def accepted(calls, text, letter, operations):
@@ -65,6 +69,27 @@ def by_rust(calls, text, answer):
         calls.judge(listed, lambda: (text.decode(), str(said), answer))
 
 
+def records(calls, noise):
+    """The records of the Rust's own symbols: written, read back and copied, moved there and back; and the same bytes damaged, under every letter of a
+    lattice and of layers, by the model's verdict."""
+    for word, letter, *words in recorded("layers.txt"):
+        text = model.text_of_hex(word)
+        record = model.record(letter.lower(), rust_operations(words))
+        write_everywhere(calls, "layer_record", text, record, noise)
+        read_back(calls, record, noise)
+        write_everywhere(calls, "record_move", record, model.moved_record(record), noise)
+        write_everywhere(calls, "record_move", model.moved_record(record), record, noise)
+        for other in "PABCIRFHpchap":
+            judged(calls, record[:-5] + other.encode() + record[-4:], noise)
+        for _ in range(DAMAGES):
+            at = noise.below(len(record))
+            judged(calls, record[:at] + bytes([noise.below(256)]) + record[at + 1:], noise)
+    plain = [model.text_of_hex(word) for word, number, *_ in recorded("symbols.txt") if number == "0" and model.text_of_hex(word).strip()[:1] in (b"P", b"C")]
+    for text in plain[:PLAIN_SYMBOLS]:
+        record = model.record(*model.group_of_symbol(text))
+        judged(calls, record[:-5] + record[-5:-4].lower() + record[-4:], noise)
+
+
 def texts():
     """Random layer symbols, damaged ones, and symbols of the rules with other first tokens."""
     yield from cases.layer_symbols(RANDOM_SYMBOLS, SEED)
@@ -87,6 +112,7 @@ def main():
         accepted(calls, model.text_of_hex(word), letter.lower(), rust_operations(words))
     for text in texts():
         by_model(calls, text)
+    records(calls, Noise(SEED))
     if options.harness:
         waiting = cases.layer_symbols(LONG_RUN, SEED + 2)
         while batch := list(itertools.islice(waiting, BATCH)):
