@@ -11,9 +11,11 @@
  * Answers. Each function returns one number. Its top byte is 0 and the value stands below it; or its top byte is the number of a refusal and the rest
  * is the refusal's place. Two different answers never share a number. symmetry_number, symmetry_place and symmetry_value take an answer apart.
  *
- * Sources. The functions come in three families that differ in what the group is given by:
+ * Sources. The functions come in four families that differ in what the group is given by:
  *   symmetry_symbol_...   text    the bytes of a Hall symbol, at most 80; no byte 0 ends it. Elements are numbered in list order: breadth first from
  *                                 the identity, right factors running over the symbol's generators in order. Refusals 1 to 14 and 17.
+ *   symmetry_layer_...    text    the bytes of a layer symbol, which is spelt as a Hall symbol but with the letter p or c. Its list is that of the text
+ *                                 with P or C. Refusals 1 to 14 and 17, then 19.
  *   symmetry_record_...   record  bytes that end with a group record, of edition 1 or 3; what stands before it is not looked at. Elements are numbered
  *                                 in the record's order, by ascending rotation code. Refusals 30 to 35.
  *   symmetry_table_...    order and table   n and n * n bytes by rows, the byte at i * n + j being the product of i and j. Refusals 21 to 25.
@@ -78,7 +80,8 @@ enum symmetry_refusal {
     SYMMETRY_TEXT_TOO_LONG = 1,     /* over 80 bytes; at 80 */
     SYMMETRY_BYTE_FORBIDDEN = 2,    /* a byte that is not 9 to 13 or 32 to 126; at the first such byte */
     SYMMETRY_NO_TOKEN = 3,          /* nothing but whitespace; at 0 */
-    SYMMETRY_LATTICE_WRONG = 4,     /* the first token is not one of P A B C I R F H, with or without a minus; at that token */
+    SYMMETRY_LATTICE_WRONG = 4,     /* the first token is not one of P A B C I R F H, of a layer symbol not p or c, with or without a minus; at
+                                       that token */
     SYMMETRY_TOKEN_MISSPELT = 5,    /* an N token that no rule spells; at its first offending byte, or where a missing fold should stand */
     SYMMETRY_AXIS_UNSETTLED = 6,    /* no axis follows from the token and those before it, or fold and axis have no matrix; at that token */
     SYMMETRY_DIGIT_WRONG = 7,       /* a screw digit out of range, on another axis than z, not first, or a second one; at the first such digit */
@@ -91,6 +94,8 @@ enum symmetry_refusal {
     SYMMETRY_LATTICE_NOT_KEPT = 12, /* a generator does not map the centred lattice onto itself; at its index from 0 */
     SYMMETRY_TOO_MANY_ROTATIONS = 13, /* over 48 rotations, or one with an entry outside -1..1; at 0 */
     SYMMETRY_TWO_TRANSLATIONS = 14, /* one rotation with two translations that differ by no vector of the lattice; at 0 */
+    SYMMETRY_NO_LAYER = 19,         /* of a layer symbol: an operation mixes z with x or y, or keeps the sense of z and moves along it; at the list
+                                       index of the first such operation */
     /* A place in lent memory; at 0. */
     SYMMETRY_NO_ROOM = 20,          /* the start is beyond the buffer, or fewer bytes than the record or the line needs are left from it; or a
                                        catalogue's state has under 81 bytes */
@@ -108,11 +113,11 @@ enum symmetry_refusal {
     /* A group record; at 0. */
     SYMMETRY_RECORD_SHORT = 30,     /* under 9 bytes */
     SYMMETRY_RECORD_EDITION = 31,   /* the edition is not 1 or 3 */
-    SYMMETRY_RECORD_LETTER = 32,    /* the letter is not one of P A B C I R F H */
+    SYMMETRY_RECORD_LETTER = 32,    /* the letter is not one of P A B C I R F H p c */
     SYMMETRY_RECORD_LENGTH = 33,    /* not 1 to 48 operations, or a stated length that is wrong or beyond the buffer */
     SYMMETRY_RECORD_ITEM = 34,      /* a code over 19682, a coordinate over 11, a translation not the smallest of its class, or codes not ascending;
                                        of a single operation: not five bytes, or such a code or coordinate */
-    SYMMETRY_RECORD_NO_GROUP = 35,  /* what is listed is no group that a record may hold */
+    SYMMETRY_RECORD_NO_GROUP = 35,  /* what is listed is no group that a record may hold; under p or c also: an operation is none of a layer */
     /* An operation line. */
     SYMMETRY_LINE_TOO_LONG = 40,    /* over 64 bytes; at 0 */
     SYMMETRY_LINE_MISSPELT = 41,    /* at the first byte that no line has after the bytes before it, or at the line's length if it breaks off */
@@ -153,6 +158,7 @@ static inline const char *symmetry_reason(unsigned number)
     case SYMMETRY_LATTICE_NOT_KEPT: return "a generator does not keep the lattice";
     case SYMMETRY_TOO_MANY_ROTATIONS: return "too many rotations, or too large an entry";
     case SYMMETRY_TWO_TRANSLATIONS: return "one rotation with two translations";
+    case SYMMETRY_NO_LAYER: return "an operation that is none of a layer";
     case SYMMETRY_NO_ROOM: return "no room for the record or the line";
     case SYMMETRY_ORDER: return "an order of 0 or over 48";
     case SYMMETRY_CELLS: return "a table of another size, or a cell that is no element";
@@ -165,7 +171,7 @@ static inline const char *symmetry_reason(unsigned number)
     case SYMMETRY_NOT_NORMALIZING: return "an element outside the normalizer";
     case SYMMETRY_RECORD_SHORT: return "a record of under 9 bytes";
     case SYMMETRY_RECORD_EDITION: return "another edition of the record";
-    case SYMMETRY_RECORD_LETTER: return "a record with no lattice letter";
+    case SYMMETRY_RECORD_LETTER: return "a record with no letter of a lattice";
     case SYMMETRY_RECORD_LENGTH: return "a wrong count or length in the record";
     case SYMMETRY_RECORD_ITEM: return "a wrong operation in the record";
     case SYMMETRY_RECORD_NO_GROUP: return "a record that holds no group";
@@ -197,8 +203,8 @@ static inline uint64_t symmetry_set(const uint8_t *sets, size_t k)
 }
 
 /*
- * The value that symmetry_symbol_operation answers, taken apart: the entry -1, 0 or 1 of the rotation's matrix in a row and a column 0 to 2, and the
- * translation 0 to 11 twelfths along axis 0, 1 or 2.
+ * The value that symmetry_symbol_operation and symmetry_layer_operation answer, taken apart: the entry -1, 0 or 1 of the rotation's matrix in a row and
+ * a column 0 to 2, and the translation 0 to 11 twelfths along axis 0, 1 or 2.
  */
 static inline int symmetry_entry(uint64_t value, unsigned row, unsigned column)
 {
@@ -232,6 +238,7 @@ static inline uint64_t symmetry_catalogue_answer(uint64_t value)
 
 /* The order: how many operations modulo the lattice, or how many elements. 1 to 48. */
 uint64_t symmetry_symbol_order(const uint8_t *text, size_t text_length);
+uint64_t symmetry_layer_order(const uint8_t *text, size_t text_length);
 uint64_t symmetry_record_order(const uint8_t *record, size_t record_length);
 uint64_t symmetry_table_order(uint64_t order, const uint8_t *table, size_t table_length);
 
@@ -240,8 +247,9 @@ uint64_t symmetry_symbol_identity(const uint8_t *text, size_t text_length);
 uint64_t symmetry_record_identity(const uint8_t *record, size_t record_length);
 uint64_t symmetry_table_identity(uint64_t order, const uint8_t *table, size_t table_length);
 
-/* The byte of the centring letter, one of P A B C I R F H. */
+/* The byte of the centring letter, one of P A B C I R F H; of a layer symbol p or c; of a record any of these. */
 uint64_t symmetry_symbol_letter(const uint8_t *text, size_t text_length);
+uint64_t symmetry_layer_letter(const uint8_t *text, size_t text_length);
 uint64_t symmetry_record_letter(const uint8_t *record, size_t record_length);
 
 /*
@@ -249,6 +257,7 @@ uint64_t symmetry_record_letter(const uint8_t *record, size_t record_length);
  * rotation's nine entries by rows, and x, y, z its translation in twelfths. 28 if the index is not below the order.
  */
 uint64_t symmetry_symbol_operation(const uint8_t *text, size_t text_length, uint64_t index);
+uint64_t symmetry_layer_operation(const uint8_t *text, size_t text_length, uint64_t index);
 
 /* ---- lists of another program ---- */
 
@@ -283,6 +292,11 @@ static inline unsigned symmetry_check_detail(uint64_t value) { return (unsigned)
  *   00 54 52 80   01 B2 A3 00   50 03 02 00 0D
  * and the shortest, that of P 1, has nine bytes. Every symmetry_record_ function reads both editions. A program that knows edition 1 alone refuses
  * edition 3 with 31, and nine bytes with 30.
+ * The record of a layer symbol has its small letter, p or c, and is else that of the same group with P or C: a layer symbol and a plain one never share a
+ * record, even where their motions agree. That of -p 1 is
+ *   0C 7E 00 00 00   40 64 00 00 00   70 01 02 00 0F
+ * Every symmetry_record_ function reads these too, in both editions, and a copy and a move keep the letter. A program that knows capital letters alone
+ * refuses them with 32.
  */
 
 /*
@@ -290,6 +304,12 @@ static inline unsigned symmetry_check_detail(uint64_t value) { return (unsigned)
  * were. Two symbols get the same bytes exactly if their groups are the same set of motions. 20 if the record has no room there.
  */
 uint64_t symmetry_symbol_record(const uint8_t *text, size_t text_length, uint8_t *out, size_t out_length, uint64_t start);
+
+/*
+ * The same for a layer symbol, with its small letter. Two layer symbols get the same bytes exactly if their groups are the same set of motions. 20 after
+ * the layer symbol's own refusals.
+ */
+uint64_t symmetry_layer_record(const uint8_t *text, size_t text_length, uint8_t *out, size_t out_length, uint64_t start);
 
 /* The same for the group that a record holds: reads it, and writes it from out + start on, in the edition in which it was read. */
 uint64_t symmetry_record_copy(const uint8_t *record, size_t record_length, uint8_t *out, size_t out_length, uint64_t start);

@@ -225,6 +225,22 @@ def damaged_symbols(database, count, seed):
     return texts
 
 
+LAYER_FOLDS = ("1", "2", "3", "4", "6", "-1", "-2", "-3", "-4", "-6")
+LAYER_AXES = ("", "", "", "x", "y", "z", "*", "^", "=")
+LAYER_MOVES = ("", "", "", "a", "b", "c", "n", "u", "v", "w", "d", "1", "ab")
+LAYER_SHIFTS = ("", "", "", " (0 0 3)", " (0 0 1)", " (1 0 0)", " (3 3 0)", " (2 4 6)")
+
+
+def random_layer_symbol(chance):
+    tokens = [chance.choice(LAYER_FOLDS) + chance.choice(LAYER_AXES) + chance.choice(LAYER_MOVES) for _ in range(chance.choice((1, 1, 2, 2, 3)))]
+    return (chance.choice(("p", "c", "-p", "-c")) + " " + " ".join(tokens) + chance.choice(LAYER_SHIFTS)).encode()
+
+
+def layer_symbols(count, seed):
+    chance = random.Random(seed)
+    return (random_layer_symbol(chance) for _ in range(count))
+
+
 # Damaged records --------------------------------------------------------------------------------------------------
 
 def trailer(letter, count):

@@ -9,30 +9,22 @@ where it says anything else, the Rust may do as it likes with a text that it doe
 """
 
 import collections
-import random
 import subprocess
 import sys
 
+import cases
 import model
 from compare import ask, double_of, hex_of, read_list
 
 RANDOM = 60000
+SEED = 12
 OTHER_LIST = "another list"
 NO_LIST = "19, and the Rust has no list"
-FOLDS = ("1", "2", "3", "4", "6", "-1", "-2", "-3", "-4", "-6")
-AXES = ("", "", "", "x", "y", "z", "*", "^", "=")
-MOVES = ("", "", "", "a", "b", "c", "n", "u", "v", "w", "d", "1", "ab")
-SHIFTS = ("", "", "", " (0 0 3)", " (0 0 1)", " (1 0 0)", " (3 3 0)", " (2 4 6)")
 
 
 def database(harness):
     found = subprocess.run([harness, "layers"], stdout=subprocess.PIPE, check=True).stdout.decode().split()
     return [model.text_of_hex(word) for word in found]
-
-
-def random_symbol(chance):
-    tokens = [chance.choice(FOLDS) + chance.choice(AXES) + chance.choice(MOVES) for _ in range(chance.choice((1, 1, 2, 2, 3)))]
-    return (chance.choice(("p", "c", "-p", "-c")) + " " + " ".join(tokens) + chance.choice(SHIFTS)).encode()
 
 
 def listed(answer):
@@ -60,10 +52,9 @@ def main(words):
         for text, answer in zip(own, ask(harness, ["layer " + hex_of(text) for text in own])):
             print(hex_of(text), answer)
         return 0
-    chance = random.Random(12)
     many = int(words[1]) if len(words) > 1 else RANDOM
     wrong = 0
-    for title, texts in (("the Rust's own symbols", own), ("random symbols", [random_symbol(chance) for _ in range(many)])):
+    for title, texts in (("the Rust's own symbols", own), ("random symbols", list(cases.layer_symbols(many, SEED)))):
         tally = collections.Counter(sort(text, answer) for text, answer in zip(texts, ask(harness, ["layer " + hex_of(text) for text in texts])))
         print("%s: %d" % (title, len(texts)))
         for what, count in sorted(tally.items()):

@@ -215,6 +215,9 @@ POINTS = {
     "F": [(0, 0, 0), (0, 6, 6), (6, 0, 6), (6, 6, 0)],
     "H": [(0, 0, 0), (8, 4, 0), (4, 8, 0)],
 }
+# The letters of layers, (vi) of 02, have the lattices of their capitals.
+LAYER_LETTERS = "pc"
+POINTS.update((letter, POINTS[letter.upper()]) for letter in LAYER_LETTERS)
 MOST_OPERATIONS = 48
 
 
@@ -295,9 +298,6 @@ def group_of_symbol(text):
 
 
 # Layer groups, (vi) of 02 -------------------------------------------------------------------------------------------
-
-LAYER_LETTERS = "pc"
-
 
 def of_layer(operation):
     """Whether the entries xz, yz, zx and zy are 0, and z does not move where the entry zz is 1."""
@@ -407,15 +407,15 @@ def write_record(letter, operations, buffer, start, edition=1):
     return len(operations)
 
 
-def read_editions(buffer, editions):
-    """Letter, operations and edition of the record that ends where the buffer ends; refusals 30 to 35."""
+def read_editions(buffer, editions, layers=True):
+    """Letter, operations and edition of the record that ends where the buffer ends; refusals 30 to 35. `layers` says whether small letters are known."""
     if len(buffer) < min(WIDTH[edition] for edition in editions) + TRAILER:
         raise Refusal(30, 0)
     letter, edition, count, length = struct.unpack(">BBBH", buffer[-TRAILER:])
     if edition not in editions:
         raise Refusal(31, 0)
     letter = chr(letter)
-    if letter not in LETTERS:
+    if letter not in LETTERS + (LAYER_LETTERS if layers else ""):
         raise Refusal(32, 0)
     if not 1 <= count <= MOST_OPERATIONS or length != WIDTH[edition] * count + TRAILER or length > len(buffer):
         raise Refusal(33, 0)
@@ -427,7 +427,7 @@ def read_editions(buffer, editions):
     if any(this[0] >= following[0] for this, following in zip(items, items[1:])):
         raise Refusal(34, 0)
     operations = [(rotation_of(number), tuple(triple)) for number, *triple in items]
-    if not allowed(letter, operations):
+    if not allowed(letter, operations) or (letter in LAYER_LETTERS and not all(map(of_layer, operations))):
         raise Refusal(35, 0)
     return letter, operations, edition
 
@@ -438,8 +438,13 @@ def read_record(buffer):
 
 
 def read_first_record(buffer):
-    """What software reads that knows edition 1 alone."""
+    """What is read where edition 1 alone is known."""
     return read_editions(buffer, (1,))[:2]
+
+
+def read_old_record(buffer):
+    """What old software reads: edition 1 alone, and capital letters alone."""
+    return read_editions(buffer, (1,), False)[:2]
 
 
 def record_edition(buffer):
@@ -948,6 +953,10 @@ def example_symbols():
     return found
 
 
+# The record of -p 1: that of -P 1 under the small letter.
+LAYER_RECORD = bytes.fromhex("0C7E0000004064000000700102000F")
+
+
 def example_rest():
     """(name, what the model says, what 01 says) for the record, tables, program and the mistakes that 01 names."""
     cubic = table_of_symbol(b"-P 4 2 3")
@@ -974,6 +983,11 @@ def example_rest():
         ("edition 3, nine bytes read by old software", outcome(read_first_record, shortest_record), (30, 0)),
         ("eight bytes", outcome(read_record, bytes(8)), (30, 0)),
         ("nine bytes", outcome(read_record, bytes(9)), (31, 0)),
+        ("-p 1, record", record(*group_of_layer(b"-p 1")), LAYER_RECORD),
+        ("-p 1, read back", read_record(b"any" + LAYER_RECORD)[0], "p"),
+        ("-p 1, moved", read_record(moved_record(LAYER_RECORD))[0], "p"),
+        ("-p 1, read by old software", outcome(read_old_record, LAYER_RECORD), (32, 0)),
+        ("a screw under p", outcome(read_record, record("p", group_of_symbol(b"P 21")[1])), (35, 0)),
         ("nine bytes read by old software", outcome(read_first_record, bytes(9)), (30, 0)),
         ("edition", outcome(read_record, inverse_record[:-4] + b"\x02\x02\x00\x0f"), (31, 0)),
         ("letter", outcome(read_record, inverse_record[:-5] + b"S\x01\x02\x00\x0f"), (32, 0)),

@@ -222,6 +222,84 @@ static void pointed(void) {
     answers(symmetry_symbol_order(last, 80), refusal(5, 80), "80 bytes that end in a lone sign");
 }
 
+/* Layer symbols worked out by hand: the turn by a half about z is 3200, the flip of z 2 1 1 1 2 1 1 1 0 in base 3, 16482, and the turn by a half about x
+   2 1 1 1 0 1 1 1 0, 16320. */
+static void layers(void) {
+    static const struct { const char *text; uint64_t order; char letter; } good[] = {
+        { "p 1", 1, 'p' }, { "-p 1", 2, 'p' }, { "p 2", 2, 'p' }, { "c 2", 2, 'c' }, { "p 2x (0 0 3)", 2, 'p' }, { "p -2c", 2, 'p' }, { "-p 1 (0 0 1)", 2, 'p' },
+        { " -c\t2 ", 4, 'c' },
+    };
+    static const struct { const char *text; unsigned number, place; } bad[] = {
+        { "p 21", 19, 1 }, { "p 2c", 19, 1 }, { "p 3*", 19, 1 }, { "-p 2c", 19, 2 }, { "c 3", 12, 0 }, { "p 1c", 14, 0 }, { "P 1", 4, 0 }, { "-P 1", 4, 0 },
+        { "pp 1", 4, 0 }, { " h 3", 4, 1 }, { "a 1", 4, 0 }, { "-", 4, 0 }, { "p", 10, 1 }, { "p 2aa", 17, 4 }, { "p 2a1", 7, 4 }, { "p 2'", 8, 2 }, { "", 3, 0 },
+        { "p 4 6", 13, 0 }, { "\x7f 1", 2, 0 },
+    };
+    for (size_t i = 0; i < sizeof good / sizeof *good; i++) {
+        const uint8_t *text = (const uint8_t *)good[i].text;
+        size_t length = strlen(good[i].text);
+        answers(symmetry_layer_order(text, length), good[i].order, good[i].text);
+        answers(symmetry_layer_letter(text, length), (uint64_t)good[i].letter, good[i].text);
+        answers(symmetry_layer_operation(text, length, 0), UINT64_C(16484) * 1728, good[i].text);
+        answers(symmetry_layer_operation(text, length, good[i].order), refusal(28, 0), good[i].text);
+        answers(symmetry_layer_operation(text, length, UINT64_MAX), refusal(28, 0), good[i].text);
+        answers(symmetry_symbol_order(text, length), refusal(4, good[i].text[0] == ' '), good[i].text);
+    }
+    for (size_t i = 0; i < sizeof bad / sizeof *bad; i++) {
+        const uint8_t *text = (const uint8_t *)bad[i].text;
+        size_t length = strlen(bad[i].text);
+        uint64_t told = refusal(bad[i].number, bad[i].place);
+        answers(symmetry_layer_order(text, length), told, bad[i].text);
+        answers(symmetry_layer_letter(text, length), told, bad[i].text);
+        answers(symmetry_layer_operation(text, length, 0), told, bad[i].text);
+    }
+    answers(symmetry_layer_operation(TEXT("c 2"), 1), UINT64_C(3200) * 1728, "the turn of a layer");
+    answers(symmetry_layer_operation(TEXT("p -2c"), 1), UINT64_C(16482) * 1728 + 6, "a flip of z, moved along z");
+    answers(symmetry_layer_operation(TEXT("p 2x (0 0 3)"), 1), UINT64_C(16320) * 1728 + 6, "a turn about x, away from the origin");
+    answers(symmetry_layer_operation(TEXT("-p 1 (0 0 1)"), 1), UINT64_C(3198) * 1728 + 2, "the inversion of a layer, moved");
+    answers(symmetry_layer_order(NULL, 0), refusal(3, 0), "no text");
+}
+
+/* The record of -p 1 is that of -P 1 with the byte 0x70, p, for its letter; that of P 21 with p is one of no layer. */
+static void layer_records(void) {
+    static const uint8_t small[15] = { 0x0C, 0x7E, 0, 0, 0, 0x40, 0x64, 0, 0, 0, 0x70, 1, 2, 0, 0x0F };
+    static const uint8_t smaller[13] = { 0x00, 0x54, 0x52, 0x80, 0x01, 0xB2, 0xA3, 0x00, 0x70, 3, 2, 0, 0x0D };
+    uint8_t out[ROOM], after[ROOM], screw[15];
+    for (size_t length = 0; length <= 20; length++)
+        for (uint64_t start = 0; start <= 21; start++)
+            for (int copied = 0; copied < 2; copied++) {
+                memset(out, MARK, ROOM);
+                memset(after, MARK, ROOM);
+                int fits = start + 15 <= length;
+                if (fits) memcpy(after + start, small, 15);
+                uint8_t *lent = length ? out : NULL;
+                uint64_t got = copied ? symmetry_record_copy(small, 15, lent, length, start) : symmetry_layer_record(TEXT("-p 1"), lent, length, start);
+                expect(got == (fits ? 2 : refusal(20, 0)) && memcmp(out, after, ROOM) == 0, "a layer record written", got);
+            }
+    answers(symmetry_record_order(small, 15), 2, "the order of a layer record");
+    answers(symmetry_record_letter(small, 15), 'p', "its letter");
+    answers(symmetry_record_identity(small, 15), 1, "its identity");
+    memset(out, MARK, ROOM);
+    answers(symmetry_record_move(small, 15, out, ROOM, 0), 2, "a layer record moved");
+    expect(memcmp(out, smaller, 13) == 0 && out[13] == MARK, "its bytes", 0);
+    answers(symmetry_record_letter(smaller, 13), 'p', "the letter of what was moved");
+    answers(symmetry_record_move(smaller, 13, out, ROOM, 0), 2, "moved back");
+    expect(memcmp(out, small, 15) == 0, "its bytes", 0);
+    memset(out, MARK, ROOM);
+    memset(after, MARK, ROOM);
+    answers(symmetry_layer_record(TEXT("p 21"), out, ROOM, 0), refusal(19, 1), "no layer, no record");
+    answers(symmetry_layer_record(TEXT("P 1"), out, 0, 9), refusal(4, 0), "a capital letter, and no room");
+    answers(symmetry_layer_record(TEXT("-p 1"), out, ROOM, UINT64_MAX), refusal(20, 0), "a start that wraps");
+    expect(memcmp(out, after, ROOM) == 0, "an untouched buffer", 0);
+    answers(symmetry_symbol_record(TEXT("P 21"), screw, 15, 0), 2, "the record of a screw");
+    screw[10] = 'p';
+    answers(symmetry_record_order(screw, 15), refusal(35, 0), "a screw under p");
+    screw[10] = 'h';
+    answers(symmetry_record_order(screw, 15), refusal(32, 0), "the letter h");
+    answers(symmetry_symbol_record(TEXT("C 2"), screw, 15, 0), 2, "the record of C 2");
+    screw[10] = 'c';
+    answers(symmetry_record_letter(screw, 15), 'c', "C 2 as a layer");
+}
+
 /* The record of -P 1, as the rules print it. */
 static const uint8_t inversion[15] = { 0x0C, 0x7E, 0, 0, 0, 0x40, 0x64, 0, 0, 0, 0x50, 1, 2, 0, 0x0F };
 
@@ -432,6 +510,8 @@ int main(void) {
     untouched();
     symbols();
     pointed();
+    layers();
+    layer_records();
     written();
     records();
     lines();

@@ -53,6 +53,10 @@ struct entry {
     ENTRY(symbol_letter, "s", INPUT) \
     ENTRY(record_letter, "s", INPUT) \
     ENTRY(symbol_operation, "sn", INPUT, call->number[0]) \
+    ENTRY(layer_order, "s", INPUT) \
+    ENTRY(layer_letter, "s", INPUT) \
+    ENTRY(layer_operation, "sn", INPUT, call->number[0]) \
+    ENTRY(layer_record, "sln", INPUT, LENT(0), call->number[0]) \
     ENTRY(symbol_record, "sln", INPUT, LENT(0), call->number[0]) \
     ENTRY(record_copy, "sln", INPUT, LENT(0), call->number[0]) \
     ENTRY(record_edition, "s", INPUT) \

@@ -18,7 +18,8 @@ use Rattle.symbol_group.specs.declared.refusal.Refusal.{Refusal}
 use Rattle.symbol_group.specs.declared.Answer.{Answer}
 use Rattle.symbol_group.specs.declared.Answer.the-variants.{Group, Refused}
 use Rattle.group_record.specs.Items.{bytesOf, bytes-length, read-written, item-at}
-use Rattle.group_record.specs.Record.{itemWidth, editionNumber, totalLength, trailer, listedForm, writtenIn, recordIn, recordOf}
+use Rattle.group_record.specs.Editions.{trailerBytes}
+use Rattle.group_record.specs.Record.{itemWidth, editionNumber, totalLength, listedForm, writtenIn, recordIn, recordOf}
 use Rattle.group_record.specs.Groups.{Form, Listing}
 use Rattle.group_record.specs.ListedForm.{form-length, listed-form}
 use Rattle.group_record.specs.OneRecord.{operationBytes, operationIn, operation-wide, operation-again, record-length}
@@ -180,15 +181,15 @@ module _ (line : List ℕ) where
     module _ (n : ℕ) (bytes : List ℕ) (same : symbolAnswer line .count ≡ n) (p : bytes ≡ symbolBufferOf line zeros 0) where
       behind : List ℕ
       behind =
-          drop 1 (trailer itemWidth editionNumber letter (length (listedForm letter listed))) ++ drop (0 + totalLength itemWidth (symbolAnswer line .count)) zeros
+          drop 1 (trailerBytes itemWidth editionNumber (byteOf letter) (length (listedForm letter listed))) ++ drop (0 + totalLength itemWidth (symbolAnswer line .count)) zeros
 
       placed : symbolBufferOf line zeros 0 ≡ recordOf letter listed ++ drop (0 + totalLength itemWidth (symbolAnswer line .count)) zeros
       unfolding symbolBufferOf textRecord letter listed
       placed = rw a (all-placed zeros 0 (totalLength itemWidth (symbolAnswer line .count)) (recordOf letter listed) (record-length letter listed ∙ ap (totalLength itemWidth) listed-count) (enough-room a))
 
       split : bytes ≡ bytesOf operationBytes (listedForm letter listed) ++ (byteOf letter ∷ behind)
-      unfolding recordOf recordIn writtenIn trailer behind
-      split = p ∙ placed ∙ append-assoc (bytesOf operationBytes (listedForm letter listed)) (trailer itemWidth editionNumber letter (length (listedForm letter listed))) (drop (0 + totalLength itemWidth (symbolAnswer line .count)) zeros)
+      unfolding recordOf recordIn writtenIn behind
+      split = p ∙ placed ∙ append-assoc (bytesOf operationBytes (listedForm letter listed)) (trailerBytes itemWidth editionNumber (byteOf letter) (length (listedForm letter listed))) (drop (0 + totalLength itemWidth (symbolAnswer line .count)) zeros)
 
       pub group-few : n ≤ 48
       group-few = omega (arith, writable .0)

@@ -6,10 +6,12 @@ use Prim.Native.Nat.{ℕ, _≤_}
 use native.Mathlib.Omega.{arith}
 use lib.ListN.{length}
 use Rattle.centering.specs.declared.Centering.{Centering}
+use Rattle.layer_group.specs.Slots.{small-fits}
 use Rattle.group_record.specs.Acceptance.{Bytes}
+use Rattle.group_record.specs.Signs.{letterByte}
 use Rattle.group_record.specs.BothEditions.{editionOf}
 use Rattle.group_record.specs.Copying.{roomBy, chosenEdition, copyAnswer, copiedBy, writtenAs}
-use Rattle.group_record.specs.Reading.{refusalNumber, orderBy, recordOrder, letterBy, recordLetter, recordEdition, readOf}
+use Rattle.group_record.specs.Reading.{refusalNumber, orderBy, recordOrder, recordLetter, recordEdition, readOf}
 use Rattle.group_record.specs.RoundTrips.{read-writable}
 use Rattle.group_record.specs.declared.Copied.the-variants.{Written, NoRoom}
 use Rattle.group_record.specs.declared.Edition.{Edition}
@@ -19,7 +21,7 @@ use Rattle.group_record.specs.declared.Reading.the-variants.{Accepted, Refused}
 use Rattle.group_record.specs.declared.RecordGroup.{RecordGroup}
 use Rattle.group_record.specs.declared.Refusal.{Refusal}
 use Rattle.group_record.specs.declared.Refusal.the-variants.{Short, WrongEdition, WrongLetter, WrongLength, WrongItem, NotAllowed}
-use Rattle.calls.specs.Packing.{Told, near, Within, Low, AnyLetter}
+use Rattle.calls.specs.Packing.{Told, near, Within, Low}
 
 -- 30 to 35, at 0;
 pub record-told : (r : Refusal) → Told (refusalNumber r) 0
@@ -73,10 +75,11 @@ pub edition-within : (g : RecordGroup) → Within Low (recordEdition g)
 edition-within g = edition-by (g .answer) (g .edition)
 
 -- By what was read.
-letter-by : (a : Reading) (c : Centering) → Within AnyLetter (letterBy a c)
-letter-by Accepted c = tt
-letter-by (Refused r) c = record-told r
+letter-by : (a : Reading) (layer : Bool) (c : Centering) → Within Low (orderBy a (letterByte layer c))
+letter-by Accepted true c = omega (arith, small-fits c)
+letter-by Accepted false c = omega (arith, small-fits c)
+letter-by (Refused r) layer c = record-told r
 
 -- So can a record's letter.
-pub letter-within : (g : RecordGroup) → Within AnyLetter (recordLetter g)
-letter-within g = letter-by (g .answer) (g .centering)
+pub letter-within : (g : RecordGroup) → Within Low (recordLetter g)
+letter-within g = letter-by (g .answer) (g .layer) (g .centering)

@@ -95,7 +95,7 @@ reading-reduced bytes (symbol c gens) e i h =
 reading-reduced bytes (refusal r) e i h = absurd (omega arith)
 
 -- An operation of a symbol has entries in −1..1 and a translation 0 to 11.
-symbol-reduced : (bytes : List ℕ) (i : ℕ) → i < symbolAnswer bytes .count → Reduced (getD (symbolAnswer bytes .operations) i identityOperation)
+pub symbol-reduced : (bytes : List ℕ) (i : ℕ) → i < symbolAnswer bytes .count → Reduced (getD (symbolAnswer bytes .operations) i identityOperation)
 unfolding symbolAnswer
 symbol-reduced bytes i h = reading-reduced bytes (readSymbol bytes) refl i h
 

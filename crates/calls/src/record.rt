@@ -1,15 +1,15 @@
 // What is asked of a record.
 ghost use mathlib.Core.Path.{_≡_};
 ghost use Prim.Native.Nat.{_+_, _*_};
-ghost use Rattle.centering.specs.Letters.{byteOf};
 ghost use Rattle.group_record.specs.Copying.{copyAnswer, copiedOf, bufferOf};
 ghost use Rattle.group_record.specs.Reading.{refusalNumber, recordLetter, recordOrder, readOf};
-ghost use Rattle.calls.specs.Packing.{topByte, packed, mapped};
+ghost use Rattle.calls.specs.Packing.{topByte, packed};
 use super::packing::refused;
 use group_record::Copied;
 use group_record::Reading;
 use group_record::Refusal;
 use group_record::copier::copy_record;
+use group_record::letter_byte;
 use group_record::reader::read_record;
 
 #[no_mangle]
@@ -26,13 +26,14 @@ pub extern "C" fn symmetry_record_order(bytes: &[u8]) -> u64
 
 #[no_mangle]
 pub extern "C" fn symmetry_record_letter(bytes: &[u8]) -> u64
-    ensures { λ r. ⌜ r ≡ packed (mapped byteOf (recordLetter (readOf (now (bytes .entry))))) ⌝ }
+    ensures { λ r. ⌜ r ≡ packed (recordLetter (readOf (now (bytes .entry)))) ⌝ }
 {
     let group = read_record(bytes);
     let answer = group.answer;
+    let layer = group.layer;
     let centering = group.centering;
     match answer {
-        Reading::Accepted => centering.byte() as u64,
+        Reading::Accepted => letter_byte(layer, centering) as u64,
         Reading::Refused(why) => refused_record(why),
     }
 }

@@ -10,7 +10,6 @@ use Rattle.laws.specs.Sorted.{Sorted, sorted-nil, sorted-cons}
 use Rattle.operation.specs.Meaning.{motionOf}
 use Rattle.operation.specs.declared.Operation.{Operation}
 use Rattle.centering.specs.LatticeLaws.{Smallest}
-use Rattle.centering.specs.declared.Centering.{Centering}
 pub use Rattle.group_record.specs.Items.{Bytes}
 use Rattle.group_record.specs.Editions.{framed}
 use Rattle.group_record.specs.OperationItems.{Item, itemOf, operationOfItem}
@@ -18,6 +17,7 @@ use Rattle.group_record.specs.Rules.{Told, holds, toldBy}
 use Rattle.group_record.specs.Record.{writtenIn}
 use Rattle.group_record.specs.Reading.{GroupReading, rulesOf, isAllowed, firstReading, firstRules, bothReading, bothRules}
 use Rattle.group_record.specs.Groups.{Allowed, Form}
+use Rattle.group_record.specs.declared.sign.Sign.{Sign}
 use Rattle.group_record.specs.OneRecord.{written-items, operations-of-items}
 use Rattle.group_record.specs.ReadingTests.{both-true, GoodItems, item-test, items-of-operations, good-form, form-good, allowed-test}
 use Rattle.group_record.specs.declared.Edition.{Edition as Known}
@@ -59,16 +59,19 @@ module _ {Sign Kind : Type 0} (G : GroupReading Sign Kind) where
   group-test k c items g one few = (
     (λ e.
         let (p, q) = both-true (isAllowed (G .lattice c) items) _ .0 e in
-        (test .0 (ap (isAllowed (G .lattice c)) again ∙ p), G .further-test c (map operationOfItem items) .0 q)),
-    λ (p, q). both-true (isAllowed (G .lattice c) items) _ .1 (sym (ap (isAllowed (G .lattice c)) again) ∙ test .1 p, G .further-test c (map operationOfItem items) .1 q),
+        (test .0 (ap (isAllowed (G .lattice c)) again ∙ p), G .further-test c (map operationOfItem items) form .0 q)),
+    λ (p, q). both-true (isAllowed (G .lattice c) items) _ .1 (sym (ap (isAllowed (G .lattice c)) again) ∙ test .1 p, G .further-test c (map operationOfItem items) form .1 q),
   )
     where
       again : map itemOf (map operationOfItem items) ≡ items
       again = items-of-operations items (good-items k c items g .code)
 
+      form : Form (G .lattice c) (map operationOfItem items)
+      form = good-form (G .lattice c) items (good-items k c items g)
+
       test : (isAllowed (G .lattice c) (map itemOf (map operationOfItem items)) ≡ true) ↔ Allowed (G .lattice c) (map motionOf (map operationOfItem items))
       test =
-          allowed-test (G .lattice c) (map operationOfItem items) (good-form (G .lattice c) items (good-items k c items g))
+          allowed-test (G .lattice c) (map operationOfItem items) form
           (rw (length-map items operationOfItem) one) (rw (length-map items operationOfItem) few)
 
   pub meaningOf : Meaning (rulesOf G)
@@ -145,5 +148,5 @@ abbrev pub firstMeaning : Meaning firstRules
 firstMeaning = meaningOf firstReading
 
 -- The reading is the rules: each refusal is given, and each record read, exactly when they say so.
-pub read-exactly : (bytes : List ℕ) → Bytes bytes → (t : Told Item Centering Known) → (toldBy bothRules bytes ≡ t) ↔ Outcome bothRules bothMeaning bytes t
+pub read-exactly : (bytes : List ℕ) → Bytes bytes → (t : Told Item Sign Known) → (toldBy bothRules bytes ≡ t) ↔ Outcome bothRules bothMeaning bytes t
 read-exactly bytes g t = told-exactly bothRules bothMeaning bytes g t

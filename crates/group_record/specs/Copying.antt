@@ -5,8 +5,9 @@ use mathlib.Core.List.{List}
 use Prim.Native.Nat.{ℕ}
 use lib.ListN.{length, take}
 use Rattle.operation.specs.Answer.{Answer, given, refused, Nothing}
-use Rattle.group_record.specs.BothEditions.{widthIn, otherEdition}
-use Rattle.group_record.specs.Record.{itemWidth, totalLength, recordBy}
+use Rattle.group_record.specs.BothEditions.{editionOf, widthIn, otherEdition}
+use Rattle.group_record.specs.Record.{itemWidth, totalLength, recordIn}
+use Rattle.group_record.specs.Signs.{letterByte}
 use Rattle.group_record.specs.Reading.{readOf, refusalNumber}
 use Rattle.group_record.specs.Places.{roomFrom, placedIn}
 use Rattle.group_record.specs.declared.Edition.{Edition as Known}
@@ -60,7 +61,7 @@ bufferBy (Refused r) out start bytes = out
 
 -- What a reading holds, as a record of an edition.
 abbrev pub groupBytes : Known → RecordGroup → List ℕ
-groupBytes edition g = recordBy edition (g .centering) (take (g .count) (g .operations))
+groupBytes edition g = recordIn (editionOf edition) (letterByte (g .layer) (g .centering)) (g .centering) (take (g .count) (g .operations))
 
 unfoldable pub bufferAs : Bool → List ℕ → List ℕ → ℕ → List ℕ
 bufferAs moved bytes out start = let g = readOf bytes in bufferBy (g .answer) out start (groupBytes (chosenEdition moved (g .edition)) g)

@@ -5,7 +5,6 @@ use mathlib.Core.List.{List, map}
 use Prim.Native.Nat.{ℕ, _+_, _*_, _≤_}
 use native.Mathlib.Omega.{arith}
 use lib.ListN.{length, drop, length-map}
-use Rattle.centering.specs.declared.Centering.{Centering}
 use Rattle.centering.specs.declared.Centering.the-variants.{P}
 use Rattle.group_record.specs.Items.{itemsIn}
 use Rattle.group_record.specs.BothEditions.{widthIn}
@@ -18,38 +17,41 @@ use Rattle.group_record.specs.declared.Refusal.{Refusal}
 use Rattle.group_record.specs.declared.Refusal.the-variants.{WrongItem, NotAllowed}
 use Rattle.group_record.specs.declared.Reading.{Reading}
 use Rattle.group_record.specs.declared.Reading.the-variants.{Accepted, Refused}
+use Rattle.group_record.specs.Signs.{isSmall, latticeOf, layersIf}
 use Rattle.group_record.specs.declared.RecordGroup.{RecordGroup}
+use Rattle.group_record.specs.declared.sign.Sign.{Sign}
+use Rattle.group_record.specs.declared.sign.Sign.the-variants.{Plain}
 use Rattle.group_record.specs.declared.reader.Found.{Found}
 
 abbrev pub nothingFound : Refusal → Found
-nothingFound why = record { answer = Refused why; edition = First; centering = P; count = 0; start = 0 }
+nothingFound why = record { answer = Refused why; edition = First; sign = Plain P; count = 0; start = 0 }
 
 -- An answer with the operations of the first n items.
-unfoldable pub laidOut : Reading → Known → Centering → ℕ → List ℕ → RecordGroup
-laidOut answer edition c n bytes =
-    record { answer = answer; edition = edition; centering = c; count = n; operations = slots (map operationOfItem (itemsOf edition n bytes)) }
+unfoldable pub laidOut : Reading → Known → Sign → ℕ → List ℕ → RecordGroup
+laidOut answer edition s n bytes =
+    record { answer = answer; edition = edition; layer = isSmall s; centering = latticeOf s; count = n; operations = slots (map operationOfItem (itemsOf edition n bytes)) }
 
 -- What was found lies in the buffer, and stands for a group.
 pub record Stands (bytes : List ℕ) (f : Found) (g : RecordGroup) : Type 0 where
   pub few : f .count ≤ 48
   pub within : f .start + widthIn (f .edition) * f .count ≤ length bytes
-  pub same : laidOut (f .answer) (f .edition) (f .centering) (f .count) (drop (f .start) bytes) ≡ g
+  pub same : laidOut (f .answer) (f .edition) (f .sign) (f .count) (drop (f .start) bytes) ≡ g
 
 pub nothing-stands : (bytes : List ℕ) (why : Refusal) → Stands bytes (nothingFound why) (refusedGroup why)
 unfolding laidOut refusedGroup slots itemsIn
 nothing-stands bytes why = record { few = omega arith; within = omega arith; same = refl }
 
-pub record-stands : (bytes : List ℕ) (edition : Known) (c : Centering) (n start : ℕ) → n ≤ 48 → start + widthIn edition * n ≤ length bytes
-    → Stands bytes (record { answer = Accepted; edition = edition; centering = c; count = n; start = start })
-    (acceptedGroup edition c (map operationOfItem (itemsOf edition n (drop start bytes))))
+pub record-stands : (bytes : List ℕ) (edition : Known) (s : Sign) (n start : ℕ) → n ≤ 48 → start + widthIn edition * n ≤ length bytes
+    → Stands bytes (record { answer = Accepted; edition = edition; sign = s; count = n; start = start })
+    (acceptedGroup edition s (map operationOfItem (itemsOf edition n (drop start bytes))))
 unfolding laidOut acceptedGroup
-record-stands bytes edition c n start few within =
+record-stands bytes edition s n start few within =
     let items = itemsOf edition n (drop start bytes) in
     let count : n ≡ length (map operationOfItem items) = sym (length-map items operationOfItem ∙ items-count edition n (drop start bytes)) in
     record {
       few = few;
       within = within;
-      same = ap (λ (k : ℕ). record { answer = Accepted; edition = edition; centering = c; count = k; operations = slots (map operationOfItem items) }) count;
+      same = ap (λ (k : ℕ). record { answer = Accepted; edition = edition; layer = isSmall s; centering = latticeOf s; count = k; operations = slots (map operationOfItem items) }) count;
     }
 
 pub stands-as : {bytes : List ℕ} {f : Found} {g h : RecordGroup} → Stands bytes f g → h ≡ g → Stands bytes f h
@@ -59,22 +61,31 @@ pub nothing-found : {bytes : List ℕ} {f : Found} {h : RecordGroup} {why : Refu
 nothing-found {bytes} {f} {h} {why} e r = rw e (stands-as (nothing-stands bytes why) r)
 
 -- ---- 34 and 35, tried on the part of the buffer that holds the items
-module _ (edition : Known) (c : Centering) (n : ℕ) (part rest : List ℕ) (lent : part ≡ rest) where
-  by-items : (b : Bool) → areItems c (itemsOf edition n part) ≡ b → areGood bothRules edition c (itemsOf edition n rest) ≡ b
-  by-items b h = good-items edition c (itemsOf edition n rest) ∙ ap (λ (l : List ℕ). areItems c (itemsOf edition n l)) (sym lent) ∙ h
+module _ (edition : Known) (s : Sign) (n : ℕ) (part rest : List ℕ) (lent : part ≡ rest) where
+  by-items : (b : Bool) → areItems (latticeOf s) (itemsOf edition n part) ≡ b → areGood bothRules edition s (itemsOf edition n rest) ≡ b
+  by-items b h = good-items edition s (itemsOf edition n rest) ∙ ap (λ (l : List ℕ). areItems (latticeOf s) (itemsOf edition n l)) (sym lent) ∙ h
 
-  by-group : (b : Bool) → isAllowed c (itemsOf edition n part) ≡ b → isAllowed c (itemsOf edition n rest) ≡ b
-  by-group b h = ap (λ (l : List ℕ). isAllowed c (itemsOf edition n l)) (sym lent) ∙ h
+  by-group : (b : Bool) → isAllowed (latticeOf s) (itemsOf edition n part) ≡ b → isAllowed (latticeOf s) (itemsOf edition n rest) ≡ b
+  by-group b h = ap (λ (l : List ℕ). isAllowed (latticeOf s) (itemsOf edition n l)) (sym lent) ∙ h
 
-  pub items-wrong : areItems c (itemsOf edition n part) ≡ false → readItems edition c (itemsOf edition n rest) ≡ refusedGroup WrongItem
+  by-layers : (b : Bool) → layersIf (isSmall s) (map operationOfItem (itemsOf edition n part)) ≡ b → layersIf (isSmall s) (map operationOfItem (itemsOf edition n rest)) ≡ b
+  by-layers b h = ap (λ (l : List ℕ). layersIf (isSmall s) (map operationOfItem (itemsOf edition n l))) (sym lent) ∙ h
+
+  pub items-wrong : areItems (latticeOf s) (itemsOf edition n part) ≡ false → readItems edition s (itemsOf edition n rest) ≡ refusedGroup WrongItem
   unfolding itemsTold
   items-wrong h = rw (by-items false h)
 
-  pub items-barred : areItems c (itemsOf edition n part) ≡ true → isAllowed c (itemsOf edition n part) ≡ false → readItems edition c (itemsOf edition n rest) ≡ refusedGroup NotAllowed
-  unfolding itemsTold
-  items-barred h k = rw (by-items true h, by-group false k)
+  module _ (h : areItems (latticeOf s) (itemsOf edition n part) ≡ true) where
+    pub items-barred : isAllowed (latticeOf s) (itemsOf edition n part) ≡ false → readItems edition s (itemsOf edition n rest) ≡ refusedGroup NotAllowed
+    unfolding itemsTold
+    items-barred k = rw (by-items true h, by-group false k)
 
-  pub items-right : areItems c (itemsOf edition n part) ≡ true → isAllowed c (itemsOf edition n part) ≡ true
-      → readItems edition c (itemsOf edition n rest) ≡ acceptedGroup edition c (map operationOfItem (itemsOf edition n rest))
-  unfolding itemsTold
-  items-right h k = rw (by-items true h, by-group true k)
+    pub layers-barred : isAllowed (latticeOf s) (itemsOf edition n part) ≡ true → layersIf (isSmall s) (map operationOfItem (itemsOf edition n part)) ≡ false
+        → readItems edition s (itemsOf edition n rest) ≡ refusedGroup NotAllowed
+    unfolding itemsTold
+    layers-barred k m = rw (by-items true h, by-group true k, by-layers false m)
+
+    pub items-right : isAllowed (latticeOf s) (itemsOf edition n part) ≡ true → layersIf (isSmall s) (map operationOfItem (itemsOf edition n part)) ≡ true
+        → readItems edition s (itemsOf edition n rest) ≡ acceptedGroup edition s (map operationOfItem (itemsOf edition n rest))
+    unfolding itemsTold
+    items-right k m = rw (by-items true h, by-group true k, by-layers true m)

@@ -9,8 +9,9 @@ pub mod FirstEdition
 pub mod ThirdEdition
 pub mod BothEditions
 pub mod Record
-pub mod Reading
 pub mod Groups
+pub mod Signs
+pub mod Reading
 pub mod Places
 pub mod Copying
 pub mod SymbolRecords
@@ -27,8 +28,10 @@ pub mod Acceptance
 pub mod RoundTrips
 pub mod AcceptedSymbols
 pub mod SymbolSets
+pub mod LayerRecords
 pub mod SymbolReading
 pub mod RefusalNumbers
+pub mod LayerReading
 pub mod Moving
 pub mod OldSoftware
 pub mod Example

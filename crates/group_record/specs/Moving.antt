@@ -14,25 +14,26 @@ use Rattle.operation.specs.Meaning.{motionOf}
 use Rattle.operation.specs.Product.{identityOperation}
 use Rattle.operation.specs.declared.Operation.{Operation}
 use Rattle.centering.specs.Letters.{byteOf}
-use Rattle.centering.specs.declared.Centering.{Centering}
 use Rattle.symbol_group.specs.AcceptedTexts.{AcceptedText, accepted-text}
 use Rattle.symbol_group.specs.Answers.{symbolAnswer}
 use Rattle.symbol_group.specs.declared.Answer.the-variants.{Group}
 use Rattle.group_record.specs.Items.{Bytes}
 use Rattle.group_record.specs.OperationItems.{Item, operationOfItem}
 use Rattle.group_record.specs.BothEditions.{editionOf, widthIn, otherEdition, other-again}
-use Rattle.group_record.specs.Record.{totalLength, listedForm, writtenIn, recordIn, recordBy}
+use Rattle.group_record.specs.Record.{totalLength, listedForm, writtenIn, recordIn, recordBy, signedRecord}
 use Rattle.group_record.specs.Rules.{Told, holds, toldBy}
 use Rattle.group_record.specs.Rules.{refused as not-held}
-use Rattle.group_record.specs.Reading.{bothRules, groupOf, readOf, acceptedGroup, refusedGroup, slots}
+use Rattle.group_record.specs.Reading.{bothReading, bothRules, groupOf, readOf, acceptedGroup, refusedGroup, slots}
 use Rattle.group_record.specs.Groups.{InSet}
 use Rattle.group_record.specs.ListedForm.{form-again, form-listing, listed-form}
-use Rattle.group_record.specs.OneRecord.{record-by-length}
-use Rattle.group_record.specs.RoundTrips.{reads-back-in, written-again, read-writable, copied-bytes}
+use Rattle.group_record.specs.OneRecord.{record-in-length}
+use Rattle.group_record.specs.Signs.{isSmall, latticeOf, LayersIf}
+use Rattle.group_record.specs.Acceptance.{tells-exactly}
+use Rattle.group_record.specs.RoundTrips.{reads-back-in, reads-back, read-writable, copied-bytes}
 use Rattle.group_record.specs.Places.{placedIn, placed-end, nothing-placed}
 use Rattle.group_record.specs.Copying.{roomBy, chosenEdition, copyAnswer, copiedBy, writtenAs, movedOf, bufferBy, groupBytes, bufferAs, movedBufferOf}
 use Rattle.group_record.specs.AcceptedSymbols.{accepted-listing, accepted-allowed}
-use Rattle.group_record.specs.SymbolSets.{InSetOf, textRecordIn, text-record, record-of-list-in, third-records-say-sets}
+use Rattle.group_record.specs.SymbolSets.{InSetOf, textRecordIn, record-of-list, record-of-list-in, third-records-say-sets}
 use Rattle.group_record.specs.SymbolRecords.{textRecord}
 use Rattle.group_record.specs.declared.Copied.the-variants.{Written, NoRoom}
 use Rattle.group_record.specs.declared.Edition.{Edition as Known}
@@ -40,6 +41,8 @@ use Rattle.group_record.specs.declared.Edition.the-variants.{First, Thir
 use Rattle.group_record.specs.declared.Reading.{Reading}
 use Rattle.group_record.specs.declared.Reading.the-variants.{Accepted, Refused}
 use Rattle.group_record.specs.declared.RecordGroup.{RecordGroup}
+use Rattle.group_record.specs.declared.sign.Sign.{Sign}
+use Rattle.group_record.specs.declared.sign.Sign.the-variants.{Plain}
 
 -- The operations that a reading holds.
 abbrev pub heldOperations : RecordGroup → List Operation
@@ -47,33 +50,39 @@ heldOperations g = take (g .count) (g .operations)
 
 -- A reading as one of another edition.
 abbrev pub inEdition : Known → RecordGroup → RecordGroup
-inEdition edition g = record { answer = g .answer; edition = edition; centering = g .centering; count = g .count; operations = g .operations }
+inEdition edition g = record { answer = g .answer; edition = edition; layer = g .layer; centering = g .centering; count = g .count; operations = g .operations }
 
 -- The bytes that a record is moved to.
 unfoldable pub movedBytes : List ℕ → List ℕ
 movedBytes bytes = groupBytes (otherEdition (readOf bytes .edition)) (readOf bytes)
 
 -- ---- what is moved
--- What was read is an accepted group of its operations, in any edition.
-read-as-group : (bytes : List ℕ) → readOf bytes .answer ≡ Accepted → (edition : Known) → acceptedGroup edition (readOf bytes .centering) (heldOperations (readOf bytes)) ≡ inEdition edition (readOf bytes)
-unfolding readOf refusedGroup acceptedGroup slots
-read-as-group bytes e edition = by (toldBy bothRules bytes) e
-  where
-    by : (t : Told Item Centering Known) → groupOf t .answer ≡ Accepted → acceptedGroup edition (groupOf t .centering) (heldOperations (groupOf t)) ≡ inEdition edition (groupOf t)
-    by (not-held r) a = let z : _≡_ {A = ℕ} 0 1 = cc in absurd (omega arith)
-    by (holds k c items) a =
-        let l = map operationOfItem items in
-        rw (take-at l (replicate (48 - length l) identityOperation) (length l) refl) refl
+-- What is read is what is told.
+read-told : (bytes : List ℕ) → readOf bytes ≡ groupOf (toldBy bothRules bytes)
+unfolding readOf
+read-told bytes = refl
+
+-- The record of what is told, in any edition, reads back as the same group of that edition.
+told-reads-in : (bytes : List ℕ) → Bytes bytes → (t : Told Item Sign Known) → toldBy bothRules bytes ≡ t → groupOf t .answer ≡ Accepted → (edition : Known) (front : List ℕ)
+    → readOf (front ++ groupBytes edition (groupOf t)) ≡ inEdition edition (groupOf t)
+unfolding refusedGroup acceptedGroup slots signedRecord
+told-reads-in bytes b (not-held r) p a edition front = let z : _≡_ {A = ℕ} 0 1 = cc in absurd (omega arith)
+told-reads-in bytes b (holds k s items) p a edition front =
+    let c = latticeOf s in
+    let l = map operationOfItem items in
+    let h = tells-exactly bothReading bytes b k s l .0 (items, p, refl) in
+    let same = form-again c (h .form) in
+    rw (take-at l (replicate (48 - length l) identityOperation) (length l) refl)
+    (reads-back-in edition s (form-listing c (h .form)) (h .allowed) (subst (LayersIf (isSmall s)) (sym same) (h .further)) front ∙ ap (acceptedGroup edition s) same)
 
 module _ (bytes : List ℕ) (b : Bytes bytes) (accepted : readOf bytes .answer ≡ Accepted) where
   -- Its record in any edition reads back as the same, whatever stands before it.
   pub record-reads-in : (edition : Known) (front : List ℕ) → readOf (front ++ groupBytes edition (readOf bytes)) ≡ inEdition edition (readOf bytes)
   record-reads-in edition front =
-      let c = readOf bytes .centering in
-      let l = heldOperations (readOf bytes) in
-      let again = written-again bytes b accepted in
-      reads-back-in edition c (form-listing c (again .form)) (again .allowed) front
-      ∙ ap (acceptedGroup edition c) (form-again c (again .form)) ∙ read-as-group bytes accepted edition
+      let same = read-told bytes in
+      ap (λ (g : RecordGroup). readOf (front ++ groupBytes edition g)) same
+      ∙ told-reads-in bytes b (toldBy bothRules bytes) refl (ap (λ (g : RecordGroup). g .answer) (sym same) ∙ accepted) edition front
+      ∙ ap (inEdition edition) (sym same)
 
   -- What is moved is read as the same letter, count and operations, in the other edition.
   pub moved-read : (front : List ℕ) → readOf (front ++ movedBytes bytes) ≡ inEdition (otherEdition (readOf bytes .edition)) (readOf bytes)
@@ -106,7 +115,7 @@ module _ (bytes : List ℕ) (b : Bytes bytes) (accepted : readOf bytes .answer �
   moved-length =
       let g = readOf bytes in
       let count = length-take-le (g .count) (g .operations) (read-writable bytes g b refl accepted .there) in
-      record-by-length (otherEdition (g .edition)) (g .centering) (heldOperations g) ∙ ap (totalLength (widthIn (otherEdition (g .edition)))) count
+      record-in-length (editionOf (otherEdition (g .edition))) _ _ (heldOperations g) ∙ ap (totalLength (widthIn (otherEdition (g .edition)))) count
 
   -- Where n operations were written, the buffer up to the record's end is read as what was moved.
   pub moved-buffer-read : (out : List ℕ) (start n : ℕ) → movedOf bytes out start ≡ Written n
@@ -142,7 +151,7 @@ refused-untouched moved bytes out start number place b e = by (readOf bytes .ans
 
     size : g .answer ≡ Accepted → length (groupBytes chosen g) ≡ totalLength (widthIn chosen) (g .count)
     size accepted =
-        record-by-length chosen (g .centering) (heldOperations g)
+        record-in-length (editionOf chosen) _ _ (heldOperations g)
         ∙ ap (totalLength (widthIn chosen)) (length-take-le (g .count) (g .operations) (read-writable bytes g b refl accepted .there))
 
     by-room : g .answer ≡ Accepted → (r : Bool) → roomBy chosen start (g .count) (length out) ≡ r → copyAnswer (cond r (Written (g .count)) NoRoom) ≡ refused number place tt
@@ -167,12 +176,12 @@ symbol-record-moved text front a =
     form : List Operation
     form = listedForm (A .letter) (A .operations)
 
-    read : readOf (front ++ textRecord text) ≡ acceptedGroup First (A .letter) form
+    read : readOf (front ++ textRecord text) ≡ acceptedGroup First (Plain (A .letter)) form
     read =
-        ap (λ (bytes : List ℕ). readOf (front ++ bytes)) (sym (text-record text) ∙ record-of-list-in text A First)
-        ∙ reads-back-in First (A .letter) (accepted-listing (A .letter) (A .generators) (A .operations) (A .steps) (A .accepted)) (accepted-allowed (A .letter) (A .generators) (A .operations) (A .steps) (A .accepted)) front
+        ap (λ (bytes : List ℕ). readOf (front ++ bytes)) (record-of-list text A)
+        ∙ reads-back (A .letter) (accepted-listing (A .letter) (A .generators) (A .operations) (A .steps) (A .accepted)) (accepted-allowed (A .letter) (A .generators) (A .operations) (A .steps) (A .accepted)) front
 
-    formed : groupBytes (otherEdition (acceptedGroup First (A .letter) form .edition)) (acceptedGroup First (A .letter) form) ≡ recordBy Third (A .letter) (A .operations)
+    formed : groupBytes (otherEdition (acceptedGroup First (Plain (A .letter)) form .edition)) (acceptedGroup First (Plain (A .letter)) form) ≡ recordBy Third (A .letter) (A .operations)
     formed =
         ap (λ (l : List Operation). recordBy Third (A .letter) l) (take-at form (replicate (48 - length form) identityOperation) (length form) refl)
         ∙ ap (writtenIn (editionOf Third) (byteOf (A .letter))) (form-again (A .letter) (listed-form (A .letter) (accepted-listing (A .letter) (A .generators) (A .operations) (A .steps) (A .accepted))))

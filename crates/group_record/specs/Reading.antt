@@ -18,14 +18,11 @@ use Rattle.operation.specs.Product.{identityOperation, productOf}
 use Rattle.operation.specs.declared.Operation.{Operation}
 use Rattle.operation.specs.declared.product.Product.{Product}
 use Rattle.operation.specs.declared.product.Product.the-variants.{Inside, Outside}
-use Rattle.centering.specs.Letters.{letters, byteOf, letterOf, letterAmong}
-use Rattle.centering.specs.LatticeLaws.{letter-by-byte}
+use Rattle.centering.specs.Letters.{byteOf}
 use Rattle.centering.specs.Lattices.{tripleOf, smallestOf, congruentOf}
 use Rattle.centering.specs.Keeps.{keepsOf}
 use Rattle.centering.specs.declared.Centering.{Centering}
 use Rattle.centering.specs.declared.Centering.the-variants.{P}
-use Rattle.centering.specs.declared.Letter.{Letter}
-use Rattle.centering.specs.declared.Letter.the-variants.{Is, None}
 use Rattle.group_record.specs.Editions.{Edition, totalLength}
 use Rattle.group_record.specs.Rules.{Spelled, Rules, Told, holds, toldBy}
 use Rattle.group_record.specs.Rules.{refused as not-held}
@@ -33,9 +30,12 @@ use Rattle.group_record.specs.OperationItems.{Item, itemOf, InRange}
 unfoldable pub use Rattle.group_record.specs.OperationItems.{operationOfItem, rotationOfDecoded}
 unfoldable pub use Rattle.group_record.specs.FirstEdition.{itemIn}
 use Rattle.group_record.specs.FirstEdition.{firstEdition}
+use Rattle.group_record.specs.Groups.{Form}
+use Rattle.group_record.specs.Signs.{isSmall, latticeOf, letterByte, signByte, latticeLetters, recordSigns, layersIf, LayersIf, layers-test}
 use Rattle.group_record.specs.BothEditions.{editionOf, knownEditions, known-range, known-key, known-length}
 use Rattle.group_record.specs.declared.Edition.{Edition as Known}
 use Rattle.group_record.specs.declared.Edition.the-variants.{First}
+use Rattle.group_record.specs.declared.sign.Sign.{Sign}
 use Rattle.group_record.specs.declared.Refusal.{Refusal}
 use Rattle.group_record.specs.declared.Refusal.the-variants.{Short, WrongEdition, WrongLetter, WrongLength, WrongItem, NotAllowed}
 use Rattle.group_record.specs.declared.Reading.{Reading}
@@ -52,16 +52,16 @@ refusalNumber WrongLength = 33
 refusalNumber WrongItem = 34
 refusalNumber NotAllowed = 35
 
--- What a reading says: a letter and the operations, or a refusal.
-abbrev pub readingAnswer : Reading → Centering → List Operation → Answer (Centering × List Operation) Nothing
-readingAnswer Accepted c l = given (c, l)
-readingAnswer (Refused r) c l = refused (refusalNumber r) 0 tt
+-- What a reading says: a letter, by whether it is small and by its lattice, and the operations; or a refusal.
+abbrev pub readingAnswer : Reading → Bool → Centering → List Operation → Answer (Bool × Centering × List Operation) Nothing
+readingAnswer Accepted layer c l = given (layer, c, l)
+readingAnswer (Refused r) layer c l = refused (refusalNumber r) 0 tt
 
 -- What a reader's answer says.
-abbrev pub groupAnswer : RecordGroup → Answer (Centering × List Operation) Nothing
-groupAnswer g = readingAnswer (g .answer) (g .centering) (take (g .count) (g .operations))
+abbrev pub groupAnswer : RecordGroup → Answer (Bool × Centering × List Operation) Nothing
+groupAnswer g = readingAnswer (g .answer) (g .layer) (g .centering) (take (g .count) (g .operations))
 
--- What it says of the order and of the letter alone.
+-- What it says of the order and of the letter's byte alone.
 abbrev pub orderBy : Reading → ℕ → Answer ℕ Nothing
 orderBy Accepted n = given n
 orderBy (Refused r) n = refused (refusalNumber r) 0 tt
@@ -69,12 +69,8 @@ orderBy (Refused r) n = refused (refusalNumber r) 0 tt
 abbrev pub recordOrder : RecordGroup → Answer ℕ Nothing
 recordOrder g = orderBy (g .answer) (g .count)
 
-abbrev pub letterBy : Reading → Centering → Answer Centering Nothing
-letterBy Accepted c = given c
-letterBy (Refused r) c = refused (refusalNumber r) 0 tt
-
-abbrev pub recordLetter : RecordGroup → Answer Centering Nothing
-recordLetter g = letterBy (g .answer) (g .centering)
+abbrev pub recordLetter : RecordGroup → Answer ℕ Nothing
+recordLetter g = orderBy (g .answer) (letterByte (g .layer) (g .centering))
 
 -- And of the edition, by its number.
 abbrev pub recordEdition : RecordGroup → Answer ℕ Nothing
@@ -85,12 +81,12 @@ unfoldable pub slots : List Operation → List Operation
 slots l = l ++ replicate (48 - length l) identityOperation
 
 -- The answer for a record that is read,
-unfoldable pub acceptedGroup : Known → Centering → List Operation → RecordGroup
-acceptedGroup k c l = record { answer = Accepted; edition = k; centering = c; count = length l; operations = slots l }
+unfoldable pub acceptedGroup : Known → Sign → List Operation → RecordGroup
+acceptedGroup k s l = record { answer = Accepted; edition = k; layer = isSmall s; centering = latticeOf s; count = length l; operations = slots l }
 
 -- and for one that is refused.
 unfoldable pub refusedGroup : Refusal → RecordGroup
-refusedGroup r = record { answer = Refused r; edition = First; centering = P; count = 0; operations = replicate 48 identityOperation }
+refusedGroup r = record { answer = Refused r; edition = First; layer = false; centering = P; count = 0; operations = replicate 48 identityOperation }
 
 -- ---- items
 -- Refusal 34 is given unless each code is at most 19682, each coordinate at most 11, each triple the smallest of its class, and codes ascend.
@@ -144,7 +140,7 @@ pub record GroupReading (Sign Kind : Type 0) : Type 1 where
   pub lattice : Sign → Centering
   pub further : Sign → List Operation → Bool
   pub Further : Sign → List Operation → Type 0
-  pub further-test : (c : Sign) (l : List Operation) → (further c l ≡ true) ↔ Further c l
+  pub further-test : (c : Sign) (l : List Operation) → Form (lattice c) l → (further c l ≡ true) ↔ Further c l
   pub in-range : (k : Kind) (i : Item) → InRange i → edition k .Fits i
   pub by-code : (k : Kind) (i : Item) → edition k .key i ≡ i .code
   pub trailer-there : 5 ≤ least
@@ -164,31 +160,7 @@ rulesOf G =
       isAllowed = λ c items. isAllowed (G .lattice c) items && G .further c (map operationOfItem items);
     }
 
--- ---- the readings with the letters of the lattices
--- The letter that a byte spells.
-abbrev pub letterIn : Letter → Option Centering
-letterIn (Is c) = some c
-letterIn None = none
-
--- A byte that spells a letter is its byte.
-some-letter : (b : ℕ) (cs : List Centering) (c : Centering) → letterAmong b cs ≡ Is c → b ≡ byteOf c
-unfolding letterAmong
-some-letter b [] c e = let h : _≡_ {A = ℕ} 0 1 = cc in absurd (omega arith)
-some-letter b (d ∷ cs) c e = found (eqb b (byteOf d)) refl e (some-letter b cs c)
-  where
-    found : (t : Bool) → eqb b (byteOf d) ≡ t → cond t (Is d) (letterAmong b cs) ≡ Is c → (letterAmong b cs ≡ Is c → b ≡ byteOf c) → b ≡ byteOf c
-    found true q e rest = let same : d ≡ c = cc in eqb-true b (byteOf d) q ∙ ap byteOf same
-    found false q e rest = rest e
-
-pub spelled-letter : (b : ℕ) (c : Centering) (a : Letter) → letterOf b ≡ a → letterIn a ≡ some c → b ≡ byteOf c
-unfolding letterOf
-spelled-letter b c (Is d) e q = let same : d ≡ c = cc in some-letter b letters d e ∙ ap byteOf same
-spelled-letter b c None e q = let z : _≡_ {A = ℕ} 0 1 = cc in absurd (omega arith)
-
--- The letters of the lattices.
-abbrev pub latticeLetters : Spelled byteOf
-latticeLetters = record { from = λ b. letterIn (letterOf b); there = λ c. ap letterIn (letter-by-byte c); back = λ b c e. spelled-letter b c (letterOf b) refl e }
-
+-- ---- the readings of the unit
 -- One edition.
 abbrev pub oneNumber : ℕ → ℕ → Option (Unit {0})
 oneNumber number b = cond (eqb b number) (some tt) none
@@ -200,59 +172,72 @@ one-number number b k e = go (eqb b number) refl e
     go true q p = eqb-true b number q
     go false q p = let z : _≡_ {A = ℕ} 0 1 = cc in absurd (omega arith)
 
--- The reading of editions 1 and 3.
-abbrev pub bothReading : GroupReading Centering Known
-bothReading =
+-- The rule of layers is asked under small letters.
+abbrev pub signsOver : {Kind : Type 0} (least : ℕ) (edition : Kind → Edition Item) → Spelled (λ (k : Kind). edition k .number)
+    → ((k : Kind) (i : Item) → InRange i → edition k .Fits i) → ((k : Kind) (i : Item) → edition k .key i ≡ i .code) → 5 ≤ least
+    → ((k : Kind) → least ≤ totalLength (edition k .width) 1) → GroupReading Sign Kind
+signsOver least edition editions in-range by-code trailer-there long-enough =
     record {
-      least = 9;
-      edition = editionOf;
-      editions = knownEditions;
-      byte = byteOf;
-      signs = latticeLetters;
-      lattice = λ c. c;
-      further = λ c l. true;
-      Further = λ c l. Unit {0};
-      further-test = λ c l. ((λ e. tt), λ u. refl);
-      in-range = known-range;
-      by-code = known-key;
-      trailer-there = omega arith;
-      long-enough = known-length;
+      least = least;
+      edition = edition;
+      editions = editions;
+      byte = signByte;
+      signs = recordSigns;
+      lattice = latticeOf;
+      further = λ s. layersIf (isSmall s);
+      Further = λ s. LayersIf (isSmall s);
+      further-test = λ s l form. layers-test (isSmall s) (latticeOf s) l form;
+      in-range = in-range;
+      by-code = by-code;
+      trailer-there = trailer-there;
+      long-enough = long-enough;
     }
 
-abbrev pub bothRules : Rules Item Centering Known
+-- The reading of editions 1 and 3.
+abbrev pub bothReading : GroupReading Sign Known
+bothReading = signsOver 9 editionOf knownEditions known-range known-key (omega arith) known-length
+
+abbrev pub bothRules : Rules Item Sign Known
 bothRules = rulesOf bothReading
 
--- The reading of edition 1 alone: software that knows no other.
-abbrev pub firstReading : GroupReading Centering (Unit {0})
-firstReading =
+abbrev pub firstNumber : Spelled (λ (k : Unit {0}). firstEdition .number)
+firstNumber = record { from = oneNumber 1; there = λ k. refl; back = one-number 1 }
+
+-- The reading of edition 1 alone.
+abbrev pub firstReading : GroupReading Sign (Unit {0})
+firstReading = signsOver 10 (λ k. firstEdition) firstNumber (λ k i h. tt) (λ k i. refl) (omega arith) (λ k. omega arith)
+
+abbrev pub firstRules : Rules Item Sign (Unit {0})
+firstRules = rulesOf firstReading
+
+-- Old software: edition 1 alone, and the letters of the lattices alone.
+abbrev pub oldReading : GroupReading Centering (Unit {0})
+oldReading =
     record {
       least = 10;
       edition = λ k. firstEdition;
-      editions = record { from = oneNumber 1; there = λ k. refl; back = one-number 1 };
+      editions = firstNumber;
       byte = byteOf;
       signs = latticeLetters;
       lattice = λ c. c;
       further = λ c l. true;
       Further = λ c l. Unit {0};
-      further-test = λ c l. ((λ e. tt), λ u. refl);
+      further-test = λ c l form. ((λ e. tt), λ u. refl);
       in-range = λ k i h. tt;
       by-code = λ k i. refl;
       trailer-there = omega arith;
       long-enough = λ k. omega arith;
     }
 
-abbrev pub firstRules : Rules Item Centering (Unit {0})
-firstRules = rulesOf firstReading
-
 -- What is told, as the reader hands it back, by the names of the editions.
-abbrev pub groupAs : {Kind : Type 0} → (Kind → Known) → Told Item Centering Kind → RecordGroup
+abbrev pub groupAs : {Kind : Type 0} → (Kind → Known) → Told Item Sign Kind → RecordGroup
 groupAs name (not-held r) = refusedGroup r
-groupAs name (holds k c items) = acceptedGroup (name k) c (map operationOfItem items)
+groupAs name (holds k s items) = acceptedGroup (name k) s (map operationOfItem items)
 
-abbrev pub groupOf : Told Item Centering Known → RecordGroup
+abbrev pub groupOf : Told Item Sign Known → RecordGroup
 groupOf t = groupAs (λ (k : Known). k) t
 
-abbrev pub firstGroupOf : Told Item Centering (Unit {0}) → RecordGroup
+abbrev pub firstGroupOf : Told Item Sign (Unit {0}) → RecordGroup
 firstGroupOf t = groupAs (λ (k : Unit {0}). First) t
 
 unfoldable pub readOf : List ℕ → RecordGroup

@@ -19,13 +19,11 @@ pub use Rattle.group_record.specs.OperationItems.{Item, item≡, itemOf}
 unfoldable pub use Rattle.group_record.specs.FirstEdition.{itemWidth, editionNumber, itemBytes}
 use Rattle.group_record.specs.FirstEdition.{firstEdition}
 use Rattle.group_record.specs.BothEditions.{editionOf}
+use Rattle.group_record.specs.Signs.{latticeOf, signByte}
 use Rattle.group_record.specs.declared.Edition.{Edition as Known}
+use Rattle.group_record.specs.declared.sign.Sign.{Sign}
 
 -- ---- the bytes
--- The trailer of n operations under a lattice's letter.
-unfoldable pub trailer : ℕ → ℕ → Centering → ℕ → List ℕ
-trailer width edition c n = trailerBytes width edition (byteOf c) n
-
 -- The bytes of operations as they stand, and of the trailer after them.
 unfoldable pub writtenIn : Edition Item → ℕ → List Operation → List ℕ
 writtenIn E letter l = bytesOf (λ f. E .write (itemOf f)) l ++ trailerBytes (E .width) (E .number) letter (length l)
@@ -52,7 +50,11 @@ listedForm c l = sort beforeByCode (map (smallestOperation c) l)
 unfoldable pub recordIn : Edition Item → ℕ → Centering → List Operation → List ℕ
 recordIn E letter c l = writtenIn E letter (listedForm c l)
 
--- In an edition that is read and written, under its lattice's letter.
+-- In an edition that is read and written, under any letter of a record;
+unfoldable pub signedRecord : Known → Sign → List Operation → List ℕ
+signedRecord k s l = recordIn (editionOf k) (signByte s) (latticeOf s) l
+
+-- under its lattice's letter.
 unfoldable pub recordBy : Known → Centering → List Operation → List ℕ
 recordBy k c l = recordIn (editionOf k) (byteOf c) c l
 

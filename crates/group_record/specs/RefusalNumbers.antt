@@ -35,7 +35,9 @@ use Rattle.group_record.specs.declared.Copied.{Copied}
 use Rattle.group_record.specs.declared.Copied.the-variants.{Written as CopyWritten, NoRoom as CopyNoRoom, Refused as NotCopied}
 use Rattle.group_record.specs.declared.Reading.{Reading}
 use Rattle.group_record.specs.declared.Reading.the-variants.{Accepted, Refused}
+use Rattle.group_record.specs.Signs.{isSmall, latticeOf, sign-told}
 use Rattle.group_record.specs.declared.RecordGroup.{RecordGroup}
+use Rattle.group_record.specs.declared.sign.Sign.{Sign}
 use Rattle.group_record.specs.declared.Refusal.{Refusal}
 use Rattle.group_record.specs.declared.Refusal.the-variants.{Short, WrongEdition, WrongLetter, WrongLength, WrongItem, NotAllowed}
 use Rattle.group_record.specs.declared.SymbolRecord.the-variants as symbol-record
@@ -100,13 +102,13 @@ module _ {Item Letter Kind : Type 0} (R : Rules Item Letter Kind) (W : Meaning R
 
 -- ---- editions 1 and 3
 -- What the reader hands back has the number and the place that are told.
-pub group-number : {Kind : Type 0} (name : Kind → Known) (t : Told Item Centering Kind) (number place : ℕ)
+pub group-number : {Kind : Type 0} (name : Kind → Known) (t : Told Item Sign Kind) (number place : ℕ)
     → (groupAnswer (groupAs name t) ≡ refused number place tt) ↔ (toldAnswer t ≡ refused number place tt)
 unfolding refusedGroup
 group-number name (not-held r) number place = ((λ e. cc), λ e. cc)
 group-number name (holds k c items) number place = (
   (λ e.
-      let clash : _≡_ {A = Answer (Centering × List Operation) Nothing} (given (c, map operationOfItem items)) (refused number place tt) = sym (accepted-answer (name k) c (map operationOfItem items)) ∙ e in
+      let clash : _≡_ {A = Answer (Bool × Centering × List Operation) Nothing} (given (isSmall c, latticeOf c, map operationOfItem items)) (refused number place tt) = sym (accepted-answer (name k) c (map operationOfItem items)) ∙ e in
       let z : _≡_ {A = ℕ} 0 1 = cc in
       absurd (omega arith)),
   λ e. let z : _≡_ {A = ℕ} 0 1 = cc in absurd (omega arith),
@@ -244,14 +246,14 @@ one-copy (NotCopied r) (NotCopied s) e = let same : refusalNumber r ≡ refusalN
 
 -- A reading is refused or accepted.
 abbrev Shape : RecordGroup → Type 0
-Shape g = ((r : Refusal) × (g ≡ refusedGroup r)) ⊎ ((k : Known) × (c : Centering) × (l : List Operation) × (g ≡ acceptedGroup k c l))
+Shape g = ((r : Refusal) × (g ≡ refusedGroup r)) ⊎ ((k : Known) × (s : Sign) × (l : List Operation) × (g ≡ acceptedGroup k s l))
 
-shape : (t : Told Item Centering Known) → Shape (groupOf t)
+shape : (t : Told Item Sign Known) → Shape (groupOf t)
 shape (not-held r) = inl (r, refl)
 shape (holds k c items) = inr (k, c, map operationOfItem items, refl)
 
 -- Accepted readings that state one edition are of one.
-accepted-edition : (a b : Known) (c d : Centering) (l k : List Operation) → recordEdition (acceptedGroup a c l) ≡ recordEdition (acceptedGroup b d k) → a ≡ b
+accepted-edition : (a b : Known) (c d : Sign) (l k : List Operation) → recordEdition (acceptedGroup a c l) ≡ recordEdition (acceptedGroup b d k) → a ≡ b
 unfolding acceptedGroup
 accepted-edition a b c d l k e = let same : editionOf a .number ≡ editionOf b .number = cc in one-edition a b same
 
@@ -262,18 +264,20 @@ same-shape g h (inl (r, p)) (inl (s, q)) e n =
     let same : refusalNumber r ≡ refusalNumber s = cc in
     p ∙ ap refusedGroup (one-refusal r s same) ∙ sym q
 same-shape g h (inl (r, p)) (inr (k, c, l, q)) e n =
-    let clash : groupAnswer (refusedGroup r) ≡ given (c, l) = sym (ap groupAnswer p) ∙ e ∙ ap groupAnswer q ∙ accepted-answer k c l in
+    let clash : groupAnswer (refusedGroup r) ≡ given (isSmall c, latticeOf c, l) = sym (ap groupAnswer p) ∙ e ∙ ap groupAnswer q ∙ accepted-answer k c l in
     let z : _≡_ {A = ℕ} 0 1 = cc in
     absurd (omega arith)
 same-shape g h (inr (k, c, l, p)) (inl (r, q)) e n =
-    let clash : groupAnswer (refusedGroup r) ≡ given (c, l) = sym (ap groupAnswer q) ∙ sym e ∙ ap groupAnswer p ∙ accepted-answer k c l in
+    let clash : groupAnswer (refusedGroup r) ≡ given (isSmall c, latticeOf c, l) = sym (ap groupAnswer q) ∙ sym e ∙ ap groupAnswer p ∙ accepted-answer k c l in
     let z : _≡_ {A = ℕ} 0 1 = cc in
     absurd (omega arith)
 same-shape g h (inr (a, c, l, p)) (inr (b, d, k, q)) e n =
-    let answers : _≡_ {A = Answer (Centering × List Operation) Nothing} (given (c, l)) (given (d, k)) = sym (accepted-answer a c l) ∙ sym (ap groupAnswer p) ∙ e ∙ ap groupAnswer q ∙ accepted-answer b d k in
-    let same : _≡_ {A = Centering × List Operation} (c, l) (d, k) = cc in
+    let answers : _≡_ {A = Answer (Bool × Centering × List Operation) Nothing} (given (isSmall c, latticeOf c, l)) (given (isSmall d, latticeOf d, k)) = sym (accepted-answer a c l) ∙ sym (ap groupAnswer p) ∙ e ∙ ap groupAnswer q ∙ accepted-answer b d k in
+    let same : _≡_ {A = Bool × Centering × List Operation} (isSmall c, latticeOf c, l) (isSmall d, latticeOf d, k) = cc in
+    let letter : c ≡ d = sign-told c d (ap (λ (x : Bool × Centering × List Operation). x .0) same) (ap (λ (x : Bool × Centering × List Operation). x .1) same) in
+    let list : l ≡ k = ap (λ (x : Bool × Centering × List Operation). x .2) same in
     let edition : a ≡ b = accepted-edition a b c d l k (sym (ap recordEdition p) ∙ n ∙ ap recordEdition q) in
-    p ∙ ap₂ (λ (m : Known) (x : Centering × List Operation). acceptedGroup m (x .0) (x .1)) edition same ∙ sym q
+    p ∙ ap₂ (λ (m : Known) (s : Sign). acceptedGroup m s l) edition letter ∙ ap (acceptedGroup b d) list ∙ sym q
 
 -- Readings that are answered alike are one: nothing else is in what the reader hands back.
 pub one-reading : (bytes other : List ℕ) → groupAnswer (readOf bytes) ≡ groupAnswer (readOf other) → recordEdition (readOf bytes) ≡ recordEdition (readOf other)

@@ -1,6 +1,7 @@
 -- What was written reads back as the same group, and what was read is written as the same bytes. Both follow from the rules of the reading and from the listed form.
 use mathlib.Core.Path.{_≡_, refl, sym, _∙_, ap, subst, ap₂}
 use mathlib.Core.Logic.{_↔_}
+use mathlib.Core.Bool.{Bool}
 use mathlib.Core.List.{List, _++_, map, List·Memᴰ as Mem, Memᴰ·map as mem-map, Memᴰ·of-map as mem-of-map, Memᴰ·cast as mem-cast}
 use Prim.Native.Nat.{ℕ, _-_, _≤_}
 use native.Mathlib.Omega.{arith}
@@ -17,13 +18,15 @@ use Rattle.centering.specs.declared.Centering.{Centering}
 use Rattle.group_record.specs.Items.{Bytes}
 use Rattle.group_record.specs.OperationItems.{Item, itemOf, operationOfItem}
 use Rattle.group_record.specs.BothEditions.{editionOf, widthIn}
-use Rattle.group_record.specs.Record.{totalLength, smallestOperation, listedForm, writtenIn, recordIn, recordBy, recordOf}
+use Rattle.group_record.specs.Record.{totalLength, smallestOperation, listedForm, writtenIn, recordIn, signedRecord, recordOf}
 use Rattle.group_record.specs.Rules.{Told, holds, toldBy}
 use Rattle.group_record.specs.Rules.{refused as not-held}
 use Rattle.group_record.specs.Reading.{GroupReading, rulesOf, bothReading, bothRules, groupOf, readOf, acceptedGroup, refusedGroup, slots, groupAnswer}
 use Rattle.group_record.specs.Groups.{Alike, InSet, Allowed, Listing, Form}
 use Rattle.group_record.specs.ListedForm.{form-member, member-form, form-length, listed-form, form-listing, form-again, alike-symmetric, alike-transitive, smallest-alike}
-use Rattle.group_record.specs.OneRecord.{operations-of-items, record-by-length}
+use Rattle.group_record.specs.OneRecord.{operations-of-items, record-in-length}
+use Rattle.group_record.specs.Signs.{isSmall, latticeOf, letterByte, signByte, sign-told, LayersIf}
+use Rattle.group_record.specs.Copying.{groupBytes}
 use Rattle.group_record.specs.GroupLaws.{SpaceGroup, allowed-group, compose-alike, identity-listed}
 use Rattle.group_record.specs.ReadingTests.{origin-smallest}
 use Rattle.group_record.specs.Acceptance.{Holds, Tells, tells-exactly, holds-told}
@@ -31,15 +34,17 @@ use Rattle.group_record.specs.declared.Edition.{Edition as Known}
 use Rattle.group_record.specs.declared.Edition.the-variants.{First}
 use Rattle.group_record.specs.declared.Reading.the-variants.{Accepted, Refused}
 use Rattle.group_record.specs.declared.RecordGroup.{RecordGroup}
+use Rattle.group_record.specs.declared.sign.Sign.{Sign}
+use Rattle.group_record.specs.declared.sign.Sign.the-variants.{Plain}
 
 -- ---- the answer says the letter and the operations
-pub accepted-answer : (edition : Known) (c : Centering) (l : List Operation) → groupAnswer (acceptedGroup edition c l) ≡ given (c, l)
+pub accepted-answer : (edition : Known) (s : Sign) (l : List Operation) → groupAnswer (acceptedGroup edition s l) ≡ given (isSmall s, latticeOf s, l)
 unfolding acceptedGroup slots
-accepted-answer edition c l = ap (λ (k : List Operation). given (c, k)) (take-at l (replicate (48 - length l) identityOperation) (length l) refl)
+accepted-answer edition s l = ap (λ (k : List Operation). given (isSmall s, latticeOf s, k)) (take-at l (replicate (48 - length l) identityOperation) (length l) refl)
 
-accepted-says : (edition : Known) (c : Centering) (l : List Operation) → acceptedGroup edition c l .answer ≡ Accepted
+accepted-says : (edition : Known) (s : Sign) (l : List Operation) → acceptedGroup edition s l .answer ≡ Accepted
 unfolding acceptedGroup
-accepted-says edition c l = refl
+accepted-says edition s l = refl
 
 -- ---- allowed operations stay allowed in the listed form
 module _ (c : Centering) {l : List Operation} (L : Listing l) (A : Allowed c (map motionOf l)) where
@@ -115,45 +120,40 @@ module _ {Sign Kind : Type 0} (G : GroupReading Sign Kind) where
 
 -- ---- editions 1 and 3
 -- What was written reads back, wherever it stands at the end of a buffer; and it is the same group.
-pub reads-back-in : (edition : Known) (c : Centering) {l : List Operation} → Listing l → Allowed c (map motionOf l) → (front : List ℕ)
-    → readOf (front ++ recordBy edition c l) ≡ acceptedGroup edition c (listedForm c l)
-unfolding readOf recordBy
-reads-back-in edition c {l} L A front =
-    ap groupOf (tells-back bothReading edition c L A tt front) ∙ ap (acceptedGroup edition c) (operations-of-items (listedForm c l) (listed-form c L .entries))
+pub reads-back-in : (edition : Known) (s : Sign) {l : List Operation} → Listing l → Allowed (latticeOf s) (map motionOf l) → LayersIf (isSmall s) (listedForm (latticeOf s) l) → (front : List ℕ)
+    → readOf (front ++ signedRecord edition s l) ≡ acceptedGroup edition s (listedForm (latticeOf s) l)
+unfolding readOf signedRecord
+reads-back-in edition s {l} L A layers front =
+    ap groupOf (tells-back bothReading edition s L A layers front)
+    ∙ ap (acceptedGroup edition s) (operations-of-items (listedForm (latticeOf s) l) (listed-form (latticeOf s) L .entries))
 
--- In edition 1.
-pub reads-back : (c : Centering) {l : List Operation} → Listing l → Allowed c (map motionOf l) → (front : List ℕ) → readOf (front ++ recordOf c l) ≡ acceptedGroup First c (listedForm c l)
-unfolding recordBy recordOf
-reads-back c L A front = reads-back-in First c L A front
-
--- What is read as a group holds it: its operations are those of the items that are told.
-pub accepted-holds : (bytes : List ℕ) → Bytes bytes → readOf bytes .answer ≡ Accepted
-    → Holds bothReading bytes (readOf bytes .edition) (readOf bytes .centering) (take (readOf bytes .count) (readOf bytes .operations))
-unfolding readOf refusedGroup acceptedGroup slots
-accepted-holds bytes g e = by (toldBy bothRules bytes) refl e
-  where
-    by : (t : Told Item Centering Known) → toldBy bothRules bytes ≡ t → groupOf t .answer ≡ Accepted
-        → Holds bothReading bytes (groupOf t .edition) (groupOf t .centering) (take (groupOf t .count) (groupOf t .operations))
-    by (not-held r) p a = let z : _≡_ {A = ℕ} 0 1 = cc in absurd (omega arith)
-    by (holds k c items) p a =
-        let l = map operationOfItem items in
-        rw (take-at l (replicate (48 - length l) identityOperation) (length l) refl) (tells-exactly bothReading bytes g k c l .0 (items, p, refl))
+-- In edition 1, under a lattice's letter.
+pub reads-back : (c : Centering) {l : List Operation} → Listing l → Allowed c (map motionOf l) → (front : List ℕ) → readOf (front ++ recordOf c l) ≡ acceptedGroup First (Plain c) (listedForm c l)
+unfolding signedRecord recordOf
+reads-back c L A front = reads-back-in First (Plain c) L A tt front
 
 -- ---- what was read
--- What is read is the record of a group, and is written as the bytes it was read from.
-pub record Reads (bytes : List ℕ) (edition : Known) (c : Centering) (l : List Operation) : Type 0 where
+-- What is read is the record of a group, under a small letter one of a layer, and is written as the bytes it was read from.
+pub record Reads (bytes : List ℕ) (edition : Known) (layer : Bool) (c : Centering) (l : List Operation) : Type 0 where
   pub front : List ℕ
-  pub same-bytes : bytes ≡ front ++ recordBy edition c l
+  pub same-bytes : bytes ≡ front ++ recordIn (editionOf edition) (letterByte layer c) c l
   pub form : Form c l
   pub allowed : Allowed c (map motionOf l)
+  pub layers : LayersIf layer l
   pub group : SpaceGroup c (InSet c (map motionOf l))
 
 pub written-again : (bytes : List ℕ) → Bytes bytes → readOf bytes .answer ≡ Accepted
-    → Reads bytes (readOf bytes .edition) (readOf bytes .centering) (take (readOf bytes .count) (readOf bytes .operations))
-unfolding recordBy
-written-again bytes g e =
-    let again = holds-again bothReading bytes _ _ _ (accepted-holds bytes g e) in
-    record { front = again .front; same-bytes = again .same-bytes; form = again .form; allowed = again .allowed; group = again .group }
+    → Reads bytes (readOf bytes .edition) (readOf bytes .layer) (readOf bytes .centering) (take (readOf bytes .count) (readOf bytes .operations))
+unfolding readOf refusedGroup acceptedGroup slots
+written-again bytes g e = by (toldBy bothRules bytes) refl e
+  where
+    by : (t : Told Item Sign Known) → toldBy bothRules bytes ≡ t → groupOf t .answer ≡ Accepted
+        → Reads bytes (groupOf t .edition) (groupOf t .layer) (groupOf t .centering) (take (groupOf t .count) (groupOf t .operations))
+    by (not-held r) p a = let z : _≡_ {A = ℕ} 0 1 = cc in absurd (omega arith)
+    by (holds k s items) p a =
+        let l = map operationOfItem items in
+        let again = holds-again bothReading bytes k s l (tells-exactly bothReading bytes g k s l .0 (items, p, refl)) in
+        rw (take-at l (replicate (48 - length l) identityOperation) (length l) refl) (record { front = again .front; same-bytes = again .same-bytes; form = again .form; allowed = again .allowed; layers = again .further; group = again .group })
 
 -- ---- what the writer is asked
 -- Operations that may be written: at most 48, there, and a listing.
@@ -167,66 +167,66 @@ pub read-writable : (bytes : List ℕ) (g : RecordGroup) → Bytes bytes → g �
 unfolding readOf refusedGroup acceptedGroup slots
 read-writable bytes g b e a = subst Writable (sym e) (by (toldBy bothRules bytes) refl (ap (λ (h : RecordGroup). h .answer) (sym e) ∙ a))
   where
-    by : (t : Told Item Centering Known) → toldBy bothRules bytes ≡ t → groupOf t .answer ≡ Accepted → Writable (groupOf t)
+    by : (t : Told Item Sign Known) → toldBy bothRules bytes ≡ t → groupOf t .answer ≡ Accepted → Writable (groupOf t)
     by (not-held r) p q = let z : _≡_ {A = ℕ} 0 1 = cc in absurd (omega arith)
-    by (holds k c items) p q =
+    by (holds k s items) p q =
         let l = map operationOfItem items in
-        let h = tells-exactly bothReading bytes b k c l .0 (items, p, refl) in
+        let h = tells-exactly bothReading bytes b k s l .0 (items, p, refl) in
         let size = length-append l (replicate (48 - length l) identityOperation) in
         record {
           few = rw (length-map l motionOf) at (h .allowed .count .1);
           there = omega (arith, size);
-          listing = rw (take-at l (replicate (48 - length l) identityOperation) (length l) refl) (form-listing c (h .form));
+          listing = rw (take-at l (replicate (48 - length l) identityOperation) (length l) refl) (form-listing (latticeOf s) (h .form));
         }
 
 -- ---- acceptance
 -- The answer says its edition, its letter and its list: two accepted answers that are equal hold the same.
-pub accepted-injective : (a b : Known) (c d : Centering) (l k : List Operation) → acceptedGroup a c l ≡ acceptedGroup b d k → (a ≡ b) × (c ≡ d) × (l ≡ k)
+pub accepted-injective : (a b : Known) (s t : Sign) (l k : List Operation) → acceptedGroup a s l ≡ acceptedGroup b t k → (a ≡ b) × (s ≡ t) × (l ≡ k)
 unfolding acceptedGroup slots
-accepted-injective a b c d l k e = (
+accepted-injective a b s t l k e = (
   ap (λ (g : RecordGroup). g .edition) e,
-  ap (λ (g : RecordGroup). g .centering) e,
+  sign-told s t (ap (λ (g : RecordGroup). g .layer) e) (ap (λ (g : RecordGroup). g .centering) e),
   sym (take-at l (replicate (48 - length l) identityOperation) (length l) refl)
       ∙ ap (λ (g : RecordGroup). take (g .count) (g .operations)) e
       ∙ take-at k (replicate (48 - length k) identityOperation) (length k) refl,
 )
 
 -- What is read as a group are the operations that are told.
-accepted-tells : (bytes : List ℕ) (edition : Known) (c : Centering) (l : List Operation) → readOf bytes ≡ acceptedGroup edition c l → Tells bothReading bytes edition c l
+accepted-tells : (bytes : List ℕ) (edition : Known) (s : Sign) (l : List Operation) → readOf bytes ≡ acceptedGroup edition s l → Tells bothReading bytes edition s l
 unfolding readOf refusedGroup
-accepted-tells bytes edition c l e = by (toldBy bothRules bytes) refl e
+accepted-tells bytes edition s l e = by (toldBy bothRules bytes) refl e
   where
-    by : (t : Told Item Centering Known) → toldBy bothRules bytes ≡ t → groupOf t ≡ acceptedGroup edition c l → Tells bothReading bytes edition c l
+    by : (t : Told Item Sign Known) → toldBy bothRules bytes ≡ t → groupOf t ≡ acceptedGroup edition s l → Tells bothReading bytes edition s l
     by (not-held r) p q =
-        let clash : Refused r ≡ Accepted = ap (λ (g : RecordGroup). g .answer) q ∙ accepted-says edition c l in
+        let clash : Refused r ≡ Accepted = ap (λ (g : RecordGroup). g .answer) q ∙ accepted-says edition s l in
         let z : _≡_ {A = ℕ} 0 1 = cc in
         absurd (omega arith)
-    by (holds k d items) p q =
-        let (same-edition, same-letter, same-list) = accepted-injective k edition d c (map operationOfItem items) l q in
-        (items, p ∙ ap₂ (λ (j : Known) (a : Centering). holds j a items) same-edition same-letter, same-list)
+    by (holds k t items) p q =
+        let (same-edition, same-letter, same-list) = accepted-injective k edition t s (map operationOfItem items) l q in
+        (items, p ∙ ap₂ (λ (j : Known) (a : Sign). holds j a items) same-edition same-letter, same-list)
 
--- A buffer is read as a group exactly if it ends with the record of allowed operations in the listed form.
-pub accepted-exactly : (bytes : List ℕ) → Bytes bytes → (edition : Known) (c : Centering) (l : List Operation)
-    → (readOf bytes ≡ acceptedGroup edition c l) ↔ ((front : List ℕ) × (bytes ≡ front ++ writtenIn (editionOf edition) (byteOf c) l) × Form c l × Allowed c (map motionOf l))
+-- A buffer is read as a group exactly if it ends with the record of allowed operations in the listed form, under a small letter all of a layer.
+pub accepted-exactly : (bytes : List ℕ) → Bytes bytes → (edition : Known) (s : Sign) (l : List Operation)
+    → (readOf bytes ≡ acceptedGroup edition s l)
+    ↔ ((front : List ℕ) × (bytes ≡ front ++ writtenIn (editionOf edition) (signByte s) l) × Form (latticeOf s) l × Allowed (latticeOf s) (map motionOf l) × LayersIf (isSmall s) l)
 unfolding readOf
-accepted-exactly bytes g edition c l = (
-  (λ e. let h = tells-exactly bothReading bytes g edition c l .0 (accepted-tells bytes edition c l e) in (h .front, h .same-bytes, h .form, h .allowed)),
-  λ (front, e, F, A).
-      let (items, p, q) = tells-exactly bothReading bytes g edition c l .1 (record { front = front; same-bytes = e; form = F; allowed = A; further = tt }) in
-      ap groupOf p ∙ ap (acceptedGroup edition c) q,
+accepted-exactly bytes g edition s l = (
+  (λ e. let h = tells-exactly bothReading bytes g edition s l .0 (accepted-tells bytes edition s l e) in (h .front, h .same-bytes, h .form, h .allowed, h .further)),
+  λ (front, e, form, A, layers).
+      let (items, p, q) = tells-exactly bothReading bytes g edition s l .1 (record { front = front; same-bytes = e; form = form; allowed = A; further = layers }) in
+      ap groupOf p ∙ ap (acceptedGroup edition s) q,
 )
 
 -- A copy's bytes are those that were read: the last ones of the buffer.
 pub copied-bytes : (bytes : List ℕ) → Bytes bytes → readOf bytes .answer ≡ Accepted
-    → recordBy (readOf bytes .edition) (readOf bytes .centering) (take (readOf bytes .count) (readOf bytes .operations))
-    ≡ drop (length bytes - totalLength (widthIn (readOf bytes .edition)) (readOf bytes .count)) bytes
+    → groupBytes (readOf bytes .edition) (readOf bytes) ≡ drop (length bytes - totalLength (widthIn (readOf bytes .edition)) (readOf bytes .count)) bytes
 copied-bytes bytes g e =
     let edition = readOf bytes .edition in
-    let c = readOf bytes .centering in
     let n = readOf bytes .count in
-    let l = take n (readOf bytes .operations) in
+    let written = groupBytes edition (readOf bytes) in
     let r = written-again bytes g e in
     let few = length-take-le n (readOf bytes .operations) (read-writable bytes (readOf bytes) g refl e .there) in
-    let size : length (recordBy edition c l) ≡ totalLength (widthIn edition) n = record-by-length edition c l ∙ ap (totalLength (widthIn edition)) few in
-    let place : length (r .front) ≡ length bytes - totalLength (widthIn edition) n = omega (arith, size, length-append (r .front) (recordBy edition c l), ap length (r .same-bytes)) in
-    sym (ap (drop (length bytes - totalLength (widthIn edition) n)) (r .same-bytes) ∙ drop-at (r .front) (recordBy edition c l) (length bytes - totalLength (widthIn edition) n) place)
+    let size : length written ≡ totalLength (widthIn edition) n =
+    record-in-length (editionOf edition) _ _ (take n (readOf bytes .operations)) ∙ ap (totalLength (widthIn edition)) few in
+    let place : length (r .front) ≡ length bytes - totalLength (widthIn edition) n = omega (arith, size, length-append (r .front) written, ap length (r .same-bytes)) in
+    sym (ap (drop (length bytes - totalLength (widthIn edition) n)) (r .same-bytes) ∙ drop-at (r .front) written (length bytes - totalLength (widthIn edition) n) place)

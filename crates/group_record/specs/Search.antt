@@ -15,7 +15,7 @@ use Rattle.operation.specs.declared.Operation.{Operation}
 use Rattle.centering.specs.Keeps.{keepsOf}
 use Rattle.centering.specs.Letters.{letterOf}
 use Rattle.centering.specs.declared.Centering.{Centering}
-use Rattle.centering.specs.declared.Letter.{Letter}
+use mathlib.Core.Option.{Option, none, some}
 use Rattle.centering.specs.declared.Letter.the-variants.{Is, None}
 use Rattle.group_record.specs.Items.{itemsIn, items-length, item-at}
 use Rattle.group_record.specs.Editions.{totalLength, fromEnd}
@@ -25,11 +25,14 @@ use Rattle.group_record.specs.FirstEdition.{itemIn}
 use Rattle.group_record.specs.ThirdEdition.{fourByteNumber}
 use Rattle.group_record.specs.Rules.{refused, holds, lengthFits, areGood, itemsTold, lastItems, countedTold, letteredTold, editionTold, toldBy}
 use Rattle.group_record.specs.Outcomes.{length-test}
-use Rattle.group_record.specs.Reading.{operationOfItem, itemBefore, slots, areItems, keepsItem, letterIn, firstRules, bothRules, groupOf, firstGroupOf, readOf, readFirstOf, refusedGroup}
+use Rattle.group_record.specs.Reading.{operationOfItem, itemBefore, slots, areItems, keepsItem, firstRules, bothRules, groupOf, firstGroupOf, readOf, readFirstOf, refusedGroup}
 use Rattle.group_record.specs.declared.Edition.{Edition as Known}
 use Rattle.group_record.specs.declared.Edition.the-variants.{First, Third}
+use Rattle.group_record.specs.Signs.{latticeOf, signOf}
 use Rattle.group_record.specs.declared.RecordGroup.{RecordGroup}
-use Rattle.group_record.specs.declared.Refusal.the-variants.{Short, WrongEdition, WrongLength, WrongItem, NotAllowed}
+use Rattle.group_record.specs.declared.sign.Sign.{Sign}
+use Rattle.group_record.specs.declared.sign.Sign.the-variants.{Plain, SmallP, SmallC}
+use Rattle.group_record.specs.declared.Refusal.the-variants.{Short, WrongEdition, WrongLetter, WrongLength, WrongItem, NotAllowed}
 
 -- The items of n operations, and the item at a place.
 abbrev pub itemsOf : Known → ℕ → List ℕ → List Item
@@ -142,25 +145,50 @@ kept-item c i f b e k = ap (λ (g : Operation). keepsOf c (g .rotation)) (sym e)
 
 -- ---- the trailer
 -- What the items tell,
-abbrev pub readItems : Known → Centering → List Item → RecordGroup
-readItems edition c items = groupOf (itemsTold bothRules edition c items)
+abbrev pub readItems : Known → Sign → List Item → RecordGroup
+readItems edition s items = groupOf (itemsTold bothRules edition s items)
 
 -- what count and length tell,
-abbrev pub readCounted : Known → Centering → ℕ → List ℕ → RecordGroup
-readCounted edition c n bytes = groupOf (countedTold bothRules edition c n bytes)
+abbrev pub readCounted : Known → Sign → ℕ → List ℕ → RecordGroup
+readCounted edition s n bytes = groupOf (countedTold bothRules edition s n bytes)
 
--- and what the letter tells.
-abbrev pub readLettered : Known → Letter → List ℕ → RecordGroup
-readLettered edition a bytes = groupOf (letteredTold bothRules edition (letterIn a) bytes)
+-- and what the letter's byte tells.
+abbrev pub readLettered : Known → ℕ → List ℕ → RecordGroup
+readLettered edition b bytes = groupOf (letteredTold bothRules edition (signOf b) bytes)
+
+-- By that byte: p, c, a lattice's letter, or none.
+module _ (edition : Known) (b : ℕ) (bytes : List ℕ) where
+  pub lettered-p : b ≡ 112 → readLettered edition b bytes ≡ readCounted edition SmallP (fromEnd bytes 3) bytes
+  unfolding letteredTold signOf
+  lettered-p e = rw (eq-eqb b 112 e)
+
+  pub lettered-c : ¬ (b ≡ 112) → b ≡ 99 → readLettered edition b bytes ≡ readCounted edition SmallC (fromEnd bytes 3) bytes
+  unfolding letteredTold signOf
+  lettered-c p e = rw (ne-eqb b 112 p, eq-eqb b 99 e)
+
+  module _ (p : ¬ (b ≡ 112)) (q : ¬ (b ≡ 99)) where
+    pub lettered-plain : (c : Centering) → letterOf b ≡ Is c → readLettered edition b bytes ≡ readCounted edition (Plain c) (fromEnd bytes 3) bytes
+    unfolding letteredTold signOf
+    lettered-plain c e = rw (ne-eqb b 112 p, ne-eqb b 99 q, e)
+
+    pub lettered-none : letterOf b ≡ None → readLettered edition b bytes ≡ refusedGroup WrongLetter
+    unfolding letteredTold signOf
+    lettered-none e = rw (ne-eqb b 112 p, ne-eqb b 99 q, e)
 
 -- All of 34 is the same in both editions.
-pub good-items : (edition : Known) (c : Centering) (items : List Item) → areGood bothRules edition c items ≡ areItems c items
+pub good-items : (edition : Known) (s : Sign) (items : List Item) → areGood bothRules edition s items ≡ areItems (latticeOf s) items
 unfolding areGood areItems
-good-items First c items = refl
-good-items Third c items = refl
+good-items First s items = refl
+good-items Third s items = refl
+
+-- A test of operations is one of items.
+pub all-operations : (test : Operation → Bool) (items : List Item) → all test (map operationOfItem items) ≡ all (λ i. test (operationOfItem i)) items
+unfolding all
+all-operations test [] = refl
+all-operations test (i ∷ items) = rw (all-operations test items) refl
 
 -- What the bytes before the end decide, by the code's names for them.
-module _ (edition : Known) (c : Centering) (bytes : List ℕ) (n high low : ℕ) (p : n ≡ fromEnd bytes 3) (q : high ≡ fromEnd bytes 2) (r : low ≡ fromEnd bytes 1) where
+module _ (edition : Known) (c : Sign) (bytes : List ℕ) (n high low : ℕ) (p : n ≡ fromEnd bytes 3) (q : high ≡ fromEnd bytes 2) (r : low ≡ fromEnd bytes 1) where
   pub counted-fits : lengthFits (widthIn edition) 48 n (high * 256 + low) (length bytes) ≡ true
       → readCounted edition c (fromEnd bytes 3) bytes ≡ readItems edition c (itemsOf edition n (drop (length bytes - (high * 256 + low)) bytes))
   unfolding countedTold
@@ -181,18 +209,18 @@ module _ (bytes : List ℕ) (number : ℕ) (long : 9 ≤ length bytes) (p : numb
   unfolding readOf toldBy editionTold
   read-other-edition one three = rw (le-ltb (length bytes) 9 long, ← p, ne-eqb number 1 one, ne-eqb number 3 three)
 
-  pub read-as-first : number ≡ 1 → readOf bytes ≡ readLettered First (letterOf (fromEnd bytes 5)) bytes
+  pub read-as-first : number ≡ 1 → readOf bytes ≡ readLettered First (fromEnd bytes 5) bytes
   unfolding readOf toldBy editionTold
   read-as-first e = rw (le-ltb (length bytes) 9 long, ← p, eq-eqb number 1 e)
 
-  pub read-as-third : ¬ (number ≡ 1) → number ≡ 3 → readOf bytes ≡ readLettered Third (letterOf (fromEnd bytes 5)) bytes
+  pub read-as-third : ¬ (number ≡ 1) → number ≡ 3 → readOf bytes ≡ readLettered Third (fromEnd bytes 5) bytes
   unfolding readOf toldBy editionTold
   read-as-third one e = rw (le-ltb (length bytes) 9 long, ← p, ne-eqb number 1 one, eq-eqb number 3 e)
 
 -- ---- edition 1 alone
 -- From the letter on edition 1 is read alike.
 module _ (bytes : List ℕ) where
-  same-items : (c : Centering) (items : List Item) → firstGroupOf (itemsTold firstRules tt c items) ≡ groupOf (itemsTold bothRules First c items)
+  same-items : (c : Sign) (items : List Item) → firstGroupOf (itemsTold firstRules tt c items) ≡ groupOf (itemsTold bothRules First c items)
   unfolding itemsTold areGood
   same-items c items = by (areGood firstRules tt c items) (firstRules .isAllowed c items)
     where
@@ -201,7 +229,7 @@ module _ (bytes : List ℕ) where
       by true false = refl
       by false allowed = refl
 
-  same-counted : (c : Centering) (n : ℕ) → firstGroupOf (countedTold firstRules tt c n bytes) ≡ readCounted First c n bytes
+  same-counted : (c : Sign) (n : ℕ) → firstGroupOf (countedTold firstRules tt c n bytes) ≡ readCounted First c n bytes
   unfolding countedTold
   same-counted c n = by (lengthFits (widthIn First) 48 n (fromEnd bytes 2 * 256 + fromEnd bytes 1) (length bytes))
     where
@@ -212,10 +240,10 @@ module _ (bytes : List ℕ) where
       by true = same-items c items
       by false = refl
 
-  same-lettered : (a : Letter) → firstGroupOf (letteredTold firstRules tt (letterIn a) bytes) ≡ readLettered First a bytes
+  same-lettered : (o : Option Sign) → firstGroupOf (letteredTold firstRules tt o bytes) ≡ groupOf (letteredTold bothRules First o bytes)
   unfolding letteredTold
-  same-lettered (Is c) = same-counted c (fromEnd bytes 3)
-  same-lettered None = refl
+  same-lettered (some s) = same-counted s (fromEnd bytes 3)
+  same-lettered none = refl
 
   pub first-short : length bytes < 10 → readFirstOf bytes ≡ refusedGroup Short
   unfolding readFirstOf toldBy
@@ -226,6 +254,6 @@ module _ (bytes : List ℕ) where
     unfolding readFirstOf toldBy editionTold
     first-other-edition other = rw (le-ltb (length bytes) 10 long, ← p, ne-eqb number 1 other)
 
-    pub first-by-letter : number ≡ 1 → readFirstOf bytes ≡ readLettered First (letterOf (fromEnd bytes 5)) bytes
+    pub first-by-letter : number ≡ 1 → readFirstOf bytes ≡ readLettered First (fromEnd bytes 5) bytes
     unfolding readFirstOf toldBy editionTold
-    first-by-letter e = rw (le-ltb (length bytes) 10 long, ← p, eq-eqb number 1 e) (same-lettered (letterOf (fromEnd bytes 5)))
+    first-by-letter e = rw (le-ltb (length bytes) 10 long, ← p, eq-eqb number 1 e) (same-lettered (signOf (fromEnd bytes 5)))

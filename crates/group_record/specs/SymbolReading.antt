@@ -29,11 +29,13 @@ use Rattle.group_record.specs.SymbolSets.{InSetOf, record-of-list, set-o
 use Rattle.group_record.specs.declared.Edition.the-variants.{First}
 use Rattle.group_record.specs.declared.Reading.the-variants.{Accepted}
 use Rattle.group_record.specs.declared.RecordGroup.{RecordGroup}
+use Rattle.group_record.specs.declared.sign.Sign.the-variants.{Plain}
 use Rattle.group_record.specs.declared.SymbolRecord.the-variants.{Written, NoRoom}
 
 -- What was read is the symbol's group: its letter, its count, its operations in the listed form, its set of motions.
 pub record ReadsAs (text : List ℕ) (g : RecordGroup) : Type 0 where
   pub accepted : g .answer ≡ Accepted
+  pub plain : g .layer ≡ false
   pub letter : g .centering ≡ symbolAnswer text .centering
   pub count : g .count ≡ symbolAnswer text .count
   pub operations : take (g .count) (g .operations) ≡ listedForm (symbolAnswer text .centering) (take (symbolAnswer text .count) (symbolAnswer text .operations))
@@ -57,11 +59,12 @@ module _ (text : List ℕ) (A : AcceptedText text) where
   )
 
   -- So what a record of them is read as is the symbol's group.
-  form-reads : ReadsAs text (acceptedGroup First (A .letter) form)
+  form-reads : ReadsAs text (acceptedGroup First (Plain (A .letter)) form)
   unfolding acceptedGroup
   form-reads =
       record {
         accepted = refl;
+        plain = refl;
         letter = sym (A .same-letter);
         count = form-length (A .letter) (A .operations) ∙ sym (A .same-count);
         operations = form-slots ∙ ap₂ listedForm (sym (A .same-letter)) (sym (A .same-operations));
@@ -69,7 +72,7 @@ module _ (text : List ℕ) (A : AcceptedText text) where
       }
 
   -- Whatever stands before the record.
-  record-reads : (front : List ℕ) → readOf (front ++ textRecord text) ≡ acceptedGroup First (A .letter) form
+  record-reads : (front : List ℕ) → readOf (front ++ textRecord text) ≡ acceptedGroup First (Plain (A .letter)) form
   record-reads front =
       ap (λ (bytes : List ℕ). readOf (front ++ bytes)) (record-of-list text A)
       ∙ reads-back (A .letter) (accepted-listing (A .letter) (A .generators) (A .operations) (A .steps) (A .accepted)) (accepted-allowed (A .letter) (A .generators) (A .operations) (A .steps) (A .accepted)) front

@@ -29,7 +29,7 @@ abbrev pub InSetOf : List ℕ → SpaceMotion → Type 0
 InSetOf text m = (c : Centering) × (gens : List Operation) × Spells text c gens × generated.InSet c gens m
 
 -- A text spells one symbol.
-spells-once : (text : List ℕ) (c d : Centering) (gens hens : List Operation) → Spells text c gens → Spells text d hens → (c ≡ d) × (gens ≡ hens)
+pub spells-once : (text : List ℕ) (c d : Centering) (gens hens : List Operation) → Spells text c gens → Spells text d hens → (c ≡ d) × (gens ≡ hens)
 spells-once text c d gens hens s t =
     let same : symbol c gens ≡ symbol d hens = sym (symbol-exactly text c gens .1 s) ∙ symbol-exactly text d hens .1 t in
     (cc, cc)

@@ -10,6 +10,7 @@ use super::Copied;
 use super::Edition;
 use super::Reading;
 use super::RecordGroup;
+use super::letter_byte;
 use super::reader::read_record;
 use super::writer::place_group;
 
@@ -56,7 +57,8 @@ fn place_read(out: &mut [u8], start: usize, edition: Edition, group: RecordGroup
     let n = group.count;
     let c = group.centering;
     let operations = group.operations;
-    if !place_group(out, start, edition, c, operations, n) {
+    let letter = letter_byte(group.layer, c);
+    if !place_group(out, start, edition, letter, c, operations, n) {
         return Copied::NoRoom;
     }
     Copied::Written(n)

@@ -2,13 +2,16 @@
 mod allowed;
 pub mod copier;
 mod items;
+pub mod layer;
 pub mod reader;
+mod sign;
 pub mod symbol;
 mod writer;
 
 ghost use mathlib.Core.Path.{_≡_};
 ghost use Rattle.group_record.specs.BothEditions.{editionOf, otherEdition};
 ghost use Rattle.group_record.specs.Reading.{refusalNumber};
+ghost use Rattle.group_record.specs.Signs.{letterByte};
 use centering::Centering;
 use operation::Operation;
 
@@ -72,10 +75,12 @@ pub enum Reading {
 }
 
 // What a record holds: count operations, ascending by code; the rest of the 48 is the identity.
+// `layer` says that its letter is small: p where the lattice is that of P, c where it is that of C.
 // A refused record leaves edition 1, P, no operation, and the identity 48 times.
 pub struct RecordGroup {
     pub answer: Reading,
     pub edition: Edition,
+    pub layer: bool,
     pub centering: Centering,
     pub count: usize,
     pub operations: [Operation; 48],
@@ -88,9 +93,27 @@ pub enum Copied {
     Refused(Refusal),
 }
 
+// The byte of a record's letter. 32 lies between a capital and its small letter.
+pub fn letter_byte(layer: bool, c: Centering) -> u8
+    ensures { λ r. ⌜ r ≡ letterByte layer c ⌝ }
+{
+    let capital = c.byte();
+    if layer {
+        return capital + 32;
+    }
+    capital
+}
+
 // A symbol's record: how many operations it holds. `NoRoom` is refusal 20 at place 0; `Refused` is the symbol's own refusal, 1 to 14.
 pub enum SymbolRecord {
     Written(usize),
     NoRoom,
     Refused(symbol_group::refusal::Refusal),
+}
+
+// A layer symbol's record: how many operations it holds. `NoRoom` is refusal 20 at place 0; `Refused` is the layer symbol's own refusal, 1 to 14, 17 and 19.
+pub enum LayerRecord {
+    Written(usize),
+    NoRoom,
+    Refused(layer_group::refusal::Refusal),
 }

@@ -4,9 +4,11 @@ ghost use Prim.Native.Nat.{_+_, _*_, _≤_};
 ghost use lib.ListN.{length, drop};
 ghost use Rattle.laws.specs.Lattice.{all, sameTriple};
 ghost use Rattle.laws.specs.Sorted.{ascending};
-ghost use Rattle.centering.specs.Letters.{letterOf};
 ghost use Rattle.centering.specs.Lattices.{tripleOf};
-ghost use Rattle.group_record.specs.Reading.{isItem, itemBefore, areItems, readOf, readFirstOf};
+ghost use Rattle.group_record.specs.Reading.{operationOfItem, isItem, itemBefore, areItems, readOf, readFirstOf};
+ghost use mathlib.Core.List.{map};
+ghost use Rattle.layer_group.specs.Layers.{isLayer};
+ghost use Rattle.group_record.specs.Signs.{layersIf};
 ghost use Rattle.group_record.specs.Editions.{fromEnd};
 ghost use Rattle.group_record.specs.BothEditions.{widthIn};
 ghost use Rattle.group_record.specs.Rules.{lengthFits};
@@ -20,8 +22,10 @@ use super::allowed::is_allowed;
 use super::items::item_at;
 use super::items::items_length;
 use super::items::operation_at;
+use super::sign::Sign;
 use centering::Centering;
 use centering::Letter;
+use layer_group::is_layer;
 use operation::Translation;
 use operation::product::identity;
 
@@ -29,7 +33,7 @@ use operation::product::identity;
 struct Found {
     answer: Reading,
     edition: Edition,
-    centering: Centering,
+    sign: Sign,
     count: usize,
     start: usize,
 }
@@ -51,13 +55,13 @@ pub fn read_first_record(bytes: &[u8]) -> RecordGroup
 // Operations are laid out in one place for every answer, so that the code for 48 slots stands once.
 fn lay_found(bytes: &[u8], found: Found) -> RecordGroup
     requires { ⌜ (found .count ≤ 48) × (found .start + widthIn (found .edition) * found .count ≤ length (now bytes)) ⌝ }
-    ensures { λ r. ⌜ r ≡ laidOut (found .answer) (found .edition) (found .centering) (found .count) (drop (found .start) (now (bytes .entry))) ⌝ }
+    ensures { λ r. ⌜ r ≡ laidOut (found .answer) (found .edition) (found .sign) (found .count) (drop (found .start) (now (bytes .entry))) ⌝ }
 {
     let start = found.start;
     let answer = found.answer;
     let edition = found.edition;
-    let c = found.centering;
-    laid_out(&bytes[start..], answer, edition, c, found.count)
+    let sign = found.sign;
+    laid_out(&bytes[start..], answer, edition, sign, found.count)
 }
 
 fn find(bytes: &[u8]) -> Found
@@ -96,7 +100,7 @@ fn nothing(why: Refusal) -> Found
     Found {
         answer: Reading::Refused(why),
         edition: Edition::First,
-        centering: Centering::P,
+        sign: Sign::Plain(Centering::P),
         count: 0,
         start: 0,
     }
@@ -112,17 +116,24 @@ fn from_end(bytes: &[u8], k: usize) -> u8
 
 fn find_lettered(bytes: &[u8], edition: Edition) -> Found
     requires { ⌜ 9 ≤ length (now bytes) ⌝ }
-    ensures { λ r. ⌜ Stands (now (bytes .entry)) r (readLettered edition (letterOf (fromEnd (now (bytes .entry)) 5)) (now (bytes .entry))) ⌝ }
+    ensures { λ r. ⌜ Stands (now (bytes .entry)) r (readLettered edition (fromEnd (now (bytes .entry)) 5) (now (bytes .entry))) ⌝ }
 {
-    let Letter::Is(c) = Centering::from_byte(from_end(bytes, 5)) else {
+    let letter = from_end(bytes, 5);
+    if letter == b'p' {
+        return find_counted(bytes, edition, Sign::SmallP);
+    }
+    if letter == b'c' {
+        return find_counted(bytes, edition, Sign::SmallC);
+    }
+    let Letter::Is(c) = Centering::from_byte(letter) else {
         return nothing(Refusal::WrongLetter);
     };
-    find_counted(bytes, edition, c)
+    find_counted(bytes, edition, Sign::Plain(c))
 }
 
-fn find_counted(bytes: &[u8], edition: Edition, c: Centering) -> Found
+fn find_counted(bytes: &[u8], edition: Edition, sign: Sign) -> Found
     requires { ⌜ 9 ≤ length (now bytes) ⌝ }
-    ensures { λ r. ⌜ Stands (now (bytes .entry)) r (readCounted edition c (fromEnd (now (bytes .entry)) 3) (now (bytes .entry))) ⌝ }
+    ensures { λ r. ⌜ Stands (now (bytes .entry)) r (readCounted edition sign (fromEnd (now (bytes .entry)) 3) (now (bytes .entry))) ⌝ }
 {
     let size = bytes.len();
     let n = from_end(bytes, 3) as usize;
@@ -131,16 +142,21 @@ fn find_counted(bytes: &[u8], edition: Edition, c: Centering) -> Found
         return nothing(Refusal::WrongLength);
     }
     let start = size - stated;
+    let c = sign.lattice();
+    let small = sign.is_small();
     if !are_items(&bytes[start..], edition, c, n) {
         return nothing(Refusal::WrongItem);
     }
     if !is_allowed(&bytes[start..], edition, c, n) {
         return nothing(Refusal::NotAllowed);
     }
+    if !are_layers(&bytes[start..], edition, small, n) {
+        return nothing(Refusal::NotAllowed);
+    }
     Found {
         answer: Reading::Accepted,
         edition,
-        centering: c,
+        sign,
         count: n,
         start,
     }
@@ -228,9 +244,34 @@ fn codes_ascend(bytes: &[u8], edition: Edition, n: usize) -> bool
     true
 }
 
-fn laid_out(bytes: &[u8], answer: Reading, edition: Edition, c: Centering, n: usize) -> RecordGroup
+// Under a small letter every operation is one of a layer.
+fn are_layers(bytes: &[u8], edition: Edition, small: bool, n: usize) -> bool
     requires { ⌜ (n ≤ 48) × (widthIn edition * n ≤ length (now bytes)) ⌝ }
-    ensures { λ r. ⌜ r ≡ laidOut answer edition c n (now (bytes .entry)) ⌝ }
+    ensures { λ r. ⌜ r ≡ layersIf small (map operationOfItem (itemsOf edition n (now (bytes .entry)))) ⌝ }
+{
+    if !small {
+        return true;
+    }
+    all_layers(bytes, edition, n)
+}
+
+fn all_layers(bytes: &[u8], edition: Edition, n: usize) -> bool
+    requires { ⌜ (n ≤ 48) × (widthIn edition * n ≤ length (now bytes)) ⌝ }
+    ensures { λ r. ⌜ r ≡ all (λ i. isLayer (operationOfItem i)) (itemsOf edition n (now (bytes .entry))) ⌝ }
+{
+    let mut i = 0usize;
+    while i < n {
+        if !is_layer(operation_at(bytes, edition, i)) {
+            return false;
+        }
+        i += 1;
+    }
+    true
+}
+
+fn laid_out(bytes: &[u8], answer: Reading, edition: Edition, sign: Sign, n: usize) -> RecordGroup
+    requires { ⌜ (n ≤ 48) × (widthIn edition * n ≤ length (now bytes)) ⌝ }
+    ensures { λ r. ⌜ r ≡ laidOut answer edition sign n (now (bytes .entry)) ⌝ }
 {
     let mut operations = [identity(); 48];
     let mut i = 0usize;
@@ -241,7 +282,8 @@ fn laid_out(bytes: &[u8], answer: Reading, edition: Edition, c: Centering, n: us
     RecordGroup {
         answer,
         edition,
-        centering: c,
+        layer: sign.is_small(),
+        centering: sign.lattice(),
         count: n,
         operations,
     }

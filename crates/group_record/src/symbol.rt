@@ -19,7 +19,8 @@ pub fn write_record(text: &[u8], out: &mut [u8], start: usize) -> SymbolRecord
             let n = group.count;
             let c = group.centering;
             let operations = group.operations;
-            if !place_group(out, start, Edition::First, c, operations, n) {
+            let letter = c.byte();
+            if !place_group(out, start, Edition::First, letter, c, operations, n) {
                 return SymbolRecord::NoRoom;
             }
             SymbolRecord::Written(n)

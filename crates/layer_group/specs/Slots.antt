@@ -14,12 +14,10 @@ use Rattle.centering.specs.declared.Centering.{Centering}
 use Rattle.centering.specs.declared.Centering.the-variants.{P, A, B, C, I, R, F, H}
 use Rattle.hall_symbol.specs.Bytes.{whitespace}
 use Rattle.hall_symbol.specs.Walk.{read-long}
-use Rattle.hall_symbol.specs.declared.refusal.Refusal.the-variants.{TooLong}
 use Rattle.space_group.specs.Resuming.{at-any}
 use Rattle.symbol_group.specs.Answers.{symbolAnswer}
 use Rattle.symbol_group.specs.Slots.{symbol-slots}
 use Rattle.symbol_group.specs.declared.refusal.Refusal as plain-refusal
-use Rattle.symbol_group.specs.declared.refusal.Refusal.the-variants.{Text}
 use Rattle.symbol_group.specs.declared.Answer as plain
 use Rattle.symbol_group.specs.declared.Answer.the-variants as plain-answer
 use Rattle.symbol_group.specs.declared.SymbolGroup.{SymbolGroup}
@@ -61,10 +59,10 @@ capitalised-length (b ∷ s) = go (whitespace b) (capitalised-length s)
     go false e = token-length (b ∷ s)
 
 -- ---- from the plain symbol
--- Over 80 bytes.
-pub layer-long : (text : List ℕ) → 80 < length text → refusedAnswer (Symbol (Text TooLong)) ≡ layerAnswer text
-unfolding layerAnswer symbolAnswer
-layer-long text h = rw (read-long (capitalised text) (rw (capitalised-length text) h))
+-- Over 80 bytes the text is refused as its copy is.
+pub plain-long : (text : List ℕ) → 80 < length text → symbolAnswer text ≡ symbolAnswer (capitalised text)
+unfolding symbolAnswer
+plain-long text h = rw (read-long text h, read-long (capitalised text) (rw (capitalised-length text) h))
 
 module _ (text : List ℕ) (g : SymbolGroup) (e : g ≡ symbolAnswer (capitalised text)) where
   -- The plain symbol is refused,

@@ -1,9 +1,11 @@
 // The group of a layer Hall symbol: order, letter and operations in list order, or the refusal. A layer symbol is read as the plain symbol with its letter
 // in capitals, and its group must be one of a layer.
-// Ported from data/layer_hall_symbol.rs of moyo 0.21.0 (`LayerHallSymbol`), and changed: one call from the text, numbered refusals, and the layer rules.
+// Ported from data/hall_symbol.rs of moyo 0.21.0 (`LayerHallSymbol`), and changed: one call from the text, numbered refusals, and the layer rules.
 ghost use mathlib.Core.Path.{_≡_};
 ghost use Prim.Native.Nat.{_≤_};
 ghost use lib.ListN.{take};
+ghost use Rattle.symbol_group.specs.Answers.{symbolAnswer};
+ghost use Rattle.layer_group.specs.Capitals.{capitalised};
 ghost use Rattle.layer_group.specs.Layers.{isLayer, front};
 ghost use Rattle.layer_group.specs.Answers.{refusedAnswer, layerAnswer, orderOf, letterOf, operationAt};
 
@@ -62,7 +64,7 @@ fn refused(refusal: Refusal) -> LayerGroup
 }
 
 // Zero in the four entries that mix z with x or y, and no translation along z where the zz entry is 1. A digit is an entry plus one.
-fn is_layer(o: Operation) -> bool
+pub fn is_layer(o: Operation) -> bool
     ensures { λ r. ⌜ r ≡ isLayer o ⌝ }
 {
     let r = o.rotation;
@@ -104,18 +106,23 @@ fn first_off(n: usize, operations: [Operation; 48]) -> usize
     at
 }
 
+// The group of the text with its capital letter. A text of over 80 bytes is refused by the plain reader as it stands.
+pub fn plain(text: &[u8]) -> SymbolGroup
+    ensures { λ r. ⌜ r ≡ symbolAnswer (capitalised (now (text .entry))) ⌝ }
+{
+    let n = text.len();
+    if 80 < n {
+        return SymbolGroup::new(text);
+    }
+    let copy = capitals::capitals(text);
+    SymbolGroup::new(&copy[..n])
+}
+
 impl LayerGroup {
     pub fn new(text: &[u8]) -> LayerGroup
         ensures { λ r. ⌜ r ≡ layerAnswer (now (text .entry)) ⌝ }
     {
-        let n = text.len();
-        if 80 < n {
-            return refused(Refusal::Symbol(symbol_group::refusal::Refusal::Text(
-                hall_symbol::refusal::Refusal::TooLong,
-            )));
-        }
-        let copy = capitals::capitals(text);
-        let g = SymbolGroup::new(&copy[..n]);
+        let g = plain(text);
         let answer = g.answer;
         match answer {
             symbol_group::Answer::Refused(refusal) => refused(Refusal::Symbol(refusal)),
@@ -141,11 +148,19 @@ impl LayerGroup {
 pub fn order(text: &[u8]) -> LayerOrder
     ensures { λ r. ⌜ r ≡ orderOf (now (text .entry)) ⌝ }
 {
-    let g = LayerGroup::new(text);
+    let g = plain(text);
     let answer = g.answer;
     match answer {
-        Answer::Group => LayerOrder::Is(g.count),
-        Answer::Refused(refusal) => LayerOrder::Refused(refusal),
+        symbol_group::Answer::Refused(refusal) => LayerOrder::Refused(Refusal::Symbol(refusal)),
+        symbol_group::Answer::Group => {
+            let count = g.count;
+            let operations = g.operations;
+            let off = first_off(count, operations);
+            if off < count {
+                return LayerOrder::Refused(Refusal::NoLayer(off));
+            }
+            LayerOrder::Is(count)
+        }
     }
 }
 
@@ -153,11 +168,17 @@ pub fn order(text: &[u8]) -> LayerOrder
 pub fn letter(text: &[u8]) -> LayerLetter
     ensures { λ r. ⌜ r ≡ letterOf (now (text .entry)) ⌝ }
 {
-    let g = LayerGroup::new(text);
+    let g = plain(text);
     let answer = g.answer;
     match answer {
-        Answer::Refused(refusal) => LayerLetter::Refused(refusal),
-        Answer::Group => {
+        symbol_group::Answer::Refused(refusal) => LayerLetter::Refused(Refusal::Symbol(refusal)),
+        symbol_group::Answer::Group => {
+            let count = g.count;
+            let operations = g.operations;
+            let off = first_off(count, operations);
+            if off < count {
+                return LayerLetter::Refused(Refusal::NoLayer(off));
+            }
             let centering = g.centering;
             LayerLetter::Is(centering.byte() + 32)
         }
@@ -168,15 +189,20 @@ pub fn letter(text: &[u8]) -> LayerLetter
 pub fn operation_at(text: &[u8], index: usize) -> LayerOperation
     ensures { λ r. ⌜ r ≡ operationAt (now (text .entry)) index ⌝ }
 {
-    let g = LayerGroup::new(text);
+    let g = plain(text);
     let answer = g.answer;
     match answer {
-        Answer::Refused(refusal) => LayerOperation::Refused(refusal),
-        Answer::Group => {
-            if g.count <= index {
+        symbol_group::Answer::Refused(refusal) => LayerOperation::Refused(Refusal::Symbol(refusal)),
+        symbol_group::Answer::Group => {
+            let count = g.count;
+            let operations = g.operations;
+            let off = first_off(count, operations);
+            if off < count {
+                return LayerOperation::Refused(Refusal::NoLayer(off));
+            }
+            if count <= index {
                 return LayerOperation::PastEnd;
             }
-            let operations = g.operations;
             LayerOperation::Operation(operations[index])
         }
     }

@@ -10,8 +10,8 @@ read-record-requires c κs = search needs
 enum-told : tie.Need-enum-told
 enum-told c = search needs
 
-byte-requires : tie.Need-byte-requires
-byte-requires c κs = search needs
+letter-byte-requires : tie.Need-letter-byte-requires
+letter-byte-requires c κs = search needs
 
 cast-result : tie.Need-cast-result
 cast-result c = search needs
@@ -23,7 +23,7 @@ refused-record-requires : tie.Need-refused-record-requires
 refused-record-requires c κs = search needs
 
 returns : tie.Need-returns
-returns c = c .byte .ensures ∙ rw (← (c .before .before .before .read-record .ensures), c .before .enum-told .given .1)
+returns c = c .letter-byte .ensures ∙ rw (← (c .before .before .before .read-record .ensures), c .before .enum-told .given .1)
 
 returns-2 : tie.Need-returns-2
 returns-2 c = c .refused-record .ensures ∙ rw (← (c .before .before .before .before .read-record .ensures), c .before .before .answer .given .1)
@@ -34,7 +34,7 @@ symmetry-record-letter-spec =
     (tie.spec
     read-record-requires
     enum-told
-    byte-requires
+    letter-byte-requires
     cast-result
     enum-known-answer
     refused-record-requires

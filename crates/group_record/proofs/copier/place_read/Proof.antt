@@ -6,7 +6,11 @@ use Rattle.group_record.proofs.copier.place_read.Statement.{statement}
 use Rattle.group_record.proofs.copier.place_read.Tie as tie
 use Rattle.group_record.proofs.copier.place_read.Reads as reads
 use Rattle.group_record.proofs.copier.place_read.Lts as lts
+use Rattle.group_record.proofs.letter_byte.Reads as letter-byte-reads
 use Rattle.group_record.proofs.writer.place_group.Reads as place-group-reads
+
+letter-byte-requires : tie.Need-letter-byte-requires
+letter-byte-requires c κs = search needs
 
 place-group-requires : tie.Need-place-group-requires
 place-group-requires c κs = search needs
@@ -18,7 +22,7 @@ returns : tie.Need-returns
 returns c =
     let placed = c .before .before .before .place-group in
     let none = sym (placed .ensures .0) ∙ not-true (placed .result) (c .if1 .taken) in
-    (rw none, placed .ensures .1)
+    (rw none, rw (← (c .before .before .before .before .before .letter-byte .ensures)) (placed .ensures .1))
 
 same-length-2 : tie.Need-same-length-2
 same-length-2 c = search needs
@@ -27,8 +31,8 @@ returns-2 : tie.Need-returns-2
 returns-2 c =
     let placed = c .before .before .before .place-group in
     let room = sym (placed .ensures .0) ∙ not-false (placed .result) (c .if1 .left) in
-    (rw room, placed .ensures .1)
+    (rw room, rw (← (c .before .before .before .before .before .letter-byte .ensures)) (placed .ensures .1))
 
 pub place-read-spec : {M : Type 1} → statement M
 place-read-spec =
-    tie.close (tie.spec place-group-requires same-length returns same-length-2 returns-2)
+    tie.close (tie.spec letter-byte-requires place-group-requires same-length returns same-length-2 returns-2)

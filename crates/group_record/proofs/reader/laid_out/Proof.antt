@@ -11,13 +11,15 @@ use Rattle.group_record.proofs.reader.laid_out.Tie as tie
 use Rattle.group_record.proofs.reader.laid_out.Reads as reads
 use Rattle.group_record.proofs.reader.laid_out.Lts as lts
 use Rattle.group_record.proofs.items.operation_at.Reads as operation-at-reads
+use Rattle.group_record.proofs.sign.Sign.is_small.Reads as is-small-reads
+use Rattle.group_record.proofs.sign.Sign.lattice.Reads as lattice-reads
 use Rattle.operation.proofs.product.identity.Reads as identity-reads
 
 abbrev Inv-loop : tie.InvT-loop
-Inv-loop bytes answer edition c n operations₀ i₀ operations i = (i ≤ n) × (operations ≡ filledTo edition n bytes i)
+Inv-loop bytes answer edition sign n operations₀ i₀ operations i = (i ≤ n) × (operations ≡ filledTo edition n bytes i)
 
 abbrev μ-loop : tie.MeasureT-loop
-μ-loop bytes answer edition c n operations₀ i₀ operations i = n - i
+μ-loop bytes answer edition sign n operations₀ i₀ operations i = n - i
 
 identity-requires : tie.Need-identity-requires Inv-loop μ-loop
 identity-requires c κs = search needs
@@ -48,13 +50,19 @@ loop-again c =
       rw (l .inv .1, c .operation-at .ensures) (filled-next (a .edition) (a .n) (a .bytes .now) (l .i) (omega arith) (omega arith)),
     )
 
+is-small-requires : tie.Need-is-small-requires Inv-loop μ-loop
+is-small-requires c κs = search needs
+
+lattice-requires : tie.Need-lattice-requires Inv-loop μ-loop
+lattice-requires c κs = search needs
+
 returns : tie.Need-returns Inv-loop μ-loop
 unfolding laidOut
 returns c =
-    let a = c .before .before .before .before .args in
-    let l = c .before .loop in
+    let a = c .before .before .before .before .before .before .args in
+    let l = c .before .before .before .loop in
     let done = l .inv .1 ∙ filled-end (a .edition) (a .n) (a .bytes .now) (l .i) (omega arith) (omega arith) in
-    λ k. record { answer = a .answer; edition = a .edition; centering = a .c; count = a .n; operations = done k }
+    λ k. record { answer = a .answer; edition = a .edition; layer = c .before .is-small .ensures k; centering = c .lattice .ensures k; count = a .n; operations = done k }
 
 pub laid-out-spec : {M : Type 1} → statement M
 laid-out-spec =
@@ -70,4 +78,6 @@ laid-out-spec =
     add-i
     loop-less
     loop-again
+    is-small-requires
+    lattice-requires
     returns)

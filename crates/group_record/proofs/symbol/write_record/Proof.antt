@@ -1,6 +1,10 @@
 -- The symbol's answer decides, then whether there was room; an accepted symbol's operations may be written.
-use Rattle.group_record.specs.Record.{recordOf, recordBy}
-use mathlib.Core.Path.{_≡_, sym, _∙_}
+use Rattle.group_record.specs.Record.{recordIn, recordOf}
+use Rattle.group_record.specs.FirstEdition.{firstEdition}
+use Rattle.group_record.specs.Places.{placedIn}
+use mathlib.Core.Path.{_≡_, sym, _∙_, ap}
+use Prim.Native.Nat.{ℕ}
+use lib.ListN.{take}
 use mathlib.Core.Bool.{Bool, true, false, cond}
 use borrow.Author.Tests.{not-true, not-false}
 use Rattle.group_record.specs.SymbolRecords.{symbolRecordOf, symbolBufferOf, refused-by, accepted-by}
@@ -11,6 +15,7 @@ use Rattle.group_record.proofs.symbol.write_record.Statement.{statement
 use Rattle.group_record.proofs.symbol.write_record.Tie as tie
 use Rattle.group_record.proofs.symbol.write_record.Reads as reads
 use Rattle.group_record.proofs.symbol.write_record.Lts as lts
+use Rattle.centering.proofs.Centering.byte.Reads as byte-reads
 use Rattle.group_record.proofs.writer.place_group.Reads as place-group-reads
 use Rattle.symbol_group.proofs.SymbolGroup.new.Reads as new-reads
 
@@ -23,19 +28,22 @@ enum-known-answer c = search needs
 enum-told : tie.Need-enum-told
 enum-told c = search needs
 
+byte-requires : tie.Need-byte-requires
+byte-requires c κs = search needs
+
 place-group-requires : tie.Need-place-group-requires
-place-group-requires c κs = symbol-writable (c .before .before .before .before .before .before .before .args .text .now) (c .before .before .before .before .new .result) (c .before .before .before .before .new .ensures) (c .before .before .enum-told .given .1)
+place-group-requires c κs = symbol-writable (c .before .before .before .before .before .before .before .before .args .text .now) (c .before .before .before .before .before .new .result) (c .before .before .before .before .before .new .ensures) (c .before .before .before .enum-told .given .1)
 
 same-length : tie.Need-same-length
 same-length c = search needs
 
 -- What is answered, by what the writer answered.
-placed-answer : (c : tie.After-place-group) (b : Bool) → c .place-group .result ≡ b → (cond b (Written (c .before .before .before .before .before .new .result .count)) NoRoom ≡ symbolRecordOf (c .before .before .before .before .before .before .before .before .args .text .now) (c .before .before .before .before .before .before .before .before .args .out .now) (c .before .before .before .before .before .before .before .before .args .start)) × (c .place-group .last .0 ≡ symbolBufferOf (c .before .before .before .before .before .before .before .before .args .text .now) (c .before .before .before .before .before .before .before .before .args .out .now) (c .before .before .before .before .before .before .before .before .args .start))
-unfolding recordOf recordBy
+placed-answer : (c : tie.After-place-group) (b : Bool) → c .place-group .result ≡ b → (cond b (Written (c .before .before .before .before .before .before .new .result .count)) NoRoom ≡ symbolRecordOf (c .before .before .before .before .before .before .before .before .before .args .text .now) (c .before .before .before .before .before .before .before .before .before .args .out .now) (c .before .before .before .before .before .before .before .before .before .args .start)) × (c .place-group .last .0 ≡ symbolBufferOf (c .before .before .before .before .before .before .before .before .before .args .text .now) (c .before .before .before .before .before .before .before .before .before .args .out .now) (c .before .before .before .before .before .before .before .before .before .args .start))
+unfolding recordOf
 placed-answer c b told =
-    let a = c .before .before .before .before .before .before .before .before .args in
-    let new = c .before .before .before .before .before .new in
-    accepted-by (a .text .now) (a .out .now) (a .start) (new .result) (new .ensures) (c .before .before .before .enum-told .given .1) b (sym told ∙ c .place-group .ensures .0) _ (c .place-group .ensures .1)
+    let a = c .before .before .before .before .before .before .before .before .before .args in
+    let new = c .before .before .before .before .before .before .new in
+    accepted-by (a .text .now) (a .out .now) (a .start) (new .result) (new .ensures) (c .before .before .before .before .enum-told .given .1) b (sym told ∙ c .place-group .ensures .0) _ (c .place-group .ensures .1 ∙ ap (λ (b : ℕ). placedIn (a .out .now) (a .start) (recordIn firstEdition b (new .result .centering) (take (new .result .count) (new .result .operations)))) (c .before .before .byte .ensures))
 
 returns : tie.Need-returns
 returns c = placed-answer (c .before .before .before) false (not-true _ (c .if1 .taken))
@@ -59,6 +67,7 @@ write-record-spec =
     new-requires
     enum-known-answer
     enum-told
+    byte-requires
     place-group-requires
     same-length
     returns
