@@ -11,31 +11,17 @@ use lib.ListN.{length, length-append}
 use Rattle.hall_symbol.specs.Bytes.{whitespace, solid, opening}
 use Rattle.hall_symbol.specs.Runs.{Every, Stops}
 use Rattle.hall_symbol.specs.Cut.{solid-not-whitespace}
-use Rattle.magnetic_symbol.specs.Reversals.{prime, ends, blankedFrom, flagsFrom}
-use Rattle.magnetic_symbol.specs.Told.{unprimed}
+use Rattle.magnetic_symbol.specs.TimeReversals.{prime, unprimed, Reversed, ReadAs, reversal, same, gapOf}
+use Rattle.magnetic_symbol.specs.Reversals.{blankedFrom, flagsFrom}
 use Rattle.magnetic_symbol.specs.TokenCopies.{marked-copy, marked-flags, plain-copy, plain-flags, plain-end, plain-stop, last-copy, last-flag, inner-copy, inner-flag}
 use Rattle.magnetic_symbol.specs.declared.reversals.Mode.the-variants.{Between, Unmarked, Marked}
 
--- The token t is u with a time reversal behind it.
-pub record Reversed (t u : List ℕ) : Type 0 where
-  pub text : t ≡ u ++ (39 ∷ [])
-  pub some : 0 < length u
-  pub only : Every unprimed u
-
--- A token, its copy, and its flag.
-pub data Copied (t : List ℕ) : List ℕ → Bool → Type 0 where
-  reversal : (u : List ℕ) → Reversed t u → Copied t u true
-  same : ((u : List ℕ) → Reversed t u → ⊥) → Copied t t false
-
--- What the copy of a text holds in a token's place: the token's copy, and a space for its time reversal, if it has one.
+-- What the copy of a text holds in a token's place: what the token is read as, and a space for its time reversal, if it has one.
 pub record TokenCopy (t after : List ℕ) : Type 0 where
   pub copy : List ℕ
   pub flag : Bool
-  pub gap : List ℕ
-  pub copied : Copied t copy flag
-  pub blank : Every whitespace gap
-  pub long : length copy + length gap ≡ length t
-  pub bytes : blankedFrom Between (t ++ after) ≡ copy ++ (gap ++ blankedFrom Between after)
+  pub copied : ReadAs t copy flag
+  pub bytes : blankedFrom Between (t ++ after) ≡ copy ++ (gapOf flag ++ blankedFrom Between after)
   pub flags : flagsFrom Between (t ++ after) ≡ flag ∷ flagsFrom Between after
 
 -- ---- the first `'`
@@ -94,7 +80,7 @@ space-blank : whitespace 32 ≡ true
 unfolding whitespace
 space-blank = refl
 
-solid-left : (u v : List ℕ) → Every solid (u ++ v) → Every solid u
+pub solid-left : (u v : List ℕ) → Every solid (u ++ v) → Every solid u
 solid-left [] v h = tt
 solid-left (b ∷ u) v h = (h .0, solid-left u v (h .1))
 
@@ -113,10 +99,7 @@ module _ (after : List ℕ) (stop : Stops solid after) where
       record {
         copy = 39 ∷ t;
         flag = false;
-        gap = [];
         copied = same kept;
-        blank = tt;
-        long = omega arith;
         bytes = start-primed (t ++ after) .0 ∙ marked-copy (39 ∷ t) after h stop;
         flags = start-primed (t ++ after) .1 ∙ marked-flags 39 t after (h .0) (h .1) stop;
       }
@@ -136,10 +119,7 @@ module _ (after : List ℕ) (stop : Stops solid after) where
         record {
           copy = b ∷ t;
           flag = false;
-          gap = [];
           copied = same (λ u r. primed-not (every-right u (39 ∷ []) (subst (Every unprimed) (r .text) k) .0));
-          blank = tt;
-          long = omega arith;
           bytes = start .0 ∙ plain-stop (b ∷ t) after h k stop;
           flags = start .1 ∙ plain-end b t after h k stop;
         }
@@ -153,10 +133,7 @@ module _ (after : List ℕ) (stop : Stops solid after) where
         record {
           copy = b ∷ u;
           flag = true;
-          gap = 32 ∷ [];
           copied = reversal (b ∷ u) (record { text = refl; some = omega arith; only = k });
-          blank = (space-blank, tt);
-          long = omega (arith, length-append u (39 ∷ []));
           bytes = start .0 ∙ ap (λ (l : List ℕ). blankedFrom Unmarked (b ∷ l)) joined ∙ plain-copy (b ∷ u) (39 ∷ after) own k
               ∙ ap (λ (l : List ℕ). b ∷ (u ++ l)) (last-copy after stop);
           flags = start .1 ∙ ap (λ (l : List ℕ). flagsFrom Unmarked (b ∷ l)) joined ∙ plain-flags (b ∷ u) 39 after own k prime-solid
@@ -174,10 +151,7 @@ module _ (after : List ℕ) (stop : Stops solid after) where
         record {
           copy = b ∷ (u ++ (39 ∷ c ∷ v));
           flag = false;
-          gap = [];
           copied = same (λ d r. absurd (not-nil c v (first-prime (b ∷ u) d (c ∷ v) [] k (r .only) (r .text))));
-          blank = tt;
-          long = omega arith;
           bytes = start .0 ∙ ap (λ (l : List ℕ). blankedFrom Unmarked (b ∷ l)) joined ∙ plain-copy (b ∷ u) (39 ∷ c ∷ (v ++ after)) own k
               ∙ ap (λ (l : List ℕ). b ∷ (u ++ l)) (inner-copy c v after tail stop)
               ∙ ap (λ (l : List ℕ). b ∷ l) (sym (append-assoc u (39 ∷ c ∷ v) (blankedFrom Between after)));

@@ -2,7 +2,7 @@
 -- plain reader reads it.
 use mathlib.Core.Path.{_≡_, refl, sym, _∙_, ap}
 use mathlib.Core.Logic.{_↔_}
-use mathlib.Core.Bool.{Bool, true, false, cond, not}
+use mathlib.Core.Bool.{Bool, true, false, cond}
 use mathlib.Core.List.{List, [], _∷_}
 use Prim.Native.Nat.{ℕ}
 use borrow.Author.Tests.{not-true}
@@ -18,7 +18,8 @@ use Rattle.hall_symbol.specs.Answers.{answer-once, answer-spells, answer-refuse
 use Rattle.hall_symbol.specs.Told.{Tells, eight-exactly}
 use Rattle.hall_symbol.specs.declared.refusal.Refusal.{Refusal}
 use Rattle.hall_symbol.specs.declared.Answer.the-variants.{Refused}
-use Rattle.magnetic_symbol.specs.Reversals.{prime, after, ends, reverses, blankedFrom, blanked, flagsFrom, flagsOf, flagSlots}
+use Rattle.magnetic_symbol.specs.TimeReversals.{prime, unprimed}
+use Rattle.magnetic_symbol.specs.Reversals.{after, ends, reverses, blankedFrom, blanked, flagsFrom, flagsOf, flagSlots}
 use Rattle.magnetic_symbol.specs.Answer.{keptFlags, magneticAnswer}
 use Rattle.magnetic_symbol.specs.declared.MagneticSymbol.{MagneticSymbol}
 use Rattle.magnetic_symbol.specs.declared.reversals.Mode.{Mode}
@@ -53,10 +54,6 @@ pub magnetic-eight : (text : List ℕ) (k : ℕ) → Tells (magneticAnswer text 
 magnetic-eight text k = eight-exactly (blanked text) k
 
 -- ---- texts without time reversals
--- Any byte but `'`.
-abbrev pub unprimed : ℕ → Bool
-unprimed b = not (prime b)
-
 -- Only a `'` is a time reversal.
 pub unprimed-kept : (m : Mode) (b : ℕ) (last : Bool) → prime b ≡ false → reverses m b last ≡ false
 unprimed-kept Before b last h = refl
