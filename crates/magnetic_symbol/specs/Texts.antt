@@ -21,7 +21,7 @@ use Rattle.magnetic_symbol.specs.TimeReversals.{TokensReadAs, none, shif
 use Rattle.magnetic_symbol.specs.TimeReversals as rules
 use Rattle.magnetic_symbol.specs.Reversals.{ends, blankedFrom, blanked, flagsFrom, flagsOf}
 use Rattle.magnetic_symbol.specs.TokenCopies.{both-false, not-solid-whitespace, blank-copy, blank-flags, open-copy, open-flags}
-use Rattle.magnetic_symbol.specs.Tokens.{TokenCopy, token-copy, solid-left}
+use Rattle.magnetic_symbol.specs.Tokens.{TokenCopy, token-copy, every-left}
 use Rattle.magnetic_symbol.specs.declared.reversals.Mode.the-variants.{Before, First, Between}
 
 -- ---- a token is read in one way
@@ -47,7 +47,7 @@ module _ (t : List ℕ) (long : 0 < length t) (whole : Every solid t) where
   read-some u f (same never) = long
 
   pub read-whole : (u : List ℕ) (f : Bool) → ReadAs t u f → Every solid u
-  read-whole u f (reversal _ r) = solid-left u (39 ∷ []) (subst (Every solid) (r .text) whole)
+  read-whole u f (reversal _ r) = every-left solid u (39 ∷ []) (subst (Every solid) (r .text) whole)
   read-whole u f (same never) = whole
 
   pub read-length : (u : List ℕ) (f : Bool) → ReadAs t u f → length u + length (gapOf f) ≡ length t
@@ -55,16 +55,16 @@ module _ (t : List ℕ) (long : 0 < length t) (whole : Every solid t) where
   read-length u f (same never) = omega arith
 
 -- ---- the copy behind the first token
-blank-same : (s : List ℕ) → Every whitespace s → blankedFrom Between s ≡ s
+pub blank-same : (s : List ℕ) → Every whitespace s → blankedFrom Between s ≡ s
 unfolding blankedFrom
 blank-same s h = ap (blankedFrom Between) (sym (append-nil s)) ∙ blank-copy s [] h ∙ append-nil s
 
-blank-none : (s : List ℕ) → Every whitespace s → flagsFrom Between s ≡ []
+pub blank-none : (s : List ℕ) → Every whitespace s → flagsFrom Between s ≡ []
 unfolding flagsFrom
 blank-none s h = ap (flagsFrom Between) (sym (append-nil s)) ∙ blank-flags s [] h
 
 -- A token starts with `(`, or it is an N token.
-opens-or-not : (t : List ℕ) → 0 < length t → Opens t ⊎ Stops opening t
+pub opens-or-not : (t : List ℕ) → 0 < length t → Opens t ⊎ Stops opening t
 opens-or-not [] h = absurd (omega arith)
 opens-or-not (b ∷ t) h = go (opening b) refl
   where
@@ -76,21 +76,21 @@ shift-same : (t after : List ℕ) → Every solid t → Opens t → (blankedFrom
 shift-same [] after h o = absurd o
 shift-same (b ∷ t) after h o = (open-copy b (t ++ after) (h .0) o, open-flags b (t ++ after) (h .0) o)
 
-copy-of : (t after : List ℕ) → 0 < length t → Every solid t → Stops opening t → Stops solid after → TokenCopy t after
+pub copy-of : (t after : List ℕ) → 0 < length t → Every solid t → Stops opening t → Stops solid after → TokenCopy t after
 copy-of [] after l h o k = absurd (omega arith)
 copy-of (b ∷ t) after l h o k = token-copy after k b t h o
 
 module _ (s w t after : List ℕ) (cut : Cut s w t after) where
-  cut-copy : blankedFrom Between s ≡ w ++ blankedFrom Between (t ++ after)
+  pub cut-copy : blankedFrom Between s ≡ w ++ blankedFrom Between (t ++ after)
   cut-copy = ap (blankedFrom Between) (cut .text) ∙ blank-copy w (t ++ after) (cut .blank)
 
-  cut-flags : flagsFrom Between s ≡ flagsFrom Between (t ++ after)
+  pub cut-flags : flagsFrom Between s ≡ flagsFrom Between (t ++ after)
   cut-flags = ap (flagsFrom Between) (cut .text) ∙ blank-flags w (t ++ after) (cut .blank)
 
-  shift-copy : Opens t → blankedFrom Between s ≡ s
+  pub shift-copy : Opens t → blankedFrom Between s ≡ s
   shift-copy o = cut-copy ∙ ap (λ (l : List ℕ). w ++ l) (shift-same t after (cut .whole) o .0) ∙ sym (cut .text)
 
-  shift-flags : Opens t → flagsFrom Between s ≡ []
+  pub shift-flags : Opens t → flagsFrom Between s ≡ []
   shift-flags o = cut-flags ∙ shift-same t after (cut .whole) o .1
 
 -- What the rules say is the copy,
@@ -124,7 +124,7 @@ unreversed-some (suc n) s l = by-first (cut.first-token s) (λ after k. unrevers
             let (later, flags, rest) = shorter after (omega (arith, cut-length s w t after cut, cut .some)) in
             (_, _, token s w t after (c .copy) later (c .flag) flags cut o (c .copied) rest)
 
-unreversed : (s : List ℕ) → Unreversed s (blankedFrom Between s) (flagsFrom Between s)
+pub unreversed : (s : List ℕ) → Unreversed s (blankedFrom Between s) (flagsFrom Between s)
 unreversed s =
     let (copy, flags, u) = unreversed-some (suc (length s)) s (omega arith) in
     let (bytes, said) = unreversed-copy u in
@@ -188,7 +188,7 @@ before-token (b ∷ t) after l h k = (
 )
 
 -- The copy of a cut text.
-text-copy : (s w t after : List ℕ) → Cut s w t after
+pub text-copy : (s w t after : List ℕ) → Cut s w t after
     → (blanked s ≡ w ++ (t ++ blankedFrom Between after)) × (flagsOf s ≡ inversionFlag t ++ flagsFrom Between after)
 text-copy s w t after cut =
     let (bytes, flags) = before-blank w (t ++ after) (cut .blank) in
@@ -197,7 +197,7 @@ text-copy s w t after cut =
       ap flagsOf (cut .text) ∙ flags ∙ given,
     )
 
-text-blank : (s : List ℕ) → Every whitespace s → (blanked s ≡ s) × (flagsOf s ≡ [])
+pub text-blank : (s : List ℕ) → Every whitespace s → (blanked s ≡ s) × (flagsOf s ≡ [])
 unfolding blankedFrom flagsFrom
 text-blank s h =
     let (bytes, flags) = before-blank s [] h in
@@ -228,7 +228,7 @@ taken-off-exactly text copy flags = (
 
 -- ---- the tokens
 -- Whitespace may be put before a cut text.
-cut-later : (gap s w t after : List ℕ) → Every whitespace gap → Cut s w t after → Cut (gap ++ s) (gap ++ w) t after
+pub cut-later : (gap s w t after : List ℕ) → Every whitespace gap → Cut s w t after → Cut (gap ++ s) (gap ++ w) t after
 cut-later gap s w t after h cut =
     record {
       text = ap (λ (l : List ℕ). gap ++ l) (cut .text) ∙ sym (append-assoc gap w (t ++ after));
@@ -242,13 +242,13 @@ space-apart : solid 32 ≡ false
 unfolding solid whitespace
 space-apart = refl
 
-gap-blank : (f : Bool) → Every whitespace (gapOf f)
+pub gap-blank : (f : Bool) → Every whitespace (gapOf f)
 unfolding whitespace
 gap-blank true = (refl, tt)
 gap-blank false = tt
 
 -- What follows a token does so in the copy.
-stays-apart : {s copy : List ℕ} {flags : List Bool} → Unreversed s copy flags → Stops solid s → Stops solid copy
+pub stays-apart : {s copy : List ℕ} {flags : List Bool} → Unreversed s copy flags → Stops solid s → Stops solid copy
 stays-apart (end s h) k = k
 stays-apart (shift s w t after cut o) k = k
 stays-apart (token s [] [] after u later flag flags cut o read rest) k = absurd (omega (arith, cut .some))
@@ -257,7 +257,7 @@ stays-apart (token s [] (b ∷ t) after u later flag flags cut o read rest) k =
 stays-apart (token s (b ∷ w) t after u later flag flags cut o read rest) k = whitespace-not-solid b (cut .blank .0)
 
 -- The token that a cut token is read as is cut out of the copy.
-read-cut : (s w t after u later : List ℕ) (flag : Bool) (flags : List Bool) → Cut s w t after → ReadAs t u flag → Unreversed after later flags
+pub read-cut : (s w t after u later : List ℕ) (flag : Bool) (flags : List Bool) → Cut s w t after → ReadAs t u flag → Unreversed after later flags
     → Cut (w ++ (u ++ (gapOf flag ++ later))) w u (gapOf flag ++ later)
 read-cut s w t after u later flag flags cut read rest =
     record {

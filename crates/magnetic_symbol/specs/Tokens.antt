@@ -25,13 +25,18 @@ pub record TokenCopy (t after : List ℕ) : Type 0 where
   pub flags : flagsFrom Between (t ++ after) ≡ flag ∷ flagsFrom Between after
 
 -- ---- the first `'`
-primed-not : {A : Type 0} → unprimed 39 ≡ true → A
+pub primed-not : {A : Type 0} → unprimed 39 ≡ true → A
 unfolding prime
 primed-not h = absurd (true≢false (sym h))
 
-every-right : (u v : List ℕ) → Every unprimed (u ++ v) → Every unprimed v
-every-right [] v h = h
-every-right (b ∷ u) v h = every-right u v (h .1)
+-- Of bytes that all pass, those in front do and those behind do.
+pub every-left : (f : ℕ → Bool) (u v : List ℕ) → Every f (u ++ v) → Every f u
+every-left f [] v h = tt
+every-left f (b ∷ u) v h = (h .0, every-left f u v (h .1))
+
+pub every-right : (f : ℕ → Bool) (u v : List ℕ) → Every f (u ++ v) → Every f v
+every-right f [] v h = h
+every-right f (b ∷ u) v h = every-right f u v (h .1)
 
 -- What stands behind the first `'` is determined.
 first-prime : (a d v w : List ℕ) → Every unprimed a → Every unprimed d → a ++ (39 ∷ v) ≡ d ++ (39 ∷ w) → v ≡ w
@@ -41,11 +46,11 @@ first-prime (b ∷ a) [] v w h k e = let z : 39 ≡ b = cc in primed-not (subst 
 first-prime (b ∷ a) (c ∷ d) v w h k e = let z : a ++ (39 ∷ v) ≡ d ++ (39 ∷ w) = cc in first-prime a d v w (h .1) (k .1) z
 
 -- Any bytes hold no `'`, or a first one.
-data Split (t : List ℕ) : Type 0 where
+pub data Split (t : List ℕ) : Type 0 where
   all : Every unprimed t → Split t
   at : (u v : List ℕ) → t ≡ u ++ (39 ∷ v) → Every unprimed u → Split t
 
-split : (t : List ℕ) → Split t
+pub split : (t : List ℕ) → Split t
 unfolding prime
 split [] = all tt
 split (b ∷ t) = go (eqb b 39) refl (split t)
@@ -80,14 +85,6 @@ space-blank : whitespace 32 ≡ true
 unfolding whitespace
 space-blank = refl
 
-pub solid-left : (u v : List ℕ) → Every solid (u ++ v) → Every solid u
-solid-left [] v h = tt
-solid-left (b ∷ u) v h = (h .0, solid-left u v (h .1))
-
-solid-right : (u v : List ℕ) → Every solid (u ++ v) → Every solid v
-solid-right [] v h = h
-solid-right (b ∷ u) v h = solid-right u v (h .1)
-
 not-nil : (c : ℕ) (v : List ℕ) → c ∷ v ≡ [] → ⊥
 not-nil c v e = let z = ap length e in absurd (omega arith)
 
@@ -119,7 +116,7 @@ module _ (after : List ℕ) (stop : Stops solid after) where
         record {
           copy = b ∷ t;
           flag = false;
-          copied = same (λ u r. primed-not (every-right u (39 ∷ []) (subst (Every unprimed) (r .text) k) .0));
+          copied = same (λ u r. primed-not (every-right unprimed u (39 ∷ []) (subst (Every unprimed) (r .text) k) .0));
           bytes = start .0 ∙ plain-stop (b ∷ t) after h k stop;
           flags = start .1 ∙ plain-end b t after h k stop;
         }
@@ -129,7 +126,7 @@ module _ (after : List ℕ) (stop : Stops solid after) where
     copy-reversed u h k =
         let start = start-plain b ((u ++ (39 ∷ [])) ++ after) (h .0) o (k .0) in
         let joined = append-assoc u (39 ∷ []) after in
-        let own : Every solid (b ∷ u) = (h .0, solid-left u (39 ∷ []) (h .1)) in
+        let own : Every solid (b ∷ u) = (h .0, every-left solid u (39 ∷ []) (h .1)) in
         record {
           copy = b ∷ u;
           flag = true;
@@ -146,8 +143,8 @@ module _ (after : List ℕ) (stop : Stops solid after) where
     copy-inner u c v h k =
         let start = start-plain b ((u ++ (39 ∷ c ∷ v)) ++ after) (h .0) o (k .0) in
         let joined = append-assoc u (39 ∷ c ∷ v) after in
-        let own : Every solid (b ∷ u) = (h .0, solid-left u (39 ∷ c ∷ v) (h .1)) in
-        let tail : Every solid (c ∷ v) = solid-right u (39 ∷ c ∷ v) (h .1) .1 in
+        let own : Every solid (b ∷ u) = (h .0, every-left solid u (39 ∷ c ∷ v) (h .1)) in
+        let tail : Every solid (c ∷ v) = every-right solid u (39 ∷ c ∷ v) (h .1) .1 in
         record {
           copy = b ∷ (u ++ (39 ∷ c ∷ v));
           flag = false;
