@@ -9,3 +9,4 @@ pub mod Texts
 pub mod FlagSlots
 pub mod Places
 pub mod Told
+pub mod WrongPrimes

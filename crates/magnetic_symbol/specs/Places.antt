@@ -20,7 +20,7 @@ use Rattle.hall_symbol.specs.Spelling.{latticeSpelling, Opens, Begins, lattice,
 use Rattle.magnetic_symbol.specs.TimeReversals.{ReadAs, reversal, same, gapOf, inversionFlag}
 use Rattle.magnetic_symbol.specs.Reversals.{blankedFrom, blanked, flagsFrom, flagsOf}
 use Rattle.magnetic_symbol.specs.Tokens.{every-right}
-use Rattle.magnetic_symbol.specs.Texts.{blank-same, opens-or-not, copy-of, cut-copy, cut-flags, shift-copy, text-copy, text-blank, unreversed, gap-blank, cut-later, read-length, read-cut, stays-apart}
+use Rattle.magnetic_symbol.specs.Texts.{blank-same, opens-or-not, copy-of, cut-copy, cut-flags, shift-copy, text-copy, text-blank, unreversed, gap-blank, cut-later, read-length, read-cut, first-cut}
 use Rattle.magnetic_symbol.specs.declared.reversals.Mode.the-variants.{Between}
 
 -- ---- one cut
@@ -126,8 +126,7 @@ module _ (text : List ℕ) where
       go (cut.blank h) = absurd (blank-uncut _ w _ after (rw (text-blank text h .0) h) k)
       go (cut.token v own behind d) =
           let (bytes, given) = text-copy text v own behind d in
-          let new : Cut (v ++ (own ++ blankedFrom Between behind)) v own (blankedFrom Between behind) =
-          record { text = refl; blank = d .blank; some = d .some; whole = d .whole; apart = stays-apart (unreversed behind) (d .apart) } in
+          let new = first-cut text v own behind d in
           let (places, tokens, behinds) = cut-once _ w (latticeSpelling inverted c) after v own _ (subst (λ (l : List ℕ). Cut l w (latticeSpelling inverted c) after) bytes k) new in
           record {
             before = v ++ own;

@@ -300,6 +300,17 @@ unreversed-tokens (token s w t after u later flag flags cut o read rest) p gap g
     rw (tokens-cut (p + length gap) s w t after cut, tokens-cut p (gap ++ copy) (gap ++ w) u (gapOf flag ++ later) long)
     (token-read here there (tokensFrom (p + length gap + length w + length t) true after) behind flag flags start (rw own o) (rw (own, said) read) all-later)
 
+-- The first token is cut out of the copy as out of the text.
+pub first-cut : (s w t after : List ℕ) → Cut s w t after → Cut (w ++ (t ++ blankedFrom Between after)) w t (blankedFrom Between after)
+first-cut s w t after cut =
+    record {
+      text = refl;
+      blank = cut .blank;
+      some = cut .some;
+      whole = cut .whole;
+      apart = stays-apart (unreversed after) (cut .apart);
+    }
+
 -- Each token of the copy is what the text's token is read as, at the same place: the first as it stands, each N token without its time reversal, and from a
 -- token that starts with `(` on all as they stand.
 pub blanked-tokens : (text : List ℕ) → TextReadAs (tokens text) (tokens (blanked text)) (flagsOf text)
@@ -311,7 +322,7 @@ blanked-tokens text = go (cut.first-token text)
         let (bytes, given) = text-copy text w t after cut in
         let later = blankedFrom Between after in
         let rest = unreversed after in
-        let new : Cut (w ++ (t ++ later)) w t later = record { text = refl; blank = cut .blank; some = cut .some; whole = cut .whole; apart = stays-apart rest (cut .apart) } in
+        let new = first-cut text w t after cut in
         let here = tokenAt (0 + length w) (t ++ after) in
         let there = tokenAt (0 + length w) (t ++ later) in
         let own : bytesOf here ≡ t = cut-word text w t after cut in

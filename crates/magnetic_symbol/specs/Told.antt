@@ -165,24 +165,3 @@ unprimed-same text h = go (readSymbol text) refl
         → _≡_ {A = MagneticSymbol} (magneticAnswer text) (record { symbol = answerOf (readSymbol text); flags = replicate 9 false })
     go (symbol c gs) e = rw (own, e, slots-false (flagsOf text) (unprimed-flags Before text h))
     go (refusal r) e = rw (own, e)
-
--- ---- examples
--- `P 1a'`
-pub example : blanked (80 ∷ 32 ∷ 49 ∷ 97 ∷ 39 ∷ []) ≡ 80 ∷ 32 ∷ 49 ∷ 97 ∷ 32 ∷ []
-unfolding blankedFrom whitespace opening prime
-example = refl
-
-pub example-flags : flagsOf (80 ∷ 32 ∷ 49 ∷ 97 ∷ 39 ∷ []) ≡ true ∷ []
-unfolding flagsFrom whitespace opening prime
-example-flags = refl
-
--- `-P' 2'a 2'' ' -' 2' (1'` : the inversion's flag is false, and only `2'` and `-'` lose a byte.
-pub example-kept : blanked (45 ∷ 80 ∷ 39 ∷ 32 ∷ 50 ∷ 39 ∷ 97 ∷ 32 ∷ 50 ∷ 39 ∷ 39 ∷ 32 ∷ 39 ∷ 32 ∷ 45 ∷ 39 ∷ 32 ∷ 50 ∷ 39 ∷ 32 ∷ 40 ∷ 49 ∷ 39 ∷ [])
-    ≡ 45 ∷ 80 ∷ 39 ∷ 32 ∷ 50 ∷ 39 ∷ 97 ∷ 32 ∷ 50 ∷ 39 ∷ 39 ∷ 32 ∷ 39 ∷ 32 ∷ 45 ∷ 32 ∷ 32 ∷ 50 ∷ 32 ∷ 32 ∷ 40 ∷ 49 ∷ 39 ∷ []
-unfolding blankedFrom whitespace opening prime
-example-kept = refl
-
-pub example-kept-flags : flagsOf (45 ∷ 80 ∷ 39 ∷ 32 ∷ 50 ∷ 39 ∷ 97 ∷ 32 ∷ 50 ∷ 39 ∷ 39 ∷ 32 ∷ 39 ∷ 32 ∷ 45 ∷ 39 ∷ 32 ∷ 50 ∷ 39 ∷ 32 ∷ 40 ∷ 49 ∷ 39 ∷ [])
-    ≡ false ∷ false ∷ false ∷ false ∷ true ∷ true ∷ []
-unfolding flagsFrom whitespace opening prime
-example-kept-flags = refl
