@@ -3,16 +3,15 @@
 -- The idea: a product with its flag is looked for in one half, and there the plain test means what it means of plain motions.
 use mathlib.Core.Path.{_≡_, refl, sym, _∙_, ap, ap₂, subst}
 use mathlib.Core.Logic.{_↔_}
-use mathlib.Core.Bool.{Bool, true, false}
+use mathlib.Core.Bool.{true, false}
 use mathlib.Core.List.{List, map, List·Memᴰ as Mem, Memᴰ·map as mem-map, Memᴰ·of-map as mem-of-map, Memᴰ·cast as mem-cast}
 use Prim.Native.Nat.{ℕ, _<_, _≤_}
 use native.Mathlib.Omega.{arith}
-use lib.Dec.{eqb, leb}
+use lib.Dec.{eqb}
 use borrow.Author.Tests.{leb-true, le-leb}
 use lib.ListN.{length, length-map}
 use Rattle.laws.specs.Motion.{SpaceMotion, compose, identity}
 use Rattle.laws.specs.Distinct.{has}
-use Rattle.laws.specs.Lattice.{all}
 use Rattle.laws.specs.LatticeMaps.{MapsOnto, onto-unimodular}
 use Rattle.group_growth.specs.Flagged.{xor, flaggedBy}
 use Rattle.operation.specs.Composed.{identity-motion}
@@ -37,7 +36,7 @@ use Rattle.group_record.specs.Outcomes.{Good, Meaning, Outcome, told-exactly}
 use Rattle.magnetic_record.specs.SecondEdition.{MagneticItem}
 use Rattle.magnetic_record.specs.Reading.{isMagneticItem, half, productFlag, flaggedPairListed, flaggedMember, isMagneticGroup, magneticRules}
 use Rattle.magnetic_record.specs.Groups.{FlaggedMotion, composeFlagged, Near, MagneticAllowed, flaggedMotion, motionsOf}
-use Rattle.magnetic_record.specs.Halves.{numberOf, half-listed, listed-half, GoodMagnetic, half-good, operationsOf, half-form, flag-number, product-flag, motion-half, half-motion}
+use Rattle.magnetic_record.specs.Halves.{numberOf, listed-half, GoodMagnetic, half-good, operationsOf, half-form, flag-number, product-flag, motion-half, half-motion}
 
 -- ---- 34
 -- An item of a record: a code at most 19682, the smallest triple of its class, and a flag at most 1.
@@ -59,7 +58,8 @@ module _ (c : Centering) (items : List MagneticItem) (g : GoodMagnetic c items) 
 
   -- The product of two listed items is listed with its flag.
   abbrev Product : MagneticItem → MagneticItem → Type 0
-  Product i j = (h : Operation) × Mem h (operationsOf (productFlag (i .flag) (j .flag)) items) × Alike c (compose (motionOf (own i)) (motionOf (own j))) (motionOf h)
+  Product i j =
+      (h : Operation) × Mem h (operationsOf (productFlag (i .flag) (j .flag)) items) × Alike c (compose (motionOf (own i)) (motionOf (own j))) (motionOf h)
 
   again : (n : ℕ) → map itemOf (operationsOf n items) ≡ half n items
   again n = items-of-operations (half n items) (half-good c items g n .code)
@@ -114,7 +114,8 @@ module _ (c : Centering) (items : List MagneticItem) (g : GoodMagnetic c items) 
   listed-product i j m k (h, n, (flag, near)) =
       let (o, w, e) = mem-of-map motionOf (operationsOf (numberOf (h .flag)) items) (motion-half items (g .flag) (h .flag) (h .element) n) in
       let same : numberOf (h .flag) ≡ productFlag (i .flag) (j .flag) = ap numberOf (sym flag) ∙ sym (flags-product i j m k) in
-      (o, subst (λ (n : ℕ). Mem o (operationsOf n items)) same w, subst (λ (b : SpaceMotion). Alike c (compose (motionOf (own i)) (motionOf (own j))) b) (sym e) near)
+      let alike = subst (λ (b : SpaceMotion). Alike c (compose (motionOf (own i)) (motionOf (own j))) b) (sym e) near in
+      (o, subst (λ (n : ℕ). Mem o (operationsOf n items)) same w, alike)
 
   -- The test of 35: good items, 1 to 96 of them, are allowed.
   pub magnetic-test : 1 ≤ length items → length items ≤ 96 → (isMagneticGroup c items ≡ true) ↔ MagneticAllowed c (motionsOf items)
@@ -147,12 +148,12 @@ module _ (c : Centering) (items : List MagneticItem) (g : GoodMagnetic c items) 
           )
 
 -- ---- the reading
-good-magnetic : (c : Centering) (items : List MagneticItem) → Good magneticRules IsMagneticItem tt c items → GoodMagnetic c items
+pub good-magnetic : (c : Centering) (items : List MagneticItem) → Good magneticRules IsMagneticItem tt c items → GoodMagnetic c items
 good-magnetic c items h =
     record { code = λ i m. h .each i m .0 .0; smallest = λ i m. h .each i m .0 .1; flag = λ i m. h .each i m .1; ascend = h .ascend }
 
 -- What its tests mean.
-pub magneticMeaning : Meaning magneticRules
+unfoldable pub magneticMeaning : Meaning magneticRules
 magneticMeaning =
     record {
       IsItem = IsMagneticItem;

@@ -1,9 +1,7 @@
 -- What the record of a magnetic group stands for: flagged motions of space. Their product combines flags by exclusive or; a list of them, with L added, is a
 -- set; and which lists are allowed.
-use mathlib.Core.Path.{_≡_}
-use mathlib.Core.Bool.{Bool}
 use mathlib.Core.List.{List, map, List·Memᴰ as Mem}
-use Prim.Native.Nat.{ℕ, _≤_}
+use Prim.Native.Nat.{_≤_}
 use lib.Dec.{eqb}
 use lib.ListN.{length}
 use Rattle.laws.specs.Matrix.{Unimodular}

@@ -6,5 +6,7 @@ pub mod Halves
 pub mod Record
 pub mod Acceptance
 pub mod MagneticGroups
+pub mod RoundTrips
+pub mod OneRecord
 pub mod OtherEditions
 pub mod Example

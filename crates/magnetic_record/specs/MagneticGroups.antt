@@ -5,25 +5,25 @@ use mathlib.Core.Path.{_≡_, refl, sym, _∙_, ap, ap₂, subst}
 use mathlib.Core.Logic.{_↔_}
 use mathlib.Core.Bool.{Bool, true, false}
 use mathlib.Core.List.{List, map, List·Memᴰ as Mem, Memᴰ·map as mem-map, Memᴰ·cast as mem-cast}
-use Prim.Native.Nat.{ℕ, _≤_}
+use Prim.Native.Nat.{_≤_}
 use lib.ListN.{length, length-map}
 use Rattle.laws.specs.Matrix.{Matrix, Vector, act, act-times, act-unit}
 use Rattle.laws.specs.Motion.{SpaceMotion, compose, identity, product, compose-assoc, identity-compose, compose-identity}
 use Rattle.laws.specs.Lattice.{InLattice}
 use Rattle.laws.specs.LatticeMaps.{MapsInto, MapsOnto, onto-unimodular}
-use Rattle.group_growth.specs.Flagged.{xor, Flagged, flagged≡, flaggedBy, held}
+use Rattle.group_growth.specs.Flagged.{xor, flagged≡, flaggedBy, held}
 use Rattle.operation.specs.Composed.{identity-motion}
 use Rattle.operation.specs.Meaning.{motionOf}
 use Rattle.centering.specs.Letters.{pointsOf}
 use Rattle.centering.specs.Lattices.{points}
 use Rattle.centering.specs.declared.Centering.{Centering}
-use Rattle.group_record.specs.Groups.{Alike, InSet}
+use Rattle.group_record.specs.Groups.{InSet}
 use Rattle.group_record.specs.ListedForm.{alike-reflexive, alike-transitive, form-listing}
 use Rattle.group_record.specs.OneRecord.{translationBy}
 use Rattle.group_record.specs.GroupLaws.{compose-alike, SpaceGroup, Closed, closed-group}
 use Rattle.group_record.specs.Converse.{conjugated, identity-in-form}
 use Rattle.magnetic_record.specs.SecondEdition.{MagneticItem}
-use Rattle.magnetic_record.specs.Groups.{FlaggedMotion, composeFlagged, Near, InMagneticSet, MagneticAllowed, flaggedMotion, motionsOf}
+use Rattle.magnetic_record.specs.Groups.{FlaggedMotion, composeFlagged, InMagneticSet, MagneticAllowed, flaggedMotion, motionsOf}
 use Rattle.magnetic_record.specs.Halves.{numberOf, GoodMagnetic, operationsOf, half-form, motion-half, half-motion}
 
 -- A set of flagged motions that is a group, with the translations of L and no other among those without the flag.
@@ -128,7 +128,8 @@ module _ (c : Centering) (Inside : FlaggedMotion → Type 0) (G : MagneticGroup 
   into f g m k e v h =
       let between = G .product f (composeFlagged (held (translationBy v)) g) m (G .product (held (translationBy v)) g (G .translations v .1 h) k) in
       let moved : composeFlagged f (composeFlagged (held (translationBy v)) g) ≡ held (translationBy (act (f .element .rotation) v)) =
-      flagged≡ _ _ (conjugated (f .element) (g .element) v (ap (λ (d : FlaggedMotion). d .element) e)) (ap (xor (f .flag)) (xor-left (g .flag)) ∙ ap (λ (d : FlaggedMotion). d .flag) e) in
+      flagged≡ _ _ (conjugated (f .element) (g .element) v (ap (λ (d : FlaggedMotion). d .element) e))
+      (ap (xor (f .flag)) (xor-left (g .flag)) ∙ ap (λ (d : FlaggedMotion). d .flag) e) in
       G .translations (act (f .element .rotation) v) .0 (subst Inside moved between)
 
   -- so each rotation maps L onto L.
@@ -140,7 +141,8 @@ module _ (c : Centering) (Inside : FlaggedMotion → Type 0) (G : MagneticGroup 
         λ w h. (
           act (g .element .rotation) w,
           into g f k m d w h,
-          sym (act-times (f .element .rotation) (g .element .rotation) w) ∙ ap (λ (A : Matrix). act A w) (ap (λ (n : FlaggedMotion). n .element .rotation) e) ∙ act-unit w,
+          sym (act-times (f .element .rotation) (g .element .rotation) w)
+              ∙ ap (λ (A : Matrix). act A w) (ap (λ (n : FlaggedMotion). n .element .rotation) e) ∙ act-unit w,
         ),
       )
 
@@ -153,7 +155,8 @@ module _ (c : Centering) (Inside : FlaggedMotion → Type 0) (G : MagneticGroup 
         inverse = λ f m.
             let (g, k, e, d) = G .inverse (held f) m in
             let none : g .flag ≡ false = sym (xor-left (g .flag)) ∙ ap (λ (n : FlaggedMotion). n .flag) e in
-            (g .element, subst (λ (b : Bool). Inside (flaggedBy b (g .element))) none k, ap (λ (n : FlaggedMotion). n .element) e, ap (λ (n : FlaggedMotion). n .element) d);
+            let there = subst (λ (b : Bool). Inside (flaggedBy b (g .element))) none k in
+            (g .element, there, ap (λ (n : FlaggedMotion). n .element) e, ap (λ (n : FlaggedMotion). n .element) d);
         translations = G .translations;
       }
 
@@ -188,7 +191,8 @@ magnetic-group-allowed c items g some few G =
 
     listed : Mem identity (map motionOf (operationsOf 0 items))
     listed =
-        mem-cast (sym identity-motion) (mem-map motionOf (identity-in-form c (operationsOf 0 items) (half-form c items g 0) (half-set c items g false identity .0 (G .holds-identity))))
+        let unflagged = half-set c items g false identity .0 (G .holds-identity) in
+        mem-cast (sym identity-motion) (mem-map motionOf (identity-in-form c (operationsOf 0 items) (half-form c items g 0) unflagged))
 
 -- Allowed exactly if a group: no clause hides in what is allowed.
 pub magnetic-allowed-exactly : (c : Centering) (items : List MagneticItem) → GoodMagnetic c items → 1 ≤ length items → length items ≤ 96

@@ -1,13 +1,12 @@
 -- Records of an edition that a reading does not know: it answers 31, whatever the items are. So edition 2 is refused by the reading of edition 1, and the
 -- magnetic reading refuses edition 1.
-use mathlib.Core.Path.{_≡_, refl, sym, _∙_}
+use mathlib.Core.Path.{_≡_, sym}
 use mathlib.Core.List.{List, _++_, append-assoc}
 use Prim.Native.Nat.{ℕ, _+_, _≤_}
 use native.Mathlib.Omega.{arith}
 use lib.ListN.{length, length-append}
-use Rattle.centering.specs.declared.Centering.{Centering}
 use Rattle.group_record.specs.Items.{bytesOf, bytes-length}
-use Rattle.group_record.specs.Editions.{Edition, totalLength, trailerBytes, framed, framed-length}
+use Rattle.group_record.specs.Editions.{Edition, totalLength, trailerBytes, framed}
 use Rattle.group_record.specs.FirstEdition.{firstEdition}
 use Rattle.group_record.specs.OperationItems.{Item}
 use Rattle.group_record.specs.Rules.{Rules, refused, toldBy}
@@ -25,10 +24,11 @@ pub other-edition : {Item Letter Kind Other : Type 0} (R : Rules Item Letter Kin
 unfolding framed
 other-edition R W E never front letter items long =
     outcome-told R W _ (refused WrongEdition)
-    (wrong-edition (front ++ body) letter (E .number) (length items) _ _ enough (sym (append-assoc front body (trailerBytes (E .width) (E .number) letter (length items)))) never)
+    (wrong-edition (front ++ bytesOf (E .write) items) letter (E .number) (length items) _ _ enough parted never)
   where
-    body : List ℕ
-    body = bytesOf (E .write) items
+    parted : front ++ (bytesOf (E .write) items ++ trailerBytes (E .width) (E .number) letter (length items))
+        ≡ (front ++ bytesOf (E .write) items) ++ trailerBytes (E .width) (E .number) letter (length items)
+    parted = sym (append-assoc front (bytesOf (E .write) items) (trailerBytes (E .width) (E .number) letter (length items)))
 
     enough : R .least ≤ length (front ++ bytesOf (E .write) items) + 5
     enough = omega (arith, long, length-append front (bytesOf (E .write) items), bytes-length (E .width) (E .write) (E .wide) items)

@@ -2,7 +2,6 @@
 -- and then by flag, each translation the smallest of its class; then the trailer.
 use mathlib.Core.Bool.{Bool}
 use mathlib.Core.List.{List, map}
-use mathlib.Core.Path.{_≡_}
 use Prim.Native.Nat.{ℕ}
 use lib.Dec.{ltb}
 use Rattle.laws.specs.Sorted.{sort}

@@ -1,8 +1,10 @@
 -- Edition 2 of the record, for magnetic symbols: six bytes an operation, the five of edition 1 and then the flag. Items ascend by code, and then by flag.
 use mathlib.Core.Path.{_≡_, refl, _∙_, ap}
+use mathlib.Core.Logic.{_⊎_, inl, inr, _↔_}
 use mathlib.Core.List.{List, [], _∷_, _++_, append-assoc}
-use Prim.Native.Nat.{ℕ, _+_, _*_, _≤_}
+use Prim.Native.Nat.{ℕ, _+_, _*_, _<_, _≤_}
 use native.Mathlib.Omega.{arith}
+use native.Mathlib.Decide.{decLt}
 use lib.ListN.{length, getD, take}
 use Rattle.group_record.specs.Items.{Bytes}
 use Rattle.group_record.specs.Editions.{Edition}
@@ -30,6 +32,19 @@ magneticIn bytes = record { plain = itemIn bytes; flag = getD bytes 5 0 }
 abbrev pub magneticKey : MagneticItem → ℕ
 magneticKey i = 2 * i .plain .code + i .flag
 
+-- Keys of items with flags 0 and 1 are compared by code, and where codes are equal by flag.
+pub key-order : (i j : MagneticItem) → i .flag ≤ 1 → j .flag ≤ 1
+    → (magneticKey i < magneticKey j) ↔ ((i .plain .code < j .plain .code) ⊎ ((i .plain .code ≡ j .plain .code) × (i .flag < j .flag)))
+key-order i j h k = (forth, back)
+  where
+    forth : magneticKey i < magneticKey j → (i .plain .code < j .plain .code) ⊎ ((i .plain .code ≡ j .plain .code) × (i .flag < j .flag))
+    forth l = elim (decLt (i .plain .code) (j .plain .code)) [ yes m ↦ inl m | no m ↦ inr (omega arith, omega arith) ]
+
+    back : (i .plain .code < j .plain .code) ⊎ ((i .plain .code ≡ j .plain .code) × (i .flag < j .flag)) → magneticKey i < magneticKey j
+    back (inl l) = omega arith
+    back (inr (e, l)) = omega arith
+
+-- An item takes six bytes.
 pub magnetic-wide : (i : MagneticItem) → length (magneticBytes i) ≡ 6
 unfolding magneticBytes itemBytes
 magnetic-wide i = refl

@@ -22,7 +22,8 @@ filled xs n = record { count = length xs; flags = xs ++ replicate n false }
 one-more : (xs : List Bool) (f : Bool) (n : ℕ) → length xs + suc n ≡ 9 → noted (filled xs (suc n)) true f ≡ filled (xs ++ (f ∷ [])) n
 unfolding filled
 one-more xs f n h =
-    rw (lt-leb 9 (length xs) (omega arith), length-append xs (f ∷ []), set-append-seam xs false (replicate n false) f, append-assoc xs (f ∷ []) (replicate n false))
+    let placed = set-append-seam xs false (replicate n false) f in
+    rw (lt-leb 9 (length xs) (omega arith), length-append xs (f ∷ []), placed, append-assoc xs (f ∷ []) (replicate n false))
 
 noted-filled : (xs fs : List Bool) (n : ℕ) → length xs + (length fs + n) ≡ 9 → notedAll (filled xs (length fs + n)) fs ≡ xs ++ (fs ++ replicate n false)
 unfolding filled
@@ -58,6 +59,7 @@ slots-false fs h = go fs h 0
     go (f ∷ fs) h k = by-room (leb 9 k) (λ j. go fs (h .1) j)
       where
         by-room : (full : Bool) → ((j : ℕ) → notedAll (record { count = j; flags = replicate 9 false }) fs ≡ replicate 9 false)
-            → notedAll (cond full (record { count = k; flags = replicate 9 false }) (record { count = k + 1; flags = set (replicate 9 false) k f })) fs ≡ replicate 9 false
+            → notedAll (cond full (record { count = k; flags = replicate 9 false }) (record { count = k + 1; flags = set (replicate 9 false) k f })) fs
+            ≡ replicate 9 false
         by-room true later = later k
         by-room false later = rw (h .0, set-false 9 k) (later (k + 1))

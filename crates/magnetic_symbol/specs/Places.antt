@@ -127,7 +127,8 @@ module _ (text : List ℕ) where
       go (cut.token v own behind d) =
           let (bytes, given) = text-copy text v own behind d in
           let new = first-cut text v own behind d in
-          let (places, tokens, behinds) = cut-once _ w (latticeSpelling inverted c) after v own _ (subst (λ (l : List ℕ). Cut l w (latticeSpelling inverted c) after) bytes k) new in
+          let there = subst (λ (l : List ℕ). Cut l w (latticeSpelling inverted c) after) bytes k in
+          let (places, tokens, behinds) = cut-once _ w (latticeSpelling inverted c) after v own _ there new in
           record {
             before = v ++ own;
             rest = behind;
@@ -144,7 +145,8 @@ module _ (text : List ℕ) where
   -- A token further.
   stands-next : {found : List Operation} {p : ℕ} {s : List ℕ} (w t after : List ℕ) (o : Operation) → Stands text found p s → Cut s w t after → Stops opening t
       → Stands text (found ++ (o ∷ [])) (p + length w + length t) after
-  stands-next {found} {p} {s} w t after o h k stops = go (own-token (h .rest) (h .gap) w t after (h .blank) (subst (λ (l : List ℕ). Cut l w t after) (h .copy-is) k))
+  stands-next {found} {p} {s} w t after o h k stops =
+      go (own-token (h .rest) (h .gap) w t after (h .blank) (subst (λ (l : List ℕ). Cut l w t after) (h .copy-is) k))
     where
       go : OwnToken (h .rest) (h .gap) w t after → Stands text (found ++ (o ∷ [])) (p + length w + length t) after
       go (own-shift v d place opens) = absurd (not-both t opens stops)
@@ -154,7 +156,8 @@ module _ (text : List ℕ) where
             rest = behind;
             gap = gapOf flag;
             given = h .given ++ (flag ∷ []);
-            text-is = h .text-is ∙ ap (λ (l : List ℕ). h .before ++ l) (d .text ∙ sym (append-assoc v own behind)) ∙ sym (append-assoc (h .before) (v ++ own) behind);
+            text-is = h .text-is ∙ ap (λ (l : List ℕ). h .before ++ l) (d .text ∙ sym (append-assoc v own behind))
+                ∙ sym (append-assoc (h .before) (v ++ own) behind);
             copy-is = next;
             blank = gap-blank flag;
             place = omega (arith, length-append (h .before) (v ++ own), length-append v own, h .place, place, read-length own (d .some) (d .whole) t flag read);

@@ -3,9 +3,9 @@
 -- The idea: a text is cut at its first token, whose copy is known, and what follows is a shorter text.
 use mathlib.Core.Path.{_≡_, refl, sym, _∙_, ap, ap₂, subst}
 use mathlib.Core.Logic.{_⊎_, inl, inr, _↔_}
-use mathlib.Core.Bool.{Bool, true, false, cond, _&&_, true≢false}
+use mathlib.Core.Bool.{Bool, true, false, cond, true≢false}
 use mathlib.Core.List.{List, [], _∷_, _++_, append-assoc, append-nil}
-use Prim.Native.Nat.{ℕ, zero, suc, _+_, _<_, _≤_}
+use Prim.Native.Nat.{ℕ, zero, suc, _+_, _<_}
 use native.Mathlib.Omega.{arith}
 use lib.Dec.{eqb}
 use borrow.Author.Tests.{eqb-true}
@@ -15,8 +15,8 @@ use Rattle.hall_symbol.specs.Runs.{Every, Stops, every-append}
 use Rattle.hall_symbol.specs.Cut.{Cut, FirstToken, solid-not-whitespace, whitespace-not-solid, cut-word, cut-length, tokens-cut, tokens-none}
 use Rattle.hall_symbol.specs.Cut as cut
 use Rattle.hall_symbol.specs.Spelling.{Opens}
-use Rattle.hall_symbol.specs.Tokens.{Token, tokenAt, tokensFrom, tokens, bytesOf}
-use Rattle.magnetic_symbol.specs.TimeReversals.{prime, unprimed, Reversed, ReadAs, reversal, same, gapOf, Unreversed, end, shift, token, inversionFlag, TakenOff, blank, first}
+use Rattle.hall_symbol.specs.Tokens.{tokenAt, tokensFrom, tokens, bytesOf}
+use Rattle.magnetic_symbol.specs.TimeReversals.{ReadAs, reversal, same, gapOf, Unreversed, end, shift, token, inversionFlag, TakenOff, blank, first}
 use Rattle.magnetic_symbol.specs.TimeReversals.{TokensReadAs, none, shift-token, token-read, TextReadAs, no-token}
 use Rattle.magnetic_symbol.specs.TimeReversals as rules
 use Rattle.magnetic_symbol.specs.Reversals.{ends, blankedFrom, blanked, flagsFrom, flagsOf}
@@ -160,7 +160,8 @@ blank-byte : (b : ℕ) (s : List ℕ) → whitespace b ≡ true
 unfolding blankedFrom flagsFrom
 blank-byte b s h = (rw h, rw (h, no-minus b h, both-false (ends s)))
 
-before-blank : (w s : List ℕ) → Every whitespace w → (blankedFrom Before (w ++ s) ≡ w ++ blankedFrom Before s) × (flagsFrom Before (w ++ s) ≡ flagsFrom Before s)
+before-blank : (w s : List ℕ) → Every whitespace w
+    → (blankedFrom Before (w ++ s) ≡ w ++ blankedFrom Before s) × (flagsFrom Before (w ++ s) ≡ flagsFrom Before s)
 before-blank [] s h = (refl, refl)
 before-blank (b ∷ w) s h =
     let (bytes, flags) = before-blank w s (h .1) in

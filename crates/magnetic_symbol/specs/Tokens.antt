@@ -3,14 +3,13 @@
 use mathlib.Core.Path.{_≡_, refl, sym, _∙_, ap, subst}
 use mathlib.Core.Bool.{Bool, true, false, not, true≢false}
 use mathlib.Core.List.{List, [], _∷_, _++_, append-assoc}
-use Prim.Native.Nat.{ℕ, suc, _+_, _<_}
+use Prim.Native.Nat.{ℕ, _+_}
 use native.Mathlib.Omega.{arith}
 use lib.Dec.{eqb}
 use borrow.Author.Tests.{eqb-true}
-use lib.ListN.{length, length-append}
+use lib.ListN.{length}
 use Rattle.hall_symbol.specs.Bytes.{whitespace, solid, opening}
 use Rattle.hall_symbol.specs.Runs.{Every, Stops}
-use Rattle.hall_symbol.specs.Cut.{solid-not-whitespace}
 use Rattle.magnetic_symbol.specs.TimeReversals.{prime, unprimed, Reversed, ReadAs, reversal, same, gapOf}
 use Rattle.magnetic_symbol.specs.Reversals.{blankedFrom, flagsFrom}
 use Rattle.magnetic_symbol.specs.TokenCopies.{marked-copy, marked-flags, plain-copy, plain-flags, plain-end, plain-stop, last-copy, last-flag, inner-copy, inner-flag}

@@ -63,7 +63,8 @@ module _ (text : List ℕ) {found : List Operation} {p : ℕ} {s : List ℕ} (h 
   -- Behind the last N token the text gives none.
   end-flags : (v : Vector) → Ending s v → flagsFrom Between (h .rest) ≡ []
   end-flags v (plain blank) = blank-none (h .rest) (blank-rest (h .rest) (h .gap) (subst (Every whitespace) (h .copy-is) blank))
-  end-flags v (moved {w} {t} {after} _ d shift) = go (own-token (h .rest) (h .gap) w t after (h .blank) (subst (λ (l : List ℕ). Cut l w t after) (h .copy-is) d))
+  end-flags v (moved {w} {t} {after} _ d shift) =
+      go (own-token (h .rest) (h .gap) w t after (h .blank) (subst (λ (l : List ℕ). Cut l w t after) (h .copy-is) d))
     where
       go : OwnToken (h .rest) (h .gap) w t after → flagsFrom Between (h .rest) ≡ []
       go (own-shift u k place opens) = shift-flags (h .rest) u t after k opens

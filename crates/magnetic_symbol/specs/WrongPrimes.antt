@@ -20,7 +20,7 @@ use Rattle.hall_symbol.specs.Bytes.{whitespace, solid, allowed, opening}
 use Rattle.hall_symbol.specs.Runs.{Every, Stops}
 use Rattle.hall_symbol.specs.Cut.{Cut, FirstToken}
 use Rattle.hall_symbol.specs.Cut as cut
-use Rattle.hall_symbol.specs.Spelling.{latticeSpelling, Fit, FirstForbidden, LatticeWrong, Next, TokenRefused}
+use Rattle.hall_symbol.specs.Spelling.{Fit, FirstForbidden, LatticeWrong, Next, TokenRefused}
 use Rattle.hall_symbol.specs.Told.{Tells, one-exactly, two-exactly, three-exactly, four-exactly, eight-exactly}
 use Rattle.magnetic_symbol.specs.TimeReversals.{prime, unprimed, Reversed, ReadAs, reversal, same, TakenOff}
 use Rattle.magnetic_symbol.specs.Reversals.{after, ends, reverses, copiedByte, blankedFrom, blanked, flagsOf}
@@ -104,7 +104,9 @@ module _ (t : List ℕ) (s : Spelling t) where
 -- ---- 8
 module _ (text : List ℕ) (k : ℕ) where
   eight-there : TokenRefused (blanked text) k Primed → WrongPrime text k
-  eight-there h = go (own-token (st .rest) (st .gap) (h .next .w) (h .t) (h .after) (st .blank) (subst (λ (l : List ℕ). Cut l (h .next .w) (h .t) (h .after)) (st .copy-is) (h .next .cut)))
+  eight-there h =
+      let there = subst (λ (l : List ℕ). Cut l (h .next .w) (h .t) (h .after)) (st .copy-is) (h .next .cut) in
+      go (own-token (st .rest) (st .gap) (h .next .w) (h .t) (h .after) (st .blank) there)
     where
       st : Stands text (h .next .found) (h .next .p) (h .next .s)
       st = begins-stands text (h .next .begins)
@@ -118,7 +120,8 @@ module _ (text : List ℕ) (k : ℕ) where
       primed : HasPrime spelled
       primed = h .says .1 .1
 
-      told : (v own behind : List ℕ) → Cut (st .rest) v own behind → length (h .next .w) ≡ length (st .gap) + length v → (flag : Bool) → ReadAs own (h .t) flag → WrongPrime text k
+      told : (v own behind : List ℕ) → Cut (st .rest) v own behind → length (h .next .w) ≡ length (st .gap) + length v → (flag : Bool)
+          → ReadAs own (h .t) flag → WrongPrime text k
       told v own behind d place flag (reversal _ r) = absurd (member-unprimed (spelled .run) (primed-run (h .t) spelled (r .only)) primed)
       told v own behind d place flag (same never) =
           record {
@@ -243,7 +246,8 @@ module _ (text : List ℕ) where
         where
           go : FirstToken text → Every whitespace text
           go (cut.blank b) = b
-          go (cut.token v own behind d) = absurd (blank-uncut _ v own _ (subst (Every whitespace) (text-copy text v own behind d .0) h) (first-cut text v own behind d))
+          go (cut.token v own behind d) =
+              absurd (blank-uncut _ v own _ (subst (Every whitespace) (text-copy text v own behind d .0) h) (first-cut text v own behind d))
 
   -- 4: the first token wrong, at the token.
   pub magnetic-four : (k : ℕ) → Tells (magneticAnswer text .symbol) 4 k ↔ LatticeWrong text k
@@ -259,7 +263,8 @@ module _ (text : List ℕ) where
           go (cut.blank b) = absurd (blank-uncut _ (h .w) (h .t) (h .after) (rw (text-blank text b .0) b) (h .cut))
           go (cut.token v own behind d) =
               let bytes = text-copy text v own behind d .0 in
-              let (places, tokens, behinds) = cut-once _ (h .w) (h .t) (h .after) v own _ (subst (λ (l : List ℕ). Cut l (h .w) (h .t) (h .after)) bytes (h .cut)) (first-cut text v own behind d) in
+              let there = subst (λ (l : List ℕ). Cut l (h .w) (h .t) (h .after)) bytes (h .cut) in
+              let (places, tokens, behinds) = cut-once _ (h .w) (h .t) (h .after) v own _ there (first-cut text v own behind d) in
               record {
                 w = v;
                 t = own;
