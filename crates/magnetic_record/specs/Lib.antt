@@ -8,5 +8,6 @@ pub mod Acceptance
 pub mod MagneticGroups
 pub mod RoundTrips
 pub mod OneRecord
+pub mod SymbolRecords
 pub mod OtherEditions
 pub mod Example

@@ -3,18 +3,19 @@
 use mathlib.Core.Path.{_≡_, refl, sym, _∙_, ap, ap₂, subst}
 use mathlib.Core.Logic.{_↔_, ∥∥₁-elim}
 use mathlib.Core.HLevel.{⊥-prop}
-use mathlib.Core.Bool.{Bool, true, false, _||_}
+use mathlib.Core.Bool.{Bool, true, false, _||_, _&&_}
 use mathlib.Core.List.{List, [], _∷_, map, List·Memᴰ as Mem, Memᴰ·map as mem-map, Memᴰ·of-map as mem-of-map, Memᴰ·cast as mem-cast, Pairwise·nil, Pairwise·cons, List·Nodup as Nodup}
-use Prim.Native.Nat.{_<_, _≤_}
+use Prim.Native.Nat.{ℕ, _+_, _*_, _<_, _≤_}
 use native.Mathlib.Omega.{arith}
 use lib.Dec.{eqb, eqb-refl}
+use borrow.Author.Tests.{eqb-true, eq-eqb, ne-eqb}
 use Rattle.laws.specs.Matrix.{Vector}
 use Rattle.laws.specs.Motion.{SpaceMotion, identity}
 use Rattle.laws.specs.Distinct.{has, Distinct, nil, cons, Equivalence, Mem→has, distinct-equal, eqb-equivalence}
 use Rattle.laws.specs.Lattice.{InLattice}
 use Rattle.laws.specs.Sorted.{Sorted, key-strict, key-decides, key-total, unique, sort-member, member-sort, sort-sorted}
-use Rattle.group_growth.specs.Flagged.{Flagged, flagged≡, held, imageFlagged}
-use Rattle.operation.specs.Code.{code-lt}
+use Rattle.group_growth.specs.Flagged.{sameFlag, Flagged, flagged≡, held, imageFlagged, sameFlagged}
+use Rattle.operation.specs.Code.{codeOf, code-lt}
 use Rattle.operation.specs.Composed.{identity-motion}
 use Rattle.operation.specs.Entries.{Entries, digits-entries}
 use Rattle.operation.specs.Meaning.{matrixOf, motionOf}
@@ -28,7 +29,7 @@ use Rattle.centering.specs.declared.Centering.{Centering}
 use Rattle.group_record.specs.Editions.{framed, framed-injective}
 use Rattle.group_record.specs.OperationItems.{itemOf, operationOfItem}
 use Rattle.group_record.specs.Record.{smallestOperation}
-use Rattle.group_record.specs.Groups.{Alike}
+use Rattle.group_record.specs.Groups.{Alike, sameCode}
 use Rattle.group_record.specs.ListedForm.{alike-reflexive, alike-symmetric, alike-transitive, alike-smallest, smallest-alike, form-smallest, form-listing}
 use Rattle.group_record.specs.OneRecord.{translationBy, pure-translations, operation-of-item}
 use Rattle.group_record.specs.GroupLaws.{identity-listed}
@@ -107,12 +108,9 @@ one-magnetic-record c d items others g h one other = (forth, back)
 
 -- ---- records of flagged operations in any order
 -- Flagged operations with entries in −1..1, each rotation at most once with and once without the flag.
-abbrev sameKey : Flagged Operation → Flagged Operation → Bool
-sameKey f g = eqb (magneticKey (magneticItem f)) (magneticKey (magneticItem g))
-
 pub record MagneticListing (l : List (Flagged Operation)) : Type 0 where
   pub entries : (f : Flagged Operation) → Mem f l → Entries (matrixOf (f .element .rotation))
-  pub distinct : Distinct sameKey l
+  pub distinct : Distinct (sameFlagged sameCode) l
 
 abbrev itemSame : MagneticItem → MagneticItem → Bool
 itemSame i j = eqb (magneticKey i) (magneticKey j)
@@ -125,6 +123,25 @@ key-equivalence =
       transitive = λ i j k. eqb-equivalence .transitive (magneticKey i) (magneticKey j) (magneticKey k);
     }
 
+-- Numbers that are equal exactly where others are, are told apart as those.
+told-alike : (x y u v : ℕ) → (x ≡ y → u ≡ v) → (u ≡ v → x ≡ y) → eqb x y ≡ eqb u v
+told-alike x y u v forth back = go (eqb u v) refl (eqb x y) refl
+  where
+    go : (a : Bool) → eqb u v ≡ a → (b : Bool) → eqb x y ≡ b → b ≡ a
+    go true p b q = sym q ∙ eq-eqb x y (back (eqb-true u v p))
+    go false p true q = sym (eq-eqb u v (forth (eqb-true x y q))) ∙ p
+    go false p false q = refl
+
+-- Keys are equal exactly if codes and flags are.
+key-numbers : (a b : ℕ) (m n : Bool) → eqb (2 * a + numberOf m) (2 * b + numberOf n) ≡ sameFlag m n && eqb a b
+key-numbers a b true true = told-alike (2 * a + 1) (2 * b + 1) a b (λ e. omega arith) (λ e. omega arith)
+key-numbers a b true false = ne-eqb (2 * a + 1) (2 * b + 0) (λ e. absurd (omega arith))
+key-numbers a b false true = ne-eqb (2 * a + 0) (2 * b + 1) (λ e. absurd (omega arith))
+key-numbers a b false false = told-alike (2 * a + 0) (2 * b + 0) a b (λ e. omega arith) (λ e. omega arith)
+
+key-test : (f g : Flagged Operation) → itemSame (magneticItem f) (magneticItem g) ≡ sameFlagged sameCode f g
+key-test f g = key-numbers (codeOf (f .element .rotation)) (codeOf (g .element .rotation)) (f .flag) (g .flag)
+
 -- A list with each key once is a list without repeats.
 distinct-nodup : {l : List MagneticItem} → Distinct itemSame l → Nodup l
 distinct-nodup nil = Pairwise·nil
@@ -132,22 +149,27 @@ distinct-nodup (cons {x} {l} new d) = Pairwise·cons (λ y m e. ∥∥₁-elim m
 
 module _ (c : Centering) where
   -- The smallest triples change no key.
-  has-smallest : (f : Flagged Operation) (l : List (Flagged Operation)) → has itemSame (smallestItem c f) (map (smallestItem c) l) ≡ has sameKey f l
-  unfolding has smallestOperation
-  has-smallest f [] = refl
-  has-smallest f (g ∷ l) = ap (λ (b : Bool). sameKey f g || b) (has-smallest f l)
+  smallest-key : (f : Flagged Operation) → magneticKey (smallestItem c f) ≡ magneticKey (magneticItem f)
+  unfolding smallestOperation
+  smallest-key f = refl
 
-  distinct-smallest : {l : List (Flagged Operation)} → Distinct sameKey l → Distinct itemSame (map (smallestItem c) l)
+  has-smallest : (f : Flagged Operation) (l : List (Flagged Operation))
+      → has itemSame (smallestItem c f) (map (smallestItem c) l) ≡ has (sameFlagged sameCode) f l
+  unfolding has
+  has-smallest f [] = refl
+  has-smallest f (g ∷ l) = ap₂ _||_ (ap₂ eqb (smallest-key f) (smallest-key g) ∙ key-test f g) (has-smallest f l)
+
+  distinct-smallest : {l : List (Flagged Operation)} → Distinct (sameFlagged sameCode) l → Distinct itemSame (map (smallestItem c) l)
   distinct-smallest nil = nil
   distinct-smallest (cons {x} {l} new d) =
       cons {x = smallestItem c x} {l = map (smallestItem c) l} (λ t. new (rw (has-smallest x l) at t)) (distinct-smallest d)
 
   -- What stands in the form is the smallest item of a listed operation.
-  in-form : (l : List (Flagged Operation)) (i : MagneticItem) → Mem i (magneticForm c l) → (f : Flagged Operation) × Mem f l × (smallestItem c f ≡ i)
+  pub in-form : (l : List (Flagged Operation)) (i : MagneticItem) → Mem i (magneticForm c l) → (f : Flagged Operation) × Mem f l × (smallestItem c f ≡ i)
   unfolding magneticForm
   in-form l i m = mem-of-map (smallestItem c) l (sort-member keyBefore (map (smallestItem c) l) m)
 
-  to-form : (l : List (Flagged Operation)) (f : Flagged Operation) → Mem f l → Mem (smallestItem c f) (magneticForm c l)
+  pub to-form : (l : List (Flagged Operation)) (f : Flagged Operation) → Mem f l → Mem (smallestItem c f) (magneticForm c l)
   unfolding magneticForm
   to-form l f m = member-sort keyBefore (map (smallestItem c) l) (mem-map (smallestItem c) m)
 
@@ -191,11 +213,11 @@ module _ (c : Centering) where
   unfolding smallestOperation
   still f e = e
 
-  near-transitive : (f g h : FlaggedMotion) → Near c f g → Near c g h → Near c f h
+  pub near-transitive : (f g h : FlaggedMotion) → Near c f g → Near c g h → Near c f h
   near-transitive f g h (p, q) (r, s) = (p ∙ r, alike-transitive c (f .element) (g .element) (h .element) q s)
 
   -- The flagged motion of an operation is near that of its smallest item.
-  item-near : (f : Flagged Operation) → Entries (matrixOf (f .element .rotation)) → Near c (flaggedMotion (smallestItem c f)) (imageFlagged motionOf f)
+  pub item-near : (f : Flagged Operation) → Entries (matrixOf (f .element .rotation)) → Near c (flaggedMotion (smallestItem c f)) (imageFlagged motionOf f)
   item-near f e =
       let own = operation-of-item (smallestOperation c (f .element)) (still f e) in
       (number-flag (f .flag), subst (λ (o : Operation). Alike c (motionOf o) (motionOf (f .element))) (sym own) (smallest-alike c (f .element)))
@@ -228,7 +250,7 @@ module _ (c : Centering) where
       flagged≡ _ _ (ap motionOf again ∙ identity-motion) refl
 
   -- The identity stays listed.
-  form-identity : (l : List (Flagged Operation)) → Mem (held identityOperation) l → Mem (held identity) (motionsOf (magneticForm c l))
+  pub form-identity : (l : List (Flagged Operation)) → Mem (held identityOperation) l → Mem (held identity) (motionsOf (magneticForm c l))
   form-identity l m = mem-cast (sym (identity-item)) (mem-map flaggedMotion (to-form l (held identityOperation) m))
 
 -- Records of flagged operations are equal byte for byte exactly when their sets of flagged motions are.

@@ -1,7 +1,7 @@
 -- What the answer on a magnetic symbol's text says: which symbol with which flags, and each refusal, exactly when. A text without `'` is read as the
 -- plain reader reads it.
 use mathlib.Core.Path.{_≡_, refl, sym, _∙_, ap, subst}
-use mathlib.Core.Logic.{_↔_}
+use mathlib.Core.Logic.{_⊎_, inl, inr, _↔_}
 use mathlib.Core.Bool.{Bool, true, false, cond}
 use mathlib.Core.List.{List, [], _∷_, _++_, append-nil}
 use Prim.Native.Nat.{ℕ, _+_, _-_, _<_}
@@ -17,8 +17,8 @@ use Rattle.hall_symbol.specs.Runs.{Every}
 use Rattle.hall_symbol.specs.Cut.{Cut}
 use Rattle.hall_symbol.specs.Generators.{shiftBy, shifted}
 use Rattle.hall_symbol.specs.Reader.{Reading, symbol, refusal, readSymbol, refusedAnswer, answerOf}
-use Rattle.hall_symbol.specs.Spelling.{Opens, ShiftSpelled, Ending, plain, moved, Spells, Refuses}
-use Rattle.hall_symbol.specs.Agreement.{symbol-exactly, refusal-exactly}
+use Rattle.hall_symbol.specs.Spelling.{Opens, ShiftSpelled, Ending, plain, moved, Spells, Refuses, Says}
+use Rattle.hall_symbol.specs.Agreement.{symbol-exactly, refusal-exactly, read-says}
 use Rattle.hall_symbol.specs.Answers.{answer-once, answer-spells, answer-refuses, symbol-count}
 use Rattle.hall_symbol.specs.declared.refusal.Refusal.{Refusal}
 use Rattle.magnetic_symbol.specs.TimeReversals.{prime, unprimed, TakenOff}
@@ -126,6 +126,19 @@ magnetic-refused text r = (there, back)
         let (bytes, given) = taken-off-exactly text (m .copy) (m .flags) .0 (m .taken) in
         let read = refusal-exactly (blanked text) r .1 (rw bytes at (m .refuses)) in
         rw read
+
+-- Every text spells a symbol or is refused.
+pub magnetic-says : (text : List ℕ)
+    → ((c : Centering) × (gs : List Operation) × (fs : List Bool) × MagneticSpells text c gs fs) ⊎ ((r : Refusal) × MagneticRefuses text r)
+magnetic-says text = go (readSymbol (blanked text)) (read-says (blanked text))
+  where
+    taken : TakenOff text (blanked text) (flagsOf text)
+    taken = taken-off-exactly text (blanked text) (flagsOf text) .1 (refl, refl)
+
+    go : (r : Reading) → Says (blanked text) r
+        → ((c : Centering) × (gs : List Operation) × (fs : List Bool) × MagneticSpells text c gs fs) ⊎ ((r : Refusal) × MagneticRefuses text r)
+    go (symbol c gs) h = inl (c, gs, flagsOf text, record { copy = blanked text; taken = taken; spells = h })
+    go (refusal r) h = inr (r, record { copy = blanked text; flags = flagsOf text; taken = taken; refuses = h })
 
 -- ---- texts without time reversals
 -- Only a `'` is a time reversal.
