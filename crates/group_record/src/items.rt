@@ -15,9 +15,9 @@ use operation::code::rotation_of_code;
 use operation::product::identity;
 
 // What a record says of one operation: the code of its rotation, and a translation.
-pub(crate) struct Item {
-    pub(crate) code: u32,
-    pub(crate) translation: Translation,
+pub struct Item {
+    pub code: u32,
+    pub translation: Translation,
 }
 
 // How many bytes n items take.

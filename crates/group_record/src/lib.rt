@@ -1,7 +1,7 @@
 // The group record: the byte form of a group of operations, written and read. New in the port: the Rust has no such form.
 mod allowed;
 pub mod copier;
-mod items;
+pub mod items;
 pub mod layer;
 pub mod reader;
 mod sign;
