@@ -8,6 +8,12 @@ pub mod Traversal
 pub mod Resuming
 -- That the two are one:
 pub mod OperationGrowth
+-- The same list as numbers, in lent slots:
+pub mod NumberGrowth
+pub mod Hints
+pub mod NumberSlots
+-- The answers:
 pub mod Slots
+pub mod Heads
 -- The answers by number and place:
 pub mod Told

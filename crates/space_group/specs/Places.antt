@@ -1,5 +1,5 @@
--- The search for a code, step by step; the place of an operation among others as the place of its code; and equal translations.
-use mathlib.Core.Path.{_≡_, refl, sym, ap}
+-- The search for a code, step by step; the place of an operation among others as the place of its code; and a translation in its own class.
+use mathlib.Core.Path.{_≡_, refl, sym}
 use mathlib.Core.Bool.{true}
 use mathlib.Core.List.{List, [], _∷_, map}
 use Prim.Native.Nat.{ℕ, _+_, _<_}
@@ -11,11 +11,11 @@ use borrow.Author.Tests.{eq-eqb, ne-eqb}
 use Rattle.laws.specs.Distinct.{Mem→has, equality-equivalence}
 use Rattle.laws.specs.Lattice.{sameTriple, triple-decides, congruent-reflexive}
 use Rattle.laws.specs.Growth.{place}
-use Rattle.laws.specs.GrowthClosure.{T-true, true-T}
+use Rattle.laws.specs.GrowthClosure.{T-true}
 use Rattle.operation.specs.Meaning.{vectorOf}
 use Rattle.operation.specs.declared.Translation.{Translation}
 use Rattle.centering.specs.Letters.{pointsOf}
-use Rattle.centering.specs.Lattices.{points, tripleOf, translationOf, congruentOf}
+use Rattle.centering.specs.Lattices.{points, congruentOf}
 use Rattle.centering.specs.declared.Centering.{Centering}
 
 -- The code sought is found,
@@ -39,9 +39,7 @@ unfolding place
 place-key key x [] = refl
 place-key key x (y ∷ l) = rw (place-key key x l)
 
--- Equal translations are in one class modulo L.
-pub same-class : (c : Centering) (s t : Translation) → sameTriple (tripleOf s) (tripleOf t) ≡ true → congruentOf c s t ≡ true
+-- A translation is in its own class modulo L.
+pub class-self : (c : Centering) (t : Translation) → congruentOf c t t ≡ true
 unfolding congruentOf
-same-class c s t e =
-    let equal : s ≡ t = ap translationOf (triple-decides .exact (tripleOf s) (tripleOf t) (true-T e)) in
-    rw equal (T-true (Mem→has sameTriple (equality-equivalence sameTriple triple-decides) (congruent-reflexive (pointsOf c) (points c) (vectorOf t))))
+class-self c t = T-true (Mem→has sameTriple (equality-equivalence sameTriple triple-decides) (congruent-reflexive (pointsOf c) (points c) (vectorOf t)))

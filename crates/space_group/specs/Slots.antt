@@ -1,9 +1,10 @@
 -- The answers slot by slot, and how they come from the growth of the list.
 use mathlib.Core.Path.{_≡_, refl, sym, _∙_, ap}
-use mathlib.Core.Bool.{true, false, false≢true}
+use mathlib.Core.Bool.{Bool, true, false, cond}
+use mathlib.Core.Logic.{inl, inr}
 use mathlib.Core.Option.{Option, some, none}
-use mathlib.Core.List.{List, map}
-use Prim.Native.Nat.{ℕ, _+_, _≤_, _<_}
+use mathlib.Core.List.{List, [], _∷_, map, List·Memᴰ·cases-cons as cases-cons, List·Memᴰ·not-nil as not-nil}
+use Prim.Native.Nat.{ℕ, zero, suc, _+_, _≤_, _<_}
 use native.Mathlib.Numerals.{add-one}
 use native.Mathlib.Omega.{arith}
 use native.Mathlib.Decide.{decLt}
@@ -13,24 +14,24 @@ use borrow.Author.Tests.{lt-ltb, le-ltb}
 use Rattle.laws.specs.Motion.{SpaceMotion, compose, identity}
 use Rattle.laws.specs.Closure.{closure}
 use Rattle.laws.specs.SameMatrix.{sameRotation}
-use Rattle.laws.specs.Growth.{Growth}
 use Rattle.group_growth.specs.Verdicts as verdicts
 use Rattle.group_growth.specs.Verdicts.{Verdict, listed, overgrown, torn, imageVerdict, onGrowth}
 use Rattle.group_growth.specs.Growing.{verdict}
 use Rattle.group_growth.specs.Acceptance.{listed-length}
+use Rattle.operation.specs.Entries.{digits-entries}
 use Rattle.operation.specs.Product.{identityOperation, operationOf}
 use Rattle.operation.specs.declared.Operation.{Operation}
-use Rattle.centering.specs.Keeps.{keepsOf}
+use Rattle.centering.specs.Keeps.{keepsOf, keeps-lattice}
 use Rattle.centering.specs.declared.Centering.{Centering}
 use Rattle.centering.specs.declared.Centering.the-variants.{P}
 use Rattle.space_group.specs.Generated.{motions, firstOff, listing, isSmall, sameVectorClass, Outcome, group, refused, ofVerdict, onList, onListing, outcomeOf}
-use Rattle.space_group.specs.Traversal.{growth, padded, grownOf}
+use Rattle.space_group.specs.Traversal.{growth, padded}
 use Rattle.space_group.specs.OperationGrowth.{motionGrowth, growth-answers}
+use Rattle.space_group.specs.NumberGrowth.{AllDigits}
 use Rattle.space_group.specs.declared.refusal.Refusal.{Refusal}
 use Rattle.space_group.specs.declared.refusal.Refusal.the-variants.{Lattice, Rotations, Translations}
 use Rattle.space_group.specs.declared.Answer.the-variants.{Group, Refused}
 use Rattle.space_group.specs.declared.SpaceGroup.{SpaceGroup}
-use Rattle.space_group.specs.declared.traverse.Grown.{Grown}
 
 -- A refusal carries number and place and no other data: letter P, no operations, no generators.
 abbrev pub refusedAnswer : Refusal → SpaceGroup
@@ -69,6 +70,20 @@ answer-few c n l e h = ap (λ (m : ℕ). answerOf c m (outcomeOf c (take n l))) 
 -- or as all nine.
 pub answer-all : (c : Centering) (n : ℕ) (l : List Operation) → length l ≡ 9 → 9 < n → answerOf c 9 (outcomeOf c (take 9 l)) ≡ groupAnswer c (take n l)
 answer-all c n l e h = answer-few c 9 l e (omega arith) ∙ ap (groupAnswer c) (take-all 9 l (omega arith) ∙ sym (take-all n l (omega arith)))
+
+-- Where none is off, the digits of all are 0, 1 and 2.
+digits-next : (c : Centering) (f : Operation) (gens : List Operation) (b : Bool) → keepsOf c (f .rotation) ≡ b
+    → suc (length gens) ≤ cond b (suc (firstOff c gens)) zero → (length gens ≤ firstOff c gens → AllDigits gens) → AllDigits (f ∷ gens)
+digits-next c f gens true q h rest g m = elim (cases-cons m) [
+  | inl e ↦ rw e (digits-entries (f .rotation) .1 (keeps-lattice c (f .rotation) .0 q .0))
+  | inr o ↦ rest (omega arith) g o
+]
+digits-next c f gens false q h rest g m = absurd (omega arith)
+
+pub none-off-digits : (c : Centering) (gens : List Operation) → length gens ≤ firstOff c gens → AllDigits gens
+unfolding firstOff
+none-off-digits c [] h g m = absurd (not-nil m)
+none-off-digits c (f ∷ gens) h g m = digits-next c f gens (keepsOf c (f .rotation)) refl h (none-off-digits c gens) g m
 
 -- ---- the search for a generator that is off
 module _ (c : Centering) (gens : List Operation) (i : ℕ) (h : i < length gens) where
@@ -150,47 +165,3 @@ outcome-few c gens operations steps p = elim (decLt (firstOff c gens) (length ge
       let (l, q, e) = group-listed (verdictOf c gens) operations steps (sym (outcome-verdict c gens (omega arith)) ∙ p) in
       omega (arith, ap length e, length-map l operationOf, listed-length (motionGrowth c) (motions gens) 48 l steps q)
 ]
-
--- ---- from the slots to the growth
--- The list did not end,
-pub grown-none : (o : Option (Growth Operation)) (g : Grown) → g ≡ grownOf o → g .within ≡ false → o ≡ none
-grown-none none g e h = refl
-grown-none (some s) g e h = absurd (false≢true (sym h ∙ ap (λ (g : Grown). g .within) e))
-
--- or it did.
-pub grown-some : (o : Option (Growth Operation)) (g : Grown) → g ≡ grownOf o → g .within ≡ true → (s : Growth Operation) × (o ≡ some s)
-grown-some none g e h = absurd (false≢true (sym (ap (λ (g : Grown). g .within) e) ∙ h))
-grown-some (some s) g e h = (s, refl)
-
--- ---- the answer of n generators, as it is put together
-module _ (c : Centering) (n : ℕ) (gens : List Operation) (long : length gens ≡ n) (off : ℕ) (found : off ≡ firstOff c gens) where
-  -- A generator is off.
-  pub answer-off : off < n → refusedAnswer (Lattice off) ≡ answerOf c n (outcomeOf c gens)
-  answer-off h = rw (outcome-off c gens (omega arith), found)
-
-  module _ (none-off : n ≤ off) (g : Grown) (grown : g ≡ grownOf (growth c gens)) where
-    -- No generator is.
-    answered : outcomeOf c gens ≡ ofVerdict (onGrowth (growth c gens))
-    answered = outcome-growth c gens (omega arith)
-
-    -- The list does not end.
-    pub answer-unbounded : g .within ≡ false → refusedAnswer Rotations ≡ answerOf c n (outcomeOf c gens)
-    answer-unbounded h = rw (answered, grown-none (growth c gens) g grown h)
-
-    module _ (within : g .within ≡ true) where
-      -- It ends as a list whose steady translations the slots show.
-      steady-is : (s : Growth Operation) → growth c gens ≡ some s → g .steady ≡ s .steady
-      steady-is s e = ap (λ (g : Grown). g .steady) (grown ∙ ap grownOf e)
-
-      -- Two translations came for one rotation.
-      pub answer-torn : g .steady ≡ false → refusedAnswer Translations ≡ answerOf c n (outcomeOf c gens)
-      answer-torn h =
-          let (s, e) = grown-some (growth c gens) g grown within in
-          rw (answered, e, sym (steady-is s e) ∙ h)
-
-      -- All is well.
-      pub answer-group : g .steady ≡ true → _≡_ {A = SpaceGroup} (record { answer = Group; centering = c; count = g .count; operations = g .operations; generators = n; steps = g .steps }) (answerOf c n (outcomeOf c gens))
-      answer-group h =
-          let (s, e) = grown-some (growth c gens) g grown within in
-          let slots = grown ∙ ap grownOf e in
-          rw (answered, e, sym (steady-is s e) ∙ h) (ap (λ (g : Grown). record { answer = Group; centering = c; count = g .count; operations = g .operations; generators = n; steps = g .steps }) slots)

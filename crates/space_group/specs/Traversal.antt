@@ -1,8 +1,8 @@
 -- The list of operations as R3.6 has it made: breadth first from the identity, right factor running over the generators
 -- in order, first translation reached kept, modulo 12; with the index of each product, until nothing is left to multiply.
-use mathlib.Core.Bool.{Bool, true, false}
+use mathlib.Core.Bool.{Bool}
 use mathlib.Core.Option.{Option, some, none}
-use mathlib.Core.List.{List, [], _∷_, _++_}
+use mathlib.Core.List.{List, _++_}
 use Prim.Native.Nat.{ℕ, _-_}
 use lib.Dec.{eqb}
 use lib.ListN.{length, replicate}
@@ -14,7 +14,6 @@ use Rattle.operation.specs.declared.product.Product.{Product}
 use Rattle.operation.specs.declared.product.Product.the-variants.{Inside, Outside}
 use Rattle.centering.specs.Lattices.{congruentOf}
 use Rattle.centering.specs.declared.Centering.{Centering}
-use Rattle.space_group.specs.declared.traverse.Grown.{Grown}
 
 -- The code of an operation's rotation.
 abbrev pub turnOf : Operation → ℕ
@@ -40,22 +39,7 @@ productInside f g = insideOf (productOf f g)
 unfoldable pub growth : Centering → List Operation → Option (Growth Operation)
 growth c gens = grown sameTurn (sameClass c) productInside 48 identityOperation gens
 
--- ---- the answer, slot by slot
+-- ---- slots
 -- A list at the front of n slots, the others all alike.
 abbrev pub padded : {A : Type 0} → ℕ → A → List A → List A
 padded n e l = l ++ replicate (n - length l) e
-
-abbrev pub overgrownAnswer : Grown
-overgrownAnswer =
-    record { within = false; steady = true; count = 1; operations = padded 48 identityOperation (identityOperation ∷ []); steps = padded 432 0 [] }
-
-abbrev pub grownOf : Option (Growth Operation) → Grown
-grownOf none = overgrownAnswer
-grownOf (some s) =
-    record {
-      within = true;
-      steady = s .steady;
-      count = length (s .found);
-      operations = padded 48 identityOperation (s .found);
-      steps = padded 432 0 (s .steps);
-    }

@@ -2,28 +2,48 @@
 // Ported from data/hall_symbol.rs of moyo 0.21.0, and changed: what makes no group is refused.
 ghost use mathlib.Core.Path.{_≡_};
 ghost use Prim.Native.Nat.{_≤_};
-ghost use lib.ListN.{take};
+ghost use lib.ListN.{length, take, replicate};
 ghost use Rattle.space_group.specs.Generated.{firstOff, outcomeOf};
-ghost use Rattle.space_group.specs.Slots.{refusedAnswer, answerOf};
+ghost use Rattle.space_group.specs.NumberGrowth.{unitNumber};
+ghost use Rattle.space_group.specs.Slots.{answerOf};
+ghost use Rattle.space_group.specs.Heads.{refusedHead, Laid};
 use crate::Answer;
 use crate::SpaceGroup;
 use crate::refusal::Refusal;
+use crate::traverse::generator_numbers;
 use crate::traverse::traverse;
 use centering::Centering;
 use operation::Operation;
 use operation::product::identity;
+use packed_operation::said;
 
-pub fn refused(refusal: Refusal) -> SpaceGroup
-    ensures { λ r. ⌜ r ≡ refusedAnswer refusal ⌝ }
+// An answer but for its slots.
+pub struct Head {
+    pub answer: Answer,
+    pub centering: Centering,
+    pub count: usize,
+    pub generators: usize,
+}
+
+fn refused(refusal: Refusal) -> Head
+    ensures { λ r. ⌜ r ≡ refusedHead refusal ⌝ }
 {
-    let e = identity();
-    SpaceGroup {
+    Head {
         answer: Answer::Refused(refusal),
         centering: Centering::P,
         count: 0,
-        operations: [e; 48],
         generators: 0,
-        steps: [0; 432],
+    }
+}
+
+fn clear(steps: &mut [u8])
+    ensures { λ _. ⌜ now (steps .exit) ≡ replicate (length (now (steps .entry))) 0 ⌝ }
+{
+    let n = steps.len();
+    let mut i = 0usize;
+    while i < n {
+        steps[i] = 0;
+        i += 1;
     }
 }
 
@@ -46,31 +66,67 @@ fn first_off(c: Centering, n: usize, generators: [Operation; 9]) -> usize
     at
 }
 
-// The group that n generators make.
-pub(crate) fn group_of(c: Centering, n: usize, generators: [Operation; 9]) -> SpaceGroup
-    requires { ⌜ n ≤ 9 ⌝ }
-    ensures { λ r. ⌜ r ≡ answerOf c n (outcomeOf c (take n generators)) ⌝ }
+// What n generators make: the list of its numbers in the lent slots and the indices of the products, or why there is none and no indices.
+fn listed(
+    c: Centering,
+    n: usize,
+    generators: [Operation; 9],
+    numbers: &mut [u64],
+    steps: &mut [u8],
+) -> Head
+    requires { ⌜ (n ≤ 9) × (now numbers ≡ replicate 48 unitNumber) × (now steps ≡ replicate 432 0) ⌝ }
+    ensures { λ r. ⌜ Laid c n (outcomeOf c (take n generators)) r (now (numbers .exit)) (now (steps .exit)) ⌝ }
 {
     let off = first_off(c, n, generators);
     if off < n {
         return refused(Refusal::Lattice(off));
     }
-    let grown = traverse(c, n, generators);
-    if !grown.within {
+    let mut factors = [0u64; 9];
+    generator_numbers(n, generators, &mut factors);
+    let ended = traverse(c, n, &factors, 48, numbers, steps);
+    if !ended.within {
+        clear(steps);
         return refused(Refusal::Rotations);
     }
-    if !grown.steady {
+    if !ended.steady {
+        clear(steps);
         return refused(Refusal::Translations);
     }
-    let count = grown.count;
-    let operations = grown.operations;
-    let steps = grown.steps;
-    SpaceGroup {
+    Head {
         answer: Answer::Group,
         centering: c,
+        count: ended.count,
+        generators: n,
+    }
+}
+
+// The identity's number: digits 2 on the diagonal, else 1.
+const IDENTITY: u64 = 9152337073407010;
+
+// The group that n generators make: a list of numbers while it grows, laid out once as operations.
+pub(crate) fn group_of(c: Centering, n: usize, generators: [Operation; 9]) -> SpaceGroup
+    requires { ⌜ n ≤ 9 ⌝ }
+    ensures { λ r. ⌜ r ≡ answerOf c n (outcomeOf c (take n generators)) ⌝ }
+{
+    let mut numbers = [IDENTITY; 48];
+    let mut steps = [0u8; 432];
+    let head = listed(c, n, generators, &mut numbers, &mut steps);
+    let e = identity();
+    let count = head.count;
+    let mut operations = [e; 48];
+    let mut k = 0usize;
+    while k < count {
+        operations[k] = said(numbers[k]);
+        k += 1;
+    }
+    let answer = head.answer;
+    let centering = head.centering;
+    SpaceGroup {
+        answer,
+        centering,
         count,
         operations,
-        generators: n,
+        generators: head.generators,
         steps,
     }
 }

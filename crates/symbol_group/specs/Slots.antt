@@ -16,12 +16,13 @@ use Rattle.hall_symbol.specs.declared.HallSymbol.{HallSymbol}
 use Rattle.space_group.specs.Generated.{Outcome, group, refused, outcomeOf}
 use Rattle.space_group.specs.Resuming.{padded-length, at-any}
 use Rattle.space_group.specs.Slots.{answerOf, groupAnswer, outcome-few}
-use Rattle.space_group.specs.declared.refusal.Refusal as generators
+use Rattle.space_group.specs.declared.Answer as group-type
 use Rattle.space_group.specs.declared.Answer.the-variants as group-answer
 use Rattle.space_group.specs.declared.SpaceGroup.{SpaceGroup}
 use Rattle.symbol_group.specs.Answers.{refusedAnswer, outcomeAnswer, readingAnswer, symbolAnswer, orderOf, operationAt, translationBy, translationAt}
 use Rattle.symbol_group.specs.declared.refusal.Refusal.{Refusal}
 use Rattle.symbol_group.specs.declared.refusal.Refusal.the-variants.{Text, Group as NoGroup}
+use Rattle.symbol_group.specs.declared.Answer.{Answer}
 use Rattle.symbol_group.specs.declared.Answer.the-variants.{Group, Refused}
 use Rattle.symbol_group.specs.declared.SymbolGroup.{SymbolGroup}
 use Rattle.symbol_group.specs.declared.SymbolOrder.the-variants.{Is, Refused as OrderRefused}
@@ -29,41 +30,29 @@ use Rattle.symbol_group.specs.declared.SymbolOperation.{SymbolOperation}
 use Rattle.symbol_group.specs.declared.SymbolOperation.the-variants.{Operation as FoundOperation, PastEnd, Refused as FoundRefused}
 
 -- ---- from a group of generators
-outcome-refused : (c : Centering) (n : ℕ) (o : Outcome) (r : generators.Refusal) → answerOf c n o .answer ≡ group-answer.Refused r
-    → refusedAnswer (NoGroup r) ≡ outcomeAnswer c n o
-outcome-refused c n (group operations steps) r e = let z : _≡_ {A = ℕ} 0 1 = cc in absurd (omega arith)
-outcome-refused c n (refused q) r e = let z : q ≡ r = cc in rw z
+-- Its refusals are among those of a symbol.
+abbrev pub answerBy : group-type.Answer → Answer
+answerBy group-answer.Group = Group
+answerBy (group-answer.Refused r) = Refused (NoGroup r)
 
-outcome-group : (c : Centering) (n : ℕ) (o : Outcome) → answerOf c n o .answer ≡ group-answer.Group
-    → _≡_ {A = SymbolGroup} (record {
-      answer = Group;
-      centering = answerOf c n o .centering;
-      count = answerOf c n o .count;
-      operations = answerOf c n o .operations;
-      generators = answerOf c n o .generators;
-      steps = answerOf c n o .steps;
-    }) (outcomeAnswer c n o)
-outcome-group c n (group operations steps) e = refl
-outcome-group c n (refused q) e = let z : _≡_ {A = ℕ} 0 1 = cc in absurd (omega arith)
+-- The group's answer with a symbol's.
+abbrev pub symbolBy : SpaceGroup → SymbolGroup
+symbolBy g = record {
+  answer = answerBy (g .answer);
+  centering = g .centering;
+  count = g .count;
+  operations = g .operations;
+  generators = g .generators;
+  steps = g .steps;
+}
 
-module _ (c : Centering) (gens : List Operation) (g : SpaceGroup) (e : g ≡ groupAnswer c gens) where
-  -- The generators are refused,
-  pub group-refused : (r : generators.Refusal) → g .answer ≡ group-answer.Refused r
-      → refusedAnswer (NoGroup r) ≡ outcomeAnswer c (length gens) (outcomeOf c gens)
-  unfolding groupAnswer
-  group-refused r h = outcome-refused c (length gens) (outcomeOf c gens) r (sym (ap (λ (g : SpaceGroup). g .answer) e) ∙ h)
+outcome-told : (c : Centering) (n : ℕ) (o : Outcome) → symbolBy (answerOf c n o) ≡ outcomeAnswer c n o
+outcome-told c n (group operations steps) = refl
+outcome-told c n (refused r) = refl
 
-  -- or make a group.
-  pub group-made : g .answer ≡ group-answer.Group → _≡_ {A = SymbolGroup} (record {
-    answer = Group;
-    centering = g .centering;
-    count = g .count;
-    operations = g .operations;
-    generators = g .generators;
-    steps = g .steps;
-  }) (outcomeAnswer c (length gens) (outcomeOf c gens))
-  unfolding groupAnswer
-  group-made h = rw e (outcome-group c (length gens) (outcomeOf c gens) (sym (ap (λ (g : SpaceGroup). g .answer) e) ∙ h))
+pub group-told : (c : Centering) (gens : List Operation) (g : SpaceGroup) → g ≡ groupAnswer c gens → symbolBy g ≡ outcomeAnswer c (length gens) (outcomeOf c gens)
+unfolding groupAnswer
+group-told c gens g e = ap symbolBy e ∙ outcome-told c (length gens) (outcomeOf c gens)
 
 -- ---- from a reading
 reading-refused : (s : reader.Reading) (r : text.Refusal) → reader.answerOf s .answer ≡ text-answer.Refused r → refusedAnswer (Text r) ≡ readingAnswer s

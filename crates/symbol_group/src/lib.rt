@@ -2,6 +2,7 @@
 // Ported from data/hall_symbol.rs of moyo 0.21.0 (`HallSymbol::new` and then `traverse`), and changed: one call from the text, and numbered refusals.
 ghost use mathlib.Core.Path.{_≡_};
 ghost use Rattle.symbol_group.specs.Answers.{refusedAnswer, outcomeAnswer, symbolAnswer, orderOf, operationAt, translationAt};
+ghost use Rattle.symbol_group.specs.Slots.{answerBy};
 ghost use Rattle.space_group.specs.Generated.{outcomeOf};
 ghost use lib.ListN.{take, length};
 
@@ -66,27 +67,32 @@ fn refused(refusal: Refusal) -> SymbolGroup
     }
 }
 
+fn answer_of(answer: space_group::Answer) -> Answer
+    ensures { λ r. ⌜ r ≡ answerBy answer ⌝ }
+{
+    match answer {
+        space_group::Answer::Group => Answer::Group,
+        space_group::Answer::Refused(refusal) => Answer::Refused(Refusal::Group(refusal)),
+    }
+}
+
 // The group of a lattice and the first n of nine generators.
 fn group_of(centering: Centering, n: usize, generators: [Operation; 9]) -> SymbolGroup
     ensures { λ r. ⌜ r ≡ outcomeAnswer centering (length (take n generators)) (outcomeOf centering (take n generators)) ⌝ }
 {
     let g = SpaceGroup::new(centering, n, generators);
-    let answer = g.answer;
-    match answer {
-        space_group::Answer::Refused(refusal) => refused(Refusal::Group(refusal)),
-        space_group::Answer::Group => {
-            let letter = g.centering;
-            let operations = g.operations;
-            let steps = g.steps;
-            SymbolGroup {
-                answer: Answer::Group,
-                centering: letter,
-                count: g.count,
-                operations,
-                generators: g.generators,
-                steps,
-            }
-        }
+    let told = g.answer;
+    let answer = answer_of(told);
+    let letter = g.centering;
+    let operations = g.operations;
+    let steps = g.steps;
+    SymbolGroup {
+        answer,
+        centering: letter,
+        count: g.count,
+        operations,
+        generators: g.generators,
+        steps,
     }
 }
 

@@ -1,70 +1,104 @@
--- Each answer follows from the outcome of the generators, told by the growth of the list.
-use mathlib.Core.Path.{_≡_, _∙_}
+-- The loop lays out what each number says.
+use mathlib.Core.Path.{_≡_, refl, _∙_, ap₂}
+use mathlib.Core.List.{_++_, map}
+use Prim.Native.Nat.{ℕ, _≤_, _-_}
 use native.Mathlib.Omega.{arith}
-use lib.ListN.{length, take}
-use lib.Seq.{length-take-le}
-use borrow.Author.Tests.{not-true, not-false}
-use Rattle.space_group.specs.Slots.{answer-off, answer-unbounded, answer-torn, answer-group}
+use lib.ListN.{take, drop, set, replicate}
 use borrow.Author.Needs.{needs}
+use Rattle.packed_operation.specs.Number.{saidBy}
+use Rattle.space_group.specs.Generated.{outcomeOf}
+use Rattle.space_group.specs.NumberSlots.{filled-more}
+use Rattle.space_group.specs.Heads.{answer-laid}
 use Rattle.space_group.proofs.group.group_of.Statement.{statement}
 use Rattle.space_group.proofs.group.group_of.Tie as tie
 use Rattle.space_group.proofs.group.group_of.Reads as reads
 use Rattle.space_group.proofs.group.group_of.Lts as lts
-use Rattle.space_group.proofs.group.first_off.Reads as first-off-reads
-use Rattle.space_group.proofs.group.refused.Reads as refused-reads
-use Rattle.space_group.proofs.traverse.traverse.Reads as traverse-reads
+use Rattle.operation.proofs.product.identity.Reads as identity-reads
+use Rattle.packed_operation.proofs.said.Reads as said-reads
+use Rattle.space_group.proofs.group.listed.Reads as listed-reads
 
--- As many generators as are used.
-gens-long : (c : tie.Start) → length (take (c .args .n) (c .args .generators)) ≡ c .args .n
-gens-long c =
-    let whole : length (c .args .generators) ≡ 9 = c .good .1 .1 .0 .1 .0 .1 in
-    length-take-le (c .args .n) (c .args .generators) (omega (arith, c .pre))
+abbrev Inv-loop : tie.InvT-loop
+Inv-loop n numbers steps head count operations₀ k₀ operations k =
+    (k ≤ count) × (operations ≡ map saidBy (take k numbers) ++ drop k operations₀)
 
-first-off-requires : tie.Need-first-off-requires
-first-off-requires c κs = search needs
+abbrev μ-loop : tie.MeasureT-loop
+μ-loop n numbers steps head count operations₀ k₀ operations k = count - k
 
-refused-requires : tie.Need-refused-requires
-refused-requires c κs = search needs
+-- The list fits the slots.
+few : (c : tie.At-loop Inv-loop μ-loop) → c .before .before .before .before .listed .result .count ≤ 48
+few c = c .before .before .before .before .listed .ensures .few
 
-returns : tie.Need-returns
+slice-aggregate-listed : tie.Need-slice-aggregate-listed Inv-loop μ-loop
+slice-aggregate-listed c = omega arith
+
+slice-aggregate-listed-2 : tie.Need-slice-aggregate-listed-2 Inv-loop μ-loop
+slice-aggregate-listed-2 c = omega arith
+
+listed-requires : tie.Need-listed-requires Inv-loop μ-loop
+listed-requires c κs = (c .before .before .pre, refl, refl)
+
+identity-requires : tie.Need-identity-requires Inv-loop μ-loop
+identity-requires c κs = search needs
+
+loop-holds : tie.Need-loop-holds Inv-loop μ-loop
+loop-holds c = (omega arith, refl)
+
+mul-said : tie.Need-mul-said Inv-loop μ-loop
+mul-said c = omega (arith, few (c .before))
+
+array-read-said : tie.Need-array-read-said Inv-loop μ-loop
+array-read-said c = omega (arith, few (c .before))
+
+said-requires : tie.Need-said-requires Inv-loop μ-loop
+said-requires c κs = search needs
+
+mul-operations : tie.Need-mul-operations Inv-loop μ-loop
+mul-operations c = omega (arith, few (c .before .before))
+
+array-set-from-operations : tie.Need-array-set-from-operations Inv-loop μ-loop
+array-set-from-operations c = omega (arith, few (c .before .before))
+
+add-k : tie.Need-add-k Inv-loop μ-loop
+add-k c = omega arith
+
+loop-less : tie.Need-loop-less Inv-loop μ-loop
+loop-less c = omega arith
+
+loop-again : tie.Need-loop-again Inv-loop μ-loop
+loop-again c =
+    let l = c .before .before .loop in
+    let fits = few (c .before .before) in
+    let e = c .before .before .before .identity .result in (
+      omega arith,
+      ap₂ (λ m x. set m (l .k) x) (l .inv .1) (c .said .ensures) ∙ filled-more saidBy (c .before .before .before .before .before .before .listed .last .1 .1 .1 .0) (replicate 48 e) (l .k) 0 (omega arith) (omega arith),
+    )
+
+returns : tie.Need-returns Inv-loop μ-loop
 returns c =
-    let a = c .before .before .before .args in
-    c .refused .ensures ∙ answer-off (a .c) (a .n) (take (a .n) (a .generators)) (gens-long (c .before .before .before)) (c .before .before .first-off .result) (c .before .before .first-off .ensures) (c .before .if1 .taken)
-
-traverse-requires : tie.Need-traverse-requires
-traverse-requires c κs = search needs
-
-refused-requires-2 : tie.Need-refused-requires-2
-refused-requires-2 c κs = search needs
-
-returns-2 : tie.Need-returns-2
-returns-2 c =
-    let a = c .before .before .before .before .before .before .args in
-    c .refused2 .ensures ∙ answer-unbounded (a .c) (a .n) (take (a .n) (a .generators)) (gens-long (c .before .before .before .before .before .before)) (c .before .before .before .before .before .first-off .result) (c .before .before .before .before .before .first-off .ensures) (c .before .before .before .before .if1 .left) (c .before .before .before .traverse .result) (c .before .before .before .traverse .ensures) (not-true _ (c .before .if2 .taken))
-
-refused-requires-3 : tie.Need-refused-requires-3
-refused-requires-3 c κs = search needs
-
-returns-3 : tie.Need-returns-3
-returns-3 c =
     let a = c .before .before .before .before .before .before .before .before .args in
-    c .refused3 .ensures ∙ answer-torn (a .c) (a .n) (take (a .n) (a .generators)) (gens-long (c .before .before .before .before .before .before .before .before)) (c .before .before .before .before .before .before .before .first-off .result) (c .before .before .before .before .before .before .before .first-off .ensures) (c .before .before .before .before .before .before .if1 .left) (c .before .before .before .before .before .traverse .result) (c .before .before .before .before .before .traverse .ensures) (not-false _ (c .before .before .before .if2 .left)) (not-true _ (c .before .if3 .taken))
-
-returns-4 : tie.Need-returns-4
-returns-4 c =
-    let a = c .before .before .before .before .before .before .before .before .before .args in
-    answer-group (a .c) (a .n) (take (a .n) (a .generators)) (gens-long (c .before .before .before .before .before .before .before .before .before)) (c .before .before .before .before .before .before .before .before .first-off .result) (c .before .before .before .before .before .before .before .before .first-off .ensures) (c .before .before .before .before .before .before .before .if1 .left) (c .before .before .before .before .before .before .traverse .result) (c .before .before .before .before .before .before .traverse .ensures) (not-false _ (c .before .before .before .before .if2 .left)) (not-false _ (c .before .before .if3 .left))
+    let h = c .before .before .before .before .before .listed in
+    let l = c .before .loop in
+    let all : l .k ≡ h .result .count = omega arith in
+    let filled = l .inv .1 ∙ ap₂ (λ (k : ℕ) e. map saidBy (take k (h .last .1 .1 .1 .0)) ++ drop k (replicate 48 e)) all (c .before .before .identity .ensures) in
+    answer-laid (a .c) (a .n) (outcomeOf (a .c) (take (a .n) (a .generators))) (h .result) (h .last .1 .1 .1 .0) (h .last .1 .1 .1 .1 .0) (h .ensures) (l .operations) filled
 
 pub group-of-spec : {M : Type 1} → statement M
 group-of-spec =
     tie.close
     (tie.spec
-    first-off-requires
-    refused-requires
-    returns
-    traverse-requires
-    refused-requires-2
-    returns-2
-    refused-requires-3
-    returns-3
-    returns-4)
+    Inv-loop
+    μ-loop
+    slice-aggregate-listed
+    slice-aggregate-listed-2
+    listed-requires
+    identity-requires
+    loop-holds
+    mul-said
+    array-read-said
+    said-requires
+    mul-operations
+    array-set-from-operations
+    add-k
+    loop-less
+    loop-again
+    returns)

@@ -1,82 +1,90 @@
--- The invariant: the place is that in what is left, plus what was passed.
+-- The hint tells that the sign is not listed, or where it stands; else the search does.
 use mathlib.Core.Path.{_≡_, sym, ap, _∙_}
-use Prim.Native.Nat.{ℕ, _≤_, _-_, _+_}
+use mathlib.Core.List.{map}
+use Prim.Native.Nat.{_-_, _<_}
 use native.Mathlib.Omega.{arith}
-use lib.Dec.{eqb}
-use lib.ListN.{length, take, drop}
+use lib.ListN.{length, take, length-map}
 use lib.Seq.{getD-take, length-take-le}
-use Rattle.laws.specs.Growth.{place}
-use Rattle.space_group.specs.Places.{place-hit, place-miss, place-end}
+use Rattle.space_group.specs.NumberGrowth.{signOf}
+use Rattle.space_group.specs.Hints.{hint-none, hint-holds}
+use Rattle.space_group.specs.NumberSlots.{image-at}
+use borrow.Author.Needs.{needs}
 use Rattle.space_group.proofs.traverse.place_of.Statement.{statement}
 use Rattle.space_group.proofs.traverse.place_of.Tie as tie
 use Rattle.space_group.proofs.traverse.place_of.Reads as reads
 use Rattle.space_group.proofs.traverse.place_of.Lts as lts
+use Rattle.space_group.proofs.traverse.search.Reads as search-reads
+use Rattle.space_group.proofs.traverse.sign.Reads as sign-reads
+use Rattle.space_group.proofs.traverse.wide.Reads as wide-reads
 
-abbrev Inv-loop : tie.InvT-loop
-Inv-loop codes count code i₀ i = (i ≤ count) × (place eqb code (take count codes) ≡ i + place eqb code (drop i (take count codes)))
+element-copy-out-wide : tie.Need-element-copy-out-wide
+element-copy-out-wide c = search needs
 
-abbrev μ-loop : tie.MeasureT-loop
-μ-loop codes count code i₀ i = count - i
+-- As many signs as are looked at.
+signs-long : (c : tie.Start) → (length (take (c .args .count) (c .args .numbers .now)) ≡ c .args .count) × (length (map signOf (take (c .args .count) (c .args .numbers .now))) ≡ c .args .count)
+signs-long c =
+    let s = take (c .args .count) (c .args .numbers .now) in
+    let long = length-take-le (c .args .count) (c .args .numbers .now) (c .pre .0) in
+    (long, length-map s signOf ∙ long)
 
--- as many codes as are looked at
-length-of : (c : tie.Start Inv-loop μ-loop) → length (take (c .args .count) (c .args .codes .now)) ≡ c .args .count
-length-of c = length-take-le (c .args .count) (c .args .codes .now) (omega arith)
+wide-requires : tie.Need-wide-requires
+wide-requires c κs = search needs
 
-loop-holds : tie.Need-loop-holds Inv-loop μ-loop
-loop-holds c = omega arith
-
-mul-if2 : tie.Need-mul-if2 Inv-loop μ-loop
-mul-if2 c = omega arith
-
-shared-slice-read-if2 : tie.Need-shared-slice-read-if2 Inv-loop μ-loop
-shared-slice-read-if2 c = omega arith
-
-add-i : tie.Need-add-i Inv-loop μ-loop
-add-i c = omega arith
-
-loop-less : tie.Need-loop-less Inv-loop μ-loop
-loop-less c = omega arith
-
-loop-again : tie.Need-loop-again Inv-loop μ-loop
-loop-again c =
-    let a = c .before .before .before .before .args in
-    let i = c .before .before .before .loop .i in
-    let s = take (a .count) (a .codes .now) in
-    let long : length s ≡ a .count = length-of (c .before .before .before .before) in
-    let e = getD-take (a .count) (a .codes .now) i 0 (omega arith) in
-    let miss = place-miss (a .code) s i (omega arith) (λ h. c .if2 .left (sym e ∙ h)) in
-    omega arith
-
-returns : tie.Need-returns Inv-loop μ-loop
+returns : tie.Need-returns
 returns c =
-    let a = c .before .before .args in
-    let s = take (a .count) (a .codes .now) in
-    let long : length s ≡ a .count = length-of (c .before .before) in
-    let all : c .before .loop .i ≡ length s = omega arith in
-    let at-end = ap (λ (i : ℕ). place eqb (a .code) (drop i s)) all ∙ place-end (a .code) s in
+    let a = c .before .before .before .before .args in
+    let signs = map signOf (take (a .count) (a .numbers .now)) in
+    let long = signs-long (c .before .before .before .before) in
+    let absent = hint-none signs (a .hints .now) (c .before .before .before .before .pre .1) (a .sought) (sym (c .before .wide .ensures) ∙ c .if1 .taken) in
     omega arith
 
-returns-2 : tie.Need-returns-2 Inv-loop μ-loop
-returns-2 c =
-    let a = c .before .before .before .before .args in
-    let i = c .before .before .before .loop .i in
-    let s = take (a .count) (a .codes .now) in
-    let long : length s ≡ a .count = length-of (c .before .before .before .before) in
-    let e = getD-take (a .count) (a .codes .now) i 0 (omega arith) in
-    let hit = place-hit (a .code) s i (omega arith) (e ∙ c .if2 .taken) in
-    omega arith
+sub-k : tie.Need-sub-k
+sub-k c = search needs
+
+search-requires : tie.Need-search-requires
+search-requires c κs = search needs
+
+returns-2 : tie.Need-returns-2
+returns-2 c = search needs
+
+mul-sign : tie.Need-mul-sign
+mul-sign c = search needs
+
+shared-slice-read-sign : tie.Need-shared-slice-read-sign
+shared-slice-read-sign c = search needs
+
+sign-requires : tie.Need-sign-requires
+sign-requires c κs = search needs
+
+search-requires-2 : tie.Need-search-requires-2
+search-requires-2 c κs = search needs
+
+returns-3 : tie.Need-returns-3
+returns-3 c = search needs
+
+returns-4 : tie.Need-returns-4
+returns-4 c =
+    let a = c .before .before .before .before .before .before .before .before .args in
+    let k = c .before .before .before .before .before .wide .result - 1 in
+    let s = take (a .count) (a .numbers .now) in
+    let long = signs-long (c .before .before .before .before .before .before .before .before) in
+    let low : k < a .count = omega arith in
+    let e = image-at signOf s k 0 0 (omega arith) ∙ ap signOf (getD-take (a .count) (a .numbers .now) k 0 low) ∙ sym (c .before .sign .ensures) ∙ c .if3 .left in
+    sym (hint-holds (map signOf s) (a .hints .now) (c .before .before .before .before .before .before .before .before .pre .1) (a .sought) k (omega arith) e)
 
 pub place-of-spec : {M : Type 1} → statement M
 place-of-spec =
     tie.close
     (tie.spec
-    Inv-loop
-    μ-loop
-    loop-holds
-    mul-if2
-    shared-slice-read-if2
-    add-i
-    loop-less
-    loop-again
+    element-copy-out-wide
+    wide-requires
     returns
-    returns-2)
+    sub-k
+    search-requires
+    returns-2
+    mul-sign
+    shared-slice-read-sign
+    sign-requires
+    search-requires-2
+    returns-3
+    returns-4)
