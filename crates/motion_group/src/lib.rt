@@ -5,11 +5,10 @@ pub mod record;
 pub mod symbol;
 mod table;
 
-// Why there is no answer: the refusal of the symbol or of the record; or 26 to 29, that of its group.
-pub enum Refusal {
-    Symbol(symbol_group::refusal::Refusal),
-    Record(group_record::Refusal),
-    Group(finite_group::Refusal),
+// Why there is no answer: the number and the place of R8, of the symbol, of the record, or of its group.
+pub struct Refusal {
+    pub number: u8,
+    pub place: usize,
 }
 
 // A number, an element, a set or a count; or a refusal.
