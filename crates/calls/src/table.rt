@@ -1,11 +1,11 @@
 // What is asked of the bytes of a table, and how the answer is handed on.
 ghost use mathlib.Core.Path.{_≡_};
-ghost use Rattle.finite_group.specs.Answers.{numberOf, tableAnswer, orderAnswer, identityAnswer, subgroupsAnswer, subgroupsBytes, classesAnswer, classesBytes, conjugateEntry, normalizerEntry, permutationEntry, permutationList, conjugatesEntry, conjugatesList, conjugatorsList};
+ghost use Rattle.finite_group.specs.Answers.{tableAnswer, orderAnswer, identityAnswer, subgroupsAnswer, subgroupsBytes, classesAnswer, classesBytes, conjugateEntry, normalizerEntry, permutationEntry, permutationList, conjugatesEntry, conjugatesList, conjugatorsList};
 ghost use Rattle.calls.specs.Packing.{packed};
 ghost use Rattle.calls.specs.TableBounds.{Packable};
 use super::packing::refused;
 use finite_group::Answer;
-use finite_group::Refusal;
+use finite_group::number;
 
 #[no_mangle]
 pub extern "C" fn symmetry_table_order(order: u64, table: &[u8]) -> u64
@@ -93,21 +93,5 @@ fn answered(answer: Answer) -> u64
     match answer {
         Answer::Value(value) => value,
         Answer::Refused(refusal) => refused(number(refusal), 0),
-    }
-}
-
-pub(crate) fn number(refusal: Refusal) -> u8
-    ensures { λ r. ⌜ r ≡ numberOf refusal ⌝ }
-{
-    match refusal {
-        Refusal::Order => 21,
-        Refusal::Cells => 22,
-        Refusal::Identity => 23,
-        Refusal::Inverse => 24,
-        Refusal::Associativity => 25,
-        Refusal::Slots => 26,
-        Refusal::Subgroup => 27,
-        Refusal::Element => 28,
-        Refusal::Normalizer => 29,
     }
 }

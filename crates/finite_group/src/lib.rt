@@ -2,11 +2,27 @@
 // that of the room which finds its answer.
 // Ported from subgroup/finite_group.rs of moyo 0.21.0 (`FiniteGroup`), and changed: a flat table of bytes, sets as 64-bit numbers in lent slots, refusals.
 ghost use mathlib.Core.Path.{_≡_};
-ghost use Rattle.finite_group.specs.Answers.{orderAnswer, identityAnswer, subgroupsAnswer, subgroupsBytes, classesAnswer, classesBytes, conjugateEntry, normalizerEntry, permutationEntry, permutationList, conjugatesEntry, conjugatesList, conjugatorsList};
+ghost use Rattle.finite_group.specs.Answers.{numberOf, orderAnswer, identityAnswer, subgroupsAnswer, subgroupsBytes, classesAnswer, classesBytes, conjugateEntry, normalizerEntry, permutationEntry, permutationList, conjugatesEntry, conjugatesList, conjugatorsList};
 pub use table_check::Answer;
 use table_check::Checked;
 pub use table_check::Refusal;
 use table_check::from_table;
+
+pub fn number(refusal: Refusal) -> u8
+    ensures { λ r. ⌜ r ≡ numberOf refusal ⌝ }
+{
+    match refusal {
+        Refusal::Order => 21,
+        Refusal::Cells => 22,
+        Refusal::Identity => 23,
+        Refusal::Inverse => 24,
+        Refusal::Associativity => 25,
+        Refusal::Slots => 26,
+        Refusal::Subgroup => 27,
+        Refusal::Element => 28,
+        Refusal::Normalizer => 29,
+    }
+}
 
 pub fn order(n: usize, table: &[u8]) -> Answer
     ensures { λ r. ⌜ r ≡ orderAnswer n (now (table .entry)) ⌝ }

@@ -16,10 +16,9 @@ use Rattle.table_check.specs.TableCheck.{Accepts}
 use Rattle.table_check.specs.declared.Answer.{Answer as TableAnswer}
 use Rattle.table_check.specs.declared.Answer.the-variants as table-answers
 use Rattle.motion_group.specs.Accepted.{symbol-table-accepted, record-table-accepted}
-use Rattle.motion_group.specs.Answers.{ofTable, onSymbol, onRecord}
+use Rattle.motion_group.specs.Answers.{symbolRefusal, recordRefusal, ofTable, onSymbol, onRecord}
 use Rattle.motion_group.specs.declared.Answer.{Answer}
 use Rattle.motion_group.specs.declared.Answer.the-variants.{Value, Refused}
-use Rattle.motion_group.specs.declared.Refusal.the-variants.{Symbol, Record}
 
 -- a value of a table is told as a value, and nothing else is
 pub told-value : (a : TableAnswer) (k : ℕ) → ofTable a ≡ Value k → a ≡ table-answers.Value k
@@ -44,7 +43,7 @@ symbol-asked text = record {
         → (n : ℕ) × (orderOf text ≡ symbol-order.Is n) × (f n (symbolCells text) ≡ table-answers.Value k)
     by-order f k (symbol-order.Is n) o p = (n, o, told-value _ k (rw o at p))
     by-order f k (symbol-order.Refused r) o p =
-        let q : onSymbol text f ≡ Refused (Symbol r) = rw o refl in
+        let q : onSymbol text f ≡ Refused (symbolRefusal r) = rw o refl in
         let z : _≡_ {A = ℕ} 0 1 = cc in
         absurd (omega arith)
 
@@ -60,7 +59,7 @@ record-asked bytes b = record {
         → (n : ℕ) × (recordOrder bytes ≡ record-order.Is n) × (f n (recordCells bytes) ≡ table-answers.Value k)
     by-order f k (record-order.Is n) o p = (n, o, told-value _ k (rw o at p))
     by-order f k (record-order.Refused r) o p =
-        let q : onRecord bytes f ≡ Refused (Record r) = rw o refl in
+        let q : onRecord bytes f ≡ Refused (recordRefusal r) = rw o refl in
         let z : _≡_ {A = ℕ} 0 1 = cc in
         absurd (omega arith)
 

@@ -1,6 +1,6 @@
--- Number, place and value determine an answer on the group of a symbol or a record, as they do in the rooms of texts, of records and of tables: the numbers of
--- the three rooms are apart.
-use mathlib.Core.Path.{_≡_, ap}
+-- Number, place and value determine an answer on the group of a symbol or a record, and its number and place say whether the text, the record or its group is
+-- refused, and why, as they do in the three rooms of these: their numbers are apart.
+use mathlib.Core.Path.{_≡_, ap, ap₂}
 use Prim.Native.Nat.{ℕ, _<_, _≤_}
 use native.Mathlib.Omega.{arith}
 use Rattle.symbol_group.specs.Refusals as symbol
@@ -14,11 +14,10 @@ use Rattle.finite_group.specs.Answers as group
 use Rattle.table_check.specs.declared.Refusal as group-refusal
 use Rattle.table_check.specs.declared.Refusal.the-variants as group-refusals
 use Rattle.table_answers.specs.Once.{number-once}
-use Rattle.motion_group.specs.Answers.{numberOf, placeOf, motionAnswer}
+use Rattle.motion_group.specs.Answers.{symbolRefusal, recordRefusal, tableRefusal, motionAnswer}
 use Rattle.motion_group.specs.declared.Answer.{Answer}
 use Rattle.motion_group.specs.declared.Answer.the-variants.{Value, Refused}
 use Rattle.motion_group.specs.declared.Refusal.{Refusal}
-use Rattle.motion_group.specs.declared.Refusal.the-variants.{Symbol, Record, Group}
 
 -- the numbers of tables
 group-number : (r : group-refusal.Refusal) → (21 ≤ group.numberOf r) × (group.numberOf r ≤ 29)
@@ -45,22 +44,36 @@ record-high record-refusals.WrongLength = omega arith
 record-high record-refusals.WrongItem = omega arith
 record-high record-refusals.NotAllowed = omega arith
 
-refusal-once : (r s : Refusal) → numberOf r ≡ numberOf s → placeOf r ≡ placeOf s → r ≡ s
-refusal-once (Symbol r) (Symbol s) e p = ap Symbol (symbol-told.told-once r s e p)
-refusal-once (Symbol r) (Record s) e p = absurd (omega (arith, symbol-low r, record-high s))
-refusal-once (Symbol r) (Group s) e p = absurd (omega (arith, symbol-low r, group-number s))
-refusal-once (Record r) (Symbol s) e p = absurd (omega (arith, symbol-low s, record-high r))
-refusal-once (Record r) (Record s) e p = ap Record (one-refusal r s e)
-refusal-once (Record r) (Group s) e p = absurd (omega (arith, group-number s, record-high r))
-refusal-once (Group r) (Symbol s) e p = absurd (omega (arith, symbol-low s, group-number r))
-refusal-once (Group r) (Record s) e p = absurd (omega (arith, group-number r, record-high s))
-refusal-once (Group r) (Group s) e p = ap Group (number-once r s e)
+-- what can be refused
+pub data Reason : Type 0 where
+  ofText : symbol-refusal.Refusal → Reason
+  ofRecord : record-refusal.Refusal → Reason
+  ofGroup : group-refusal.Refusal → Reason
+
+abbrev pub inNumbers : Reason → Refusal
+inNumbers (ofText r) = symbolRefusal r
+inNumbers (ofRecord r) = recordRefusal r
+inNumbers (ofGroup r) = tableRefusal r
+
+told-once : (r s : Reason) → inNumbers r .number ≡ inNumbers s .number → inNumbers r .place ≡ inNumbers s .place → r ≡ s
+told-once (ofText r) (ofText s) e p = ap ofText (symbol-told.told-once r s e p)
+told-once (ofText r) (ofRecord s) e p = absurd (omega (arith, symbol-low r, record-high s))
+told-once (ofText r) (ofGroup s) e p = absurd (omega (arith, symbol-low r, group-number s))
+told-once (ofRecord r) (ofText s) e p = absurd (omega (arith, symbol-low s, record-high r))
+told-once (ofRecord r) (ofRecord s) e p = ap ofRecord (one-refusal r s e)
+told-once (ofRecord r) (ofGroup s) e p = absurd (omega (arith, group-number s, record-high r))
+told-once (ofGroup r) (ofText s) e p = absurd (omega (arith, symbol-low s, group-number r))
+told-once (ofGroup r) (ofRecord s) e p = absurd (omega (arith, group-number r, record-high s))
+told-once (ofGroup r) (ofGroup s) e p = ap ofGroup (number-once r s e)
+
+pub reason-once : (r s : Reason) → inNumbers r ≡ inNumbers s → r ≡ s
+reason-once r s e = told-once r s (ap (λ (t : Refusal). t .number) e) (ap (λ (t : Refusal). t .place) e)
 
 pub answer-once : (a b : Answer) → motionAnswer a ≡ motionAnswer b → a ≡ b
 answer-once (Value v) (Value w) e = let same : v ≡ w = cc in ap Value same
 answer-once (Value v) (Refused r) e = let z : _≡_ {A = ℕ} 0 1 = cc in absurd (omega arith)
 answer-once (Refused r) (Value w) e = let z : _≡_ {A = ℕ} 0 1 = cc in absurd (omega arith)
 answer-once (Refused r) (Refused s) e =
-    let number : numberOf r ≡ numberOf s = cc in
-    let place : placeOf r ≡ placeOf s = cc in
-    ap Refused (refusal-once r s number place)
+    let number : r .number ≡ s .number = cc in
+    let place : r .place ≡ s .place = cc in
+    ap₂ (λ (n p : ℕ). Refused (record { number = n; place = p })) number place

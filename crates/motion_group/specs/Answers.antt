@@ -6,42 +6,43 @@ use Rattle.symbol_group.specs.Answers.{orderOf}
 use Rattle.symbol_group.specs.Refusals as symbol
 use Rattle.symbol_group.specs.declared.SymbolOrder.{SymbolOrder}
 use Rattle.symbol_group.specs.declared.SymbolOrder.the-variants as symbol-order
+use Rattle.symbol_group.specs.declared.refusal.Refusal as symbol-refusal
 use Rattle.group_record.specs.Reading.{refusalNumber}
+use Rattle.group_record.specs.declared.Refusal as record-refusal
 use Rattle.group_table.specs.Tables.{symbolCells, recordOrder, recordCells}
 use Rattle.group_table.specs.declared.RecordOrder.{RecordOrder}
 use Rattle.group_table.specs.declared.RecordOrder.the-variants as record-order
 use Rattle.finite_group.specs.Answers as group
 use Rattle.table_check.specs.declared.Answer as group-answer
 use Rattle.table_check.specs.declared.Answer.the-variants as group-answers
+use Rattle.table_check.specs.declared.Refusal as table-refusal
 use Rattle.motion_group.specs.declared.Answer.{Answer}
 use Rattle.motion_group.specs.declared.Answer.the-variants.{Value, Refused}
 use Rattle.motion_group.specs.declared.Refusal.{Refusal}
-use Rattle.motion_group.specs.declared.Refusal.the-variants.{Symbol, Record, Group}
 use Rattle.motion_group.specs.declared.table.Source.{Source}
 use Rattle.motion_group.specs.declared.table.Source.the-variants.{Group as Given, Refused as NotGiven}
 
 -- ---- in numbers
--- The number of a refusal, and its place.
-abbrev pub numberOf : Refusal → ℕ
-numberOf (Symbol r) = symbol.numberOf r
-numberOf (Record r) = refusalNumber r
-numberOf (Group r) = group.numberOf r
+-- The number and the place of a symbol's refusal, of a record's, and of one that a table has.
+abbrev pub symbolRefusal : symbol-refusal.Refusal → Refusal
+symbolRefusal r = record { number = symbol.numberOf r; place = symbol.placeOf r }
 
-abbrev pub placeOf : Refusal → ℕ
-placeOf (Symbol r) = symbol.placeOf r
-placeOf (Record r) = 0
-placeOf (Group r) = group.placeOf r
+abbrev pub recordRefusal : record-refusal.Refusal → Refusal
+recordRefusal r = record { number = refusalNumber r; place = 0 }
+
+abbrev pub tableRefusal : table-refusal.Refusal → Refusal
+tableRefusal r = record { number = group.numberOf r; place = group.placeOf r }
 
 -- What an answer on the group of a symbol or a record says.
 abbrev pub motionAnswer : Answer → answer.Answer ℕ answer.Nothing
 motionAnswer (Value v) = answer.given v
-motionAnswer (Refused r) = answer.refused (numberOf r) (placeOf r) tt
+motionAnswer (Refused r) = answer.refused (r .number) (r .place) tt
 
 -- ---- on the order of a group, or a refusal
 -- What is answered on a table, as an answer of this room.
 abbrev pub ofTable : group-answer.Answer → Answer
 ofTable (group-answers.Value v) = Value v
-ofTable (group-answers.Refused r) = Refused (Group r)
+ofTable (group-answers.Refused r) = Refused (tableRefusal r)
 
 abbrev pub onSource : Source → (ℕ → group-answer.Answer) → Answer
 onSource (Given n) f = ofTable (f n)
@@ -56,7 +57,7 @@ bytesOn (NotGiven r) lent f = lent
 -- What is asked of the order and the table of an accepted symbol; or its refusal.
 abbrev pub ofSymbol : SymbolOrder → Source
 ofSymbol (symbol-order.Is n) = Given n
-ofSymbol (symbol-order.Refused r) = NotGiven (Symbol r)
+ofSymbol (symbol-order.Refused r) = NotGiven (symbolRefusal r)
 
 abbrev pub onSymbol : List ℕ → (ℕ → List ℕ → group-answer.Answer) → Answer
 onSymbol text f = onSource (ofSymbol (orderOf text)) (λ n. f n (symbolCells text))
@@ -68,7 +69,7 @@ bytesOnSymbol text lent f = bytesOn (ofSymbol (orderOf text)) lent (λ n. f n (s
 -- What is asked of the order and the table of a record that is read; or its refusal.
 abbrev pub ofRecord : RecordOrder → Source
 ofRecord (record-order.Is n) = Given n
-ofRecord (record-order.Refused r) = NotGiven (Record r)
+ofRecord (record-order.Refused r) = NotGiven (recordRefusal r)
 
 abbrev pub onRecord : List ℕ → (ℕ → List ℕ → group-answer.Answer) → Answer
 onRecord bytes f = onSource (ofRecord (recordOrder bytes)) (λ n. f n (recordCells bytes))

@@ -5,11 +5,11 @@ pub mod record;
 pub mod symbol;
 mod table;
 
-// Why there is no answer: the refusal of the symbol or of the record; or 26 to 29, that of its group.
-pub enum Refusal {
-    Symbol(symbol_group::refusal::Refusal),
-    Record(group_record::Refusal),
-    Group(finite_group::Refusal),
+// Why there is no answer: the number and the place of R8, of the symbol, of the record, or of its group. The place stands first, where an answer has
+// its value: a caller then picks one of two whole words, which takes less code than parts of one.
+pub struct Refusal {
+    pub place: usize,
+    pub number: u8,
 }
 
 // A number, an element, a set or a count; or a refusal.

@@ -7,7 +7,7 @@ ghost use lib.ListN.{length};
 ghost use Rattle.group_table.specs.Tables.{recordOrder, recordCells};
 ghost use Rattle.finite_group.specs.Answers.{identityAnswer, subgroupsAnswer, subgroupsBytes, classesAnswer, classesBytes, conjugateEntry, normalizerEntry, permutationEntry, permutationList, conjugatesEntry, conjugatesList, conjugatorsList};
 ghost use Rattle.table_check.specs.declared.Answer.the-variants.{Value};
-ghost use Rattle.motion_group.specs.Answers.{ofRecord, onRecord, bytesOnRecord};
+ghost use Rattle.motion_group.specs.Answers.{recordRefusal, ofRecord, onRecord, bytesOnRecord};
 ghost use Rattle.motion_group.specs.Cells.{Holds};
 use super::Answer;
 use super::Refusal;
@@ -31,7 +31,17 @@ fn table(bytes: &[u8], cells: &mut [u8]) -> Source
 {
     match fill_cells(bytes, cells) {
         RecordOrder::Is(order) => Source::Group(order),
-        RecordOrder::Refused(why) => Source::Refused(Refusal::Record(why)),
+        RecordOrder::Refused(why) => Source::Refused(in_numbers(why)),
+    }
+}
+
+// A record is refused as a whole: there is no place in it.
+fn in_numbers(why: group_record::Refusal) -> Refusal
+    ensures { λ r. ⌜ r ≡ recordRefusal why ⌝ }
+{
+    Refusal {
+        number: why.number(),
+        place: 0,
     }
 }
 
@@ -42,7 +52,7 @@ pub fn order(bytes: &[u8]) -> Answer
     let answer = group.answer;
     match answer {
         Reading::Accepted => Answer::Value(group.count as u64),
-        Reading::Refused(why) => Answer::Refused(Refusal::Record(why)),
+        Reading::Refused(why) => Answer::Refused(in_numbers(why)),
     }
 }
 

@@ -8,7 +8,7 @@ ghost use Rattle.symbol_group.specs.Answers.{orderOf};
 ghost use Rattle.group_table.specs.Tables.{symbolCells};
 ghost use Rattle.finite_group.specs.Answers.{identityAnswer, subgroupsAnswer, subgroupsBytes, classesAnswer, classesBytes, conjugateEntry, normalizerEntry, permutationEntry, permutationList, conjugatesEntry, conjugatesList, conjugatorsList};
 ghost use Rattle.table_check.specs.declared.Answer.the-variants.{Value};
-ghost use Rattle.motion_group.specs.Answers.{ofSymbol, onSymbol, bytesOnSymbol};
+ghost use Rattle.motion_group.specs.Answers.{symbolRefusal, ofSymbol, onSymbol, bytesOnSymbol};
 ghost use Rattle.motion_group.specs.Cells.{Holds};
 use super::Answer;
 use super::Refusal;
@@ -29,7 +29,16 @@ fn table(text: &[u8], cells: &mut [u8]) -> Source
 {
     match fill_cells(text, cells) {
         SymbolOrder::Is(order) => Source::Group(order),
-        SymbolOrder::Refused(refusal) => Source::Refused(Refusal::Symbol(refusal)),
+        SymbolOrder::Refused(refusal) => Source::Refused(in_numbers(refusal)),
+    }
+}
+
+fn in_numbers(refusal: symbol_group::refusal::Refusal) -> Refusal
+    ensures { λ r. ⌜ r ≡ symbolRefusal refusal ⌝ }
+{
+    Refusal {
+        number: refusal.number(),
+        place: refusal.place(),
     }
 }
 
@@ -38,7 +47,7 @@ pub fn order(text: &[u8]) -> Answer
 {
     match symbol_group::order(text) {
         SymbolOrder::Is(n) => Answer::Value(n as u64),
-        SymbolOrder::Refused(refusal) => Answer::Refused(Refusal::Symbol(refusal)),
+        SymbolOrder::Refused(refusal) => Answer::Refused(in_numbers(refusal)),
     }
 }
 
@@ -48,7 +57,7 @@ pub fn identity(text: &[u8]) -> Answer
 {
     match symbol_group::order(text) {
         SymbolOrder::Is(_) => Answer::Value(0),
-        SymbolOrder::Refused(refusal) => Answer::Refused(Refusal::Symbol(refusal)),
+        SymbolOrder::Refused(refusal) => Answer::Refused(in_numbers(refusal)),
     }
 }
 

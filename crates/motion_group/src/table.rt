@@ -8,6 +8,7 @@ ghost use Rattle.motion_group.specs.Answers.{ofTable, onSource, bytesOn}
 ghost use Rattle.motion_group.specs.Cells.{Fits};
 use super::Answer;
 use super::Refusal;
+use finite_group::number;
 
 // The order of the group whose table the first order² cells hold, or the refusal of what it was to be filled from.
 pub(crate) enum Source {
@@ -20,7 +21,10 @@ fn told(answer: finite_group::Answer) -> Answer
 {
     match answer {
         finite_group::Answer::Value(value) => Answer::Value(value),
-        finite_group::Answer::Refused(refusal) => Answer::Refused(Refusal::Group(refusal)),
+        finite_group::Answer::Refused(why) => Answer::Refused(Refusal {
+            number: number(why),
+            place: 0,
+        }),
     }
 }
 

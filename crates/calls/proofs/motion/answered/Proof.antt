@@ -11,22 +11,14 @@ enum-known-answer c = search needs
 enum-known-answer-2 : tie.Need-enum-known-answer-2
 enum-known-answer-2 c = search needs
 
-number-requires : tie.Need-number-requires
-number-requires c κs = search needs
-
-place-requires : tie.Need-place-requires
-place-requires c κs = search needs
-
 refused-requires : tie.Need-refused-requires
-refused-requires c κs = rw (c .before .number .ensures, c .place .ensures) (tellable-as (sym (c .before .before .before .answer2 .given .1)) (c .before .before .before .before .before .pre))
+refused-requires c κs = tellable-as (sym (c .before .answer2 .given .1)) (c .before .before .before .pre)
 
 returns : tie.Need-returns
 returns c = search needs
 
 returns-2 : tie.Need-returns-2
-returns-2 c =
-    c .refused .ensures
-    ∙ simp (c .before .before .number .ensures, c .before .place .ensures, c .before .before .before .before .answer2 .given .1)
+returns-2 c = c .refused .ensures ∙ simp (c .before .before .answer2 .given .1)
 
 pub answered-spec : {M : Type 1} → statement M
 answered-spec =
@@ -34,8 +26,6 @@ answered-spec =
     (tie.spec
     enum-known-answer
     enum-known-answer-2
-    number-requires
-    place-requires
     refused-requires
     returns
     returns-2)

@@ -4,6 +4,7 @@ use native.Mathlib.Omega.{arith}
 use borrow.Author.Needs.{needs}
 use Rattle.motion_group.specs.Accepted.{filled-holds, record-holds}
 use Rattle.motion_group.specs.Answers.{ofRecord}
+use Rattle.motion_group.specs.declared.table.Source.the-variants.{Refused as NotGiven}
 use Rattle.motion_group.proofs.record.table.Statement.{statement}
 use Rattle.motion_group.proofs.record.table.Tie as tie
 
@@ -15,6 +16,9 @@ enum-known-order c = search needs
 
 enum-known-why : tie.Need-enum-known-why
 enum-known-why c = search needs
+
+in-numbers-requires : tie.Need-in-numbers-requires
+in-numbers-requires c κs = search needs
 
 same-length : tie.Need-same-length
 same-length c = search needs
@@ -32,9 +36,9 @@ same-length-2 c = search needs
 
 returns-2 : tie.Need-returns-2
 returns-2 c =
-    let filled = c .before .before .before .before .before in
+    let filled = c .before .before .before .before .before .before in
     let start = filled .before .before .before .before in
-    filled-holds (sym (ap ofRecord (c .before .why .given .1))
+    filled-holds (ap NotGiven (c .in-numbers .ensures) ∙ sym (ap ofRecord (c .before .before .why .given .1))
     ∙ ap ofRecord (filled .fill-cells .ensures .0)) (filled .fill-cells .ensures .1) (record-holds _ _ (λ i. omega
     (arith, filled .before .before .before .shared-slice-known .given i)) (start .pre))
 
@@ -45,6 +49,7 @@ table-spec =
     fill-cells-requires
     enum-known-order
     enum-known-why
+    in-numbers-requires
     same-length
     returns
     same-length-2

@@ -3,6 +3,7 @@ use mathlib.Core.Path.{sym, _∙_, ap}
 use borrow.Author.Needs.{needs}
 use Rattle.motion_group.specs.Accepted.{filled-holds, symbol-holds}
 use Rattle.motion_group.specs.Answers.{ofSymbol}
+use Rattle.motion_group.specs.declared.table.Source.the-variants.{Refused as NotGiven}
 use Rattle.motion_group.proofs.symbol.table.Statement.{statement}
 use Rattle.motion_group.proofs.symbol.table.Tie as tie
 
@@ -14,6 +15,9 @@ enum-known-order c = search needs
 
 enum-known-refusal : tie.Need-enum-known-refusal
 enum-known-refusal c = search needs
+
+in-numbers-requires : tie.Need-in-numbers-requires
+in-numbers-requires c κs = search needs
 
 same-length : tie.Need-same-length
 same-length c = search needs
@@ -30,9 +34,9 @@ same-length-2 c = search needs
 
 returns-2 : tie.Need-returns-2
 returns-2 c =
-    let filled = c .before .before .before .before .before in
+    let filled = c .before .before .before .before .before .before in
     let start = filled .before .before .before .before in
-    filled-holds (sym (ap ofSymbol (c .before .refusal .given .1))
+    filled-holds (ap NotGiven (c .in-numbers .ensures) ∙ sym (ap ofSymbol (c .before .before .refusal .given .1))
     ∙ ap ofSymbol (filled .fill-cells .ensures .0)) (filled .fill-cells .ensures .1) (symbol-holds _ _ (start .pre))
 
 pub table-spec : {M : Type 1} → statement M
@@ -42,6 +46,7 @@ table-spec =
     fill-cells-requires
     enum-known-order
     enum-known-refusal
+    in-numbers-requires
     same-length
     returns
     same-length-2

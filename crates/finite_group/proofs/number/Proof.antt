@@ -1,8 +1,8 @@
 -- Each refusal has its number.
 use Rattle.finite_group.specs.Answers.{numberOf}
 use borrow.Author.Needs.{needs}
-use Rattle.calls.proofs.table.number.Statement.{statement}
-use Rattle.calls.proofs.table.number.Tie as tie
+use Rattle.finite_group.proofs.number.Statement.{statement}
+use Rattle.finite_group.proofs.number.Tie as tie
 
 enum-told : tie.Need-enum-told
 enum-told c = search needs
