@@ -29,7 +29,7 @@ unfolding plus
 moved u v t = simp ring
 
 -- A translation between a motion and its inverse.
-conjugated : (f g : SpaceMotion) (v : Vector) → compose f g ≡ identity → compose f (compose (translationBy v) g) ≡ translationBy (act (f .rotation) v)
+pub conjugated : (f g : SpaceMotion) (v : Vector) → compose f g ≡ identity → compose f (compose (translationBy v) g) ≡ translationBy (act (f .rotation) v)
 unfolding product
 conjugated f g v e =
     let turn : times (f .rotation) (times unit (g .rotation)) ≡ unit =
@@ -62,32 +62,31 @@ module _ (c : Centering) (Inside : SpaceMotion → Type 0) (G : SpaceGroup c Ins
         ),
       )
 
+-- In the form the identity has (0,0,0).
+pub identity-in-form : (c : Centering) (l : List Operation) → Form c l → InSet c (map motionOf l) identity → Mem identityOperation l
+unfolding smallestOperation
+identity-in-form c l F (f, m, near) =
+    let unchanged : smallestOperation c identityOperation ≡ identityOperation =
+    ap (λ (t : Translation). record { rotation = identityOperation .rotation; translation = t }) (origin-smallest c) in
+    let (g, k, e) = mem-of-map motionOf l m in
+    let alike : Alike c (motionOf identityOperation) (motionOf g) =
+    subst (λ (a : SpaceMotion). Alike c a (motionOf g)) (sym identity-motion) (subst (Alike c identity) (sym e) near) in
+    mem-cast (sym unchanged ∙ alike-smallest c identityOperation g identity-entries (F .entries g k) alike ∙ form-smallest c F g k) k
+
 -- A group of motions with L, listed in the form and 1 to 48 of them, is allowed.
 pub group-allowed : (c : Centering) (l : List Operation) → Form c l → 1 ≤ length l → length l ≤ 48 → SpaceGroup c (InSet c (map motionOf l))
     → Allowed c (map motionOf l)
-unfolding smallestOperation
 group-allowed c l F some few G =
     record {
       count = rw (length-map l motionOf) (some, few);
       determinant = λ f m. onto-unimodular (pointsOf c) (points c) (f .rotation) (kept f m);
       keeps = kept;
-      holds-identity = mem-cast (sym identity-motion) (mem-map motionOf there);
+      holds-identity = mem-cast (sym identity-motion) (mem-map motionOf (identity-in-form c l F (G .holds-identity)));
       product = λ f g m k. G .product f g (f, m, alike-reflexive c f) (g, k, alike-reflexive c g);
     }
   where
     kept : (f : SpaceMotion) → Mem f (map motionOf l) → MapsOnto (pointsOf c) (f .rotation)
     kept f m = onto c (InSet c (map motionOf l)) G f (f, m, alike-reflexive c f)
-
-    unchanged : smallestOperation c identityOperation ≡ identityOperation
-    unchanged = ap (λ (t : Translation). record { rotation = identityOperation .rotation; translation = t }) (origin-smallest c)
-
-    there : Mem identityOperation l
-    there =
-        let (f, m, near) = G .holds-identity in
-        let (g, k, e) = mem-of-map motionOf l m in
-        let alike : Alike c (motionOf identityOperation) (motionOf g) =
-        subst (λ (a : SpaceMotion). Alike c a (motionOf g)) (sym identity-motion) (subst (Alike c identity) (sym e) near) in
-        mem-cast (sym unchanged ∙ alike-smallest c identityOperation g identity-entries (F .entries g k) alike ∙ form-smallest c F g k) k
 
 -- Allowed exactly if a group: no clause hides in what is allowed.
 pub allowed-exactly : (c : Centering) (l : List Operation) → Form c l → 1 ≤ length l → length l ≤ 48

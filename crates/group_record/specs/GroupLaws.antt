@@ -11,7 +11,7 @@ use Rattle.laws.specs.Matrix.{Matrix, Vector, times, act, plus, opposite, unit,
 use Rattle.laws.specs.Motion.{SpaceMotion, compose, identity, product}
 use Rattle.laws.specs.Distinct.{has, has-member, has-respects, Mem→has, injection-onto}
 use Rattle.laws.specs.Lattice.{InLattice, in-plus, in-opposite}
-use Rattle.laws.specs.LatticeMaps.{MapsInto}
+use Rattle.laws.specs.LatticeMaps.{MapsInto, MapsOnto}
 use Rattle.operation.specs.Code.{codeOf}
 use Rattle.operation.specs.Composed.{identity-motion}
 use Rattle.operation.specs.Entries.{Entries, digits-entries}
@@ -131,7 +131,14 @@ pub record SpaceGroup (c : Centering) (Inside : SpaceMotion → Type 0) : Type 0
   pub inverse : (f : SpaceMotion) → Inside f → (g : SpaceMotion) × Inside g × (compose f g ≡ identity) × (compose g f ≡ identity)
   pub translations : (v : Vector) → Inside (translationBy v) ↔ InLattice (pointsOf c) v
 
-module _ (c : Centering) {l : List Operation} (L : Listing l) (A : Allowed c (map motionOf l)) where
+-- What makes a group of a list with L added, however long it is: all that is asked of an allowed one but its length.
+pub record Closed (c : Centering) (l : List SpaceMotion) : Type 0 where
+  pub determinant : (f : SpaceMotion) → Mem f l → Unimodular (f .rotation)
+  pub keeps : (f : SpaceMotion) → Mem f l → MapsOnto (pointsOf c) (f .rotation)
+  pub holds-identity : Mem identity l
+  pub product : (f g : SpaceMotion) → Mem f l → Mem g l → (h : SpaceMotion) × Mem h l × Alike c (compose f g) h
+
+module _ (c : Centering) {l : List Operation} (L : Listing l) (A : Closed c (map motionOf l)) where
   -- The listed operation of a product.
   listed-product : (f g : Operation) → Mem f l → Mem g l → (h : Operation) × Mem h l × Alike c (compose (motionOf f) (motionOf g)) (motionOf h)
   listed-product f g m k =
@@ -210,9 +217,9 @@ module _ (c : Centering) {l : List Operation} (L : Listing l) (A : Allowed c (ma
         rw (inverse-sum (inverse (f .rotation)) (f .rotation) (vectorOf (x .translation)) (f .translation) (inverse-times (f .rotation) u)) (in-opposite (pointsOf c) (points c) _ back),
       )
 
-  -- With L added, allowed operations are a group whose translations are L.
-  pub allowed-group : SpaceGroup c (InSet c (map motionOf l))
-  allowed-group =
+  -- With L added, they are a group whose translations are L.
+  pub closed-group : SpaceGroup c (InSet c (map motionOf l))
+  closed-group =
       record {
         holds-identity = (identity, A .holds-identity, alike-reflexive c identity);
         product = products;
@@ -241,3 +248,8 @@ module _ (c : Centering) {l : List Operation} (L : Listing l) (A : Allowed c (ma
         where
           cast : (h : SpaceMotion) (g : Operation) → motionOf g ≡ h → Alike c f h → Alike c f (motionOf g)
           cast h g e a = rw e a
+
+-- With L added, allowed operations are a group whose translations are L.
+pub allowed-group : (c : Centering) {l : List Operation} → Listing l → Allowed c (map motionOf l) → SpaceGroup c (InSet c (map motionOf l))
+allowed-group c L A =
+    closed-group c L (record { determinant = A .determinant; keeps = A .keeps; holds-identity = A .holds-identity; product = A .product })

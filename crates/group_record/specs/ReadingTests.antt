@@ -166,7 +166,7 @@ unfolding productOf
 product-within f g inside = rw (all-entries (compose (motionOf f) (motionOf g) .rotation) .1 inside)
 
 -- A product is listed exactly if the composed motion is, modulo L.
-product-test : (c : Centering) (l : List Operation) → ((f : Operation) → Mem f l → Entries (matrixOf (f .rotation))) → (f g : Operation) → (productListed c (map itemOf l) (productOf f g) ≡ true) ↔ ((h : Operation) × Mem h l × Alike c (compose (motionOf f) (motionOf g)) (motionOf h))
+pub product-test : (c : Centering) (l : List Operation) → ((f : Operation) → Mem f l → Entries (matrixOf (f .rotation))) → (f g : Operation) → (productListed c (map itemOf l) (productOf f g) ≡ true) ↔ ((h : Operation) × Mem h l × Alike c (compose (motionOf f) (motionOf g)) (motionOf h))
 unfolding motionOf
 product-test c l entries f g = (λ e. forth (productOf f g) refl e, back)
   where
@@ -211,7 +211,7 @@ origin-smallest c =
     none-before t (by-y p q) = omega arith
     none-before t (by-z p q r) = omega arith
 
-identity-test : (c : Centering) (l : List Operation) → Form c l → (has (alikeItems c) (itemOf identityOperation) (map itemOf l) ≡ true) ↔ Mem identityOperation l
+pub identity-test : (c : Centering) (l : List Operation) → Form c l → (has (alikeItems c) (itemOf identityOperation) (map itemOf l) ≡ true) ↔ Mem identityOperation l
 identity-test c l F = (
   (λ e.
       let (g, m, p, q) = listed-test c l identityOperation .0 e in
@@ -221,7 +221,7 @@ identity-test c l F = (
   λ m. listed-test c l identityOperation .1 (identityOperation, m, refl, congruent-reflexive (pointsOf c) (points c) (vectorOf (identityOperation .translation))),
 )
 
-keeps-test : (c : Centering) (f : Operation) → Entries (matrixOf (f .rotation)) → (keepsItem c (itemOf f) ≡ true) ↔ MapsOnto (pointsOf c) (matrixOf (f .rotation))
+pub keeps-test : (c : Centering) (f : Operation) → Entries (matrixOf (f .rotation)) → (keepsItem c (itemOf f) ≡ true) ↔ MapsOnto (pointsOf c) (matrixOf (f .rotation))
 unfolding keepsItem
 keeps-test c f e =
     let same : keepsOf c (operationOfItem (itemOf f) .rotation) ≡ keepsOf c (f .rotation) = ap (λ (g : Operation). keepsOf c (g .rotation)) (operation-of-item f e) in

@@ -1,7 +1,12 @@
--- What a magnetic Hall symbol's text means: its time reversals, the text without them, and the answer; and the rules of tokens that these are held against.
+-- What a magnetic Hall symbol's text means: time reversals by the rules, the copy without them byte by byte, the answer; and that these are one.
+pub mod TimeReversals
 pub mod Reversals
 pub mod Answer
 pub mod Copying
-pub mod Told
 pub mod TokenCopies
 pub mod Tokens
+pub mod Texts
+pub mod FlagSlots
+pub mod Places
+pub mod Told
+pub mod WrongPrimes

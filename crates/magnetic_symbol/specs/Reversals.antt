@@ -6,13 +6,10 @@ use Prim.Native.Nat.{ℕ, _+_}
 use lib.Dec.{eqb, leb}
 use lib.ListN.{set, replicate}
 use Rattle.hall_symbol.specs.Bytes.{whitespace, opening}
+use Rattle.magnetic_symbol.specs.TimeReversals.{prime}
 use Rattle.magnetic_symbol.specs.declared.reversals.Mode.{Mode}
 use Rattle.magnetic_symbol.specs.declared.reversals.Mode.the-variants.{Before, First, Between, Unmarked, Marked, Rest}
 use Rattle.magnetic_symbol.specs.declared.reversals.Flags.{Flags}
-
--- The byte 39, `'`.
-unfoldable pub prime : ℕ → Bool
-prime b = eqb b 39
 
 -- Behind a byte of an N token with no `'` to its left.
 abbrev pub marked : ℕ → Mode

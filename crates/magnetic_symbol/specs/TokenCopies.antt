@@ -1,6 +1,6 @@
 -- One token's bytes and its copy: a token without a time reversal stays, and one with it loses its last byte; and the flag that it gives.
 use mathlib.Core.Path.{_≡_, refl, sym, _∙_, ap, subst}
-use mathlib.Core.Bool.{Bool, true, false, cond, not, _&&_, true≢false}
+use mathlib.Core.Bool.{Bool, true, false, cond, _&&_, true≢false}
 use mathlib.Core.List.{List, [], _∷_, _++_}
 use Prim.Native.Nat.{ℕ}
 use lib.Dec.{eqb}
@@ -8,16 +8,16 @@ use borrow.Author.Tests.{eqb-true, not-true, not-false}
 use Rattle.hall_symbol.specs.Bytes.{whitespace, solid, opening}
 use Rattle.hall_symbol.specs.Runs.{Every, Stops}
 use Rattle.hall_symbol.specs.Cut.{solid-not-whitespace}
-use Rattle.magnetic_symbol.specs.Reversals.{prime, after, ends, reverses, gives, copiedByte, blankedFrom, flagsFrom}
-use Rattle.magnetic_symbol.specs.Told.{unprimed}
+use Rattle.magnetic_symbol.specs.TimeReversals.{prime, unprimed}
+use Rattle.magnetic_symbol.specs.Reversals.{after, ends, reverses, gives, copiedByte, blankedFrom, flagsFrom}
 use Rattle.magnetic_symbol.specs.declared.reversals.Mode.{Mode}
 use Rattle.magnetic_symbol.specs.declared.reversals.Mode.the-variants.{Between, Unmarked, Marked, Rest}
 
-both-false : (a : Bool) → a && false ≡ false
+pub both-false : (a : Bool) → a && false ≡ false
 both-false true = refl
 both-false false = refl
 
-not-solid-whitespace : (b : ℕ) → solid b ≡ false → whitespace b ≡ true
+pub not-solid-whitespace : (b : ℕ) → solid b ≡ false → whitespace b ≡ true
 unfolding solid
 not-solid-whitespace b h = not-false (whitespace b) h
 

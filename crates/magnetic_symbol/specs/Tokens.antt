@@ -3,49 +3,39 @@
 use mathlib.Core.Path.{_≡_, refl, sym, _∙_, ap, subst}
 use mathlib.Core.Bool.{Bool, true, false, not, true≢false}
 use mathlib.Core.List.{List, [], _∷_, _++_, append-assoc}
-use Prim.Native.Nat.{ℕ, suc, _+_, _<_}
+use Prim.Native.Nat.{ℕ, _+_}
 use native.Mathlib.Omega.{arith}
 use lib.Dec.{eqb}
 use borrow.Author.Tests.{eqb-true}
-use lib.ListN.{length, length-append}
+use lib.ListN.{length}
 use Rattle.hall_symbol.specs.Bytes.{whitespace, solid, opening}
 use Rattle.hall_symbol.specs.Runs.{Every, Stops}
-use Rattle.hall_symbol.specs.Cut.{solid-not-whitespace}
-use Rattle.magnetic_symbol.specs.Reversals.{prime, ends, blankedFrom, flagsFrom}
-use Rattle.magnetic_symbol.specs.Told.{unprimed}
+use Rattle.magnetic_symbol.specs.TimeReversals.{prime, unprimed, Reversed, ReadAs, reversal, same, gapOf}
+use Rattle.magnetic_symbol.specs.Reversals.{blankedFrom, flagsFrom}
 use Rattle.magnetic_symbol.specs.TokenCopies.{marked-copy, marked-flags, plain-copy, plain-flags, plain-end, plain-stop, last-copy, last-flag, inner-copy, inner-flag}
 use Rattle.magnetic_symbol.specs.declared.reversals.Mode.the-variants.{Between, Unmarked, Marked}
 
--- The token t is u with a time reversal behind it.
-pub record Reversed (t u : List ℕ) : Type 0 where
-  pub text : t ≡ u ++ (39 ∷ [])
-  pub some : 0 < length u
-  pub only : Every unprimed u
-
--- A token, its copy, and its flag.
-pub data Copied (t : List ℕ) : List ℕ → Bool → Type 0 where
-  reversal : (u : List ℕ) → Reversed t u → Copied t u true
-  same : ((u : List ℕ) → Reversed t u → ⊥) → Copied t t false
-
--- What the copy of a text holds in a token's place: the token's copy, and a space for its time reversal, if it has one.
+-- What the copy of a text holds in a token's place: what the token is read as, and a space for its time reversal, if it has one.
 pub record TokenCopy (t after : List ℕ) : Type 0 where
   pub copy : List ℕ
   pub flag : Bool
-  pub gap : List ℕ
-  pub copied : Copied t copy flag
-  pub blank : Every whitespace gap
-  pub long : length copy + length gap ≡ length t
-  pub bytes : blankedFrom Between (t ++ after) ≡ copy ++ (gap ++ blankedFrom Between after)
+  pub copied : ReadAs t copy flag
+  pub bytes : blankedFrom Between (t ++ after) ≡ copy ++ (gapOf flag ++ blankedFrom Between after)
   pub flags : flagsFrom Between (t ++ after) ≡ flag ∷ flagsFrom Between after
 
 -- ---- the first `'`
-primed-not : {A : Type 0} → unprimed 39 ≡ true → A
+pub primed-not : {A : Type 0} → unprimed 39 ≡ true → A
 unfolding prime
 primed-not h = absurd (true≢false (sym h))
 
-every-right : (u v : List ℕ) → Every unprimed (u ++ v) → Every unprimed v
-every-right [] v h = h
-every-right (b ∷ u) v h = every-right u v (h .1)
+-- Of bytes that all pass, those in front do and those behind do.
+pub every-left : (f : ℕ → Bool) (u v : List ℕ) → Every f (u ++ v) → Every f u
+every-left f [] v h = tt
+every-left f (b ∷ u) v h = (h .0, every-left f u v (h .1))
+
+pub every-right : (f : ℕ → Bool) (u v : List ℕ) → Every f (u ++ v) → Every f v
+every-right f [] v h = h
+every-right f (b ∷ u) v h = every-right f u v (h .1)
 
 -- What stands behind the first `'` is determined.
 first-prime : (a d v w : List ℕ) → Every unprimed a → Every unprimed d → a ++ (39 ∷ v) ≡ d ++ (39 ∷ w) → v ≡ w
@@ -55,11 +45,11 @@ first-prime (b ∷ a) [] v w h k e = let z : 39 ≡ b = cc in primed-not (subst 
 first-prime (b ∷ a) (c ∷ d) v w h k e = let z : a ++ (39 ∷ v) ≡ d ++ (39 ∷ w) = cc in first-prime a d v w (h .1) (k .1) z
 
 -- Any bytes hold no `'`, or a first one.
-data Split (t : List ℕ) : Type 0 where
+pub data Split (t : List ℕ) : Type 0 where
   all : Every unprimed t → Split t
   at : (u v : List ℕ) → t ≡ u ++ (39 ∷ v) → Every unprimed u → Split t
 
-split : (t : List ℕ) → Split t
+pub split : (t : List ℕ) → Split t
 unfolding prime
 split [] = all tt
 split (b ∷ t) = go (eqb b 39) refl (split t)
@@ -94,14 +84,6 @@ space-blank : whitespace 32 ≡ true
 unfolding whitespace
 space-blank = refl
 
-solid-left : (u v : List ℕ) → Every solid (u ++ v) → Every solid u
-solid-left [] v h = tt
-solid-left (b ∷ u) v h = (h .0, solid-left u v (h .1))
-
-solid-right : (u v : List ℕ) → Every solid (u ++ v) → Every solid v
-solid-right [] v h = h
-solid-right (b ∷ u) v h = solid-right u v (h .1)
-
 not-nil : (c : ℕ) (v : List ℕ) → c ∷ v ≡ [] → ⊥
 not-nil c v e = let z = ap length e in absurd (omega arith)
 
@@ -113,10 +95,7 @@ module _ (after : List ℕ) (stop : Stops solid after) where
       record {
         copy = 39 ∷ t;
         flag = false;
-        gap = [];
         copied = same kept;
-        blank = tt;
-        long = omega arith;
         bytes = start-primed (t ++ after) .0 ∙ marked-copy (39 ∷ t) after h stop;
         flags = start-primed (t ++ after) .1 ∙ marked-flags 39 t after (h .0) (h .1) stop;
       }
@@ -136,10 +115,7 @@ module _ (after : List ℕ) (stop : Stops solid after) where
         record {
           copy = b ∷ t;
           flag = false;
-          gap = [];
-          copied = same (λ u r. primed-not (every-right u (39 ∷ []) (subst (Every unprimed) (r .text) k) .0));
-          blank = tt;
-          long = omega arith;
+          copied = same (λ u r. primed-not (every-right unprimed u (39 ∷ []) (subst (Every unprimed) (r .text) k) .0));
           bytes = start .0 ∙ plain-stop (b ∷ t) after h k stop;
           flags = start .1 ∙ plain-end b t after h k stop;
         }
@@ -149,14 +125,11 @@ module _ (after : List ℕ) (stop : Stops solid after) where
     copy-reversed u h k =
         let start = start-plain b ((u ++ (39 ∷ [])) ++ after) (h .0) o (k .0) in
         let joined = append-assoc u (39 ∷ []) after in
-        let own : Every solid (b ∷ u) = (h .0, solid-left u (39 ∷ []) (h .1)) in
+        let own : Every solid (b ∷ u) = (h .0, every-left solid u (39 ∷ []) (h .1)) in
         record {
           copy = b ∷ u;
           flag = true;
-          gap = 32 ∷ [];
           copied = reversal (b ∷ u) (record { text = refl; some = omega arith; only = k });
-          blank = (space-blank, tt);
-          long = omega (arith, length-append u (39 ∷ []));
           bytes = start .0 ∙ ap (λ (l : List ℕ). blankedFrom Unmarked (b ∷ l)) joined ∙ plain-copy (b ∷ u) (39 ∷ after) own k
               ∙ ap (λ (l : List ℕ). b ∷ (u ++ l)) (last-copy after stop);
           flags = start .1 ∙ ap (λ (l : List ℕ). flagsFrom Unmarked (b ∷ l)) joined ∙ plain-flags (b ∷ u) 39 after own k prime-solid
@@ -169,15 +142,12 @@ module _ (after : List ℕ) (stop : Stops solid after) where
     copy-inner u c v h k =
         let start = start-plain b ((u ++ (39 ∷ c ∷ v)) ++ after) (h .0) o (k .0) in
         let joined = append-assoc u (39 ∷ c ∷ v) after in
-        let own : Every solid (b ∷ u) = (h .0, solid-left u (39 ∷ c ∷ v) (h .1)) in
-        let tail : Every solid (c ∷ v) = solid-right u (39 ∷ c ∷ v) (h .1) .1 in
+        let own : Every solid (b ∷ u) = (h .0, every-left solid u (39 ∷ c ∷ v) (h .1)) in
+        let tail : Every solid (c ∷ v) = every-right solid u (39 ∷ c ∷ v) (h .1) .1 in
         record {
           copy = b ∷ (u ++ (39 ∷ c ∷ v));
           flag = false;
-          gap = [];
           copied = same (λ d r. absurd (not-nil c v (first-prime (b ∷ u) d (c ∷ v) [] k (r .only) (r .text))));
-          blank = tt;
-          long = omega arith;
           bytes = start .0 ∙ ap (λ (l : List ℕ). blankedFrom Unmarked (b ∷ l)) joined ∙ plain-copy (b ∷ u) (39 ∷ c ∷ (v ++ after)) own k
               ∙ ap (λ (l : List ℕ). b ∷ (u ++ l)) (inner-copy c v after tail stop)
               ∙ ap (λ (l : List ℕ). b ∷ l) (sym (append-assoc u (39 ∷ c ∷ v) (blankedFrom Between after)));

@@ -1,6 +1,6 @@
 -- The test of the byte.
 use borrow.Author.Tests.{eq-eqb, ne-eqb}
-use Rattle.magnetic_symbol.specs.Reversals.{prime}
+use Rattle.magnetic_symbol.specs.TimeReversals.{prime}
 use Rattle.magnetic_symbol.proofs.reversals.marked.Statement.{statement}
 use Rattle.magnetic_symbol.proofs.reversals.marked.Tie as tie
 use Rattle.magnetic_symbol.proofs.reversals.marked.Reads as reads

@@ -1,6 +1,6 @@
 -- Each arm is the case of its mode.
 use borrow.Author.Tests.{eq-eqb, ne-eqb}
-use Rattle.magnetic_symbol.specs.Reversals.{prime}
+use Rattle.magnetic_symbol.specs.TimeReversals.{prime}
 use borrow.Author.Needs.{needs}
 use Rattle.magnetic_symbol.proofs.reversals.reverses.Statement.{statement}
 use Rattle.magnetic_symbol.proofs.reversals.reverses.Tie as tie

@@ -1,0 +1,8 @@
+-- The groups that generators with flags make: when one is answered and when each refusal, the list, its order, the set of flagged motions.
+pub mod Generated
+pub mod Keys
+pub mod Acceptance
+pub mod Members
+pub mod SetOfMotions
+pub mod Unflagged
+pub mod Symbols

@@ -1,0 +1,81 @@
+-- The case of the answer and what each call says of its parts.
+use mathlib.Core.Path.{_∙_, ap}
+use Rattle.test_magnetic.specs.Packed.{packedAnswer, packed-symbol, packed-refused}
+use Rattle.magnetic_symbol.specs.declared.MagneticSymbol.{MagneticSymbol}
+use borrow.Author.Needs.{needs}
+use Rattle.test_magnetic.proofs.magnetic_symbol_answer.Statement.{statement}
+use Rattle.test_magnetic.proofs.magnetic_symbol_answer.Tie as tie
+use Rattle.test_magnetic.proofs.magnetic_symbol_answer.Reads as reads
+use Rattle.test_magnetic.proofs.magnetic_symbol_answer.Lts as lts
+use Rattle.centering.proofs.Centering.byte.Reads as byte-reads
+use Rattle.magnetic_symbol.proofs.MagneticSymbol.new.Reads as new-reads
+use Rattle.hall_symbol.proofs.refusal.Refusal.number.Reads as number-reads
+use Rattle.hall_symbol.proofs.refusal.Refusal.place.Reads as place-reads
+
+new-requires : tie.Need-new-requires
+new-requires c κs = search needs
+
+enum-told : tie.Need-enum-told
+enum-told c = search needs
+
+byte-requires : tie.Need-byte-requires
+byte-requires c κs = search needs
+
+cast-result : tie.Need-cast-result
+cast-result c = search needs
+
+mul-result : tie.Need-mul-result
+mul-result c = search needs
+
+add-result : tie.Need-add-result
+add-result c = search needs
+
+enum-known-answer : tie.Need-enum-known-answer
+enum-known-answer c = search needs
+
+number-requires : tie.Need-number-requires
+number-requires c κs = search needs
+
+cast-number : tie.Need-cast-number
+cast-number c = search needs
+
+place-requires : tie.Need-place-requires
+place-requires c κs = search needs
+
+mul-result-2 : tie.Need-mul-result-2
+mul-result-2 c = search needs
+
+add-result-2 : tie.Need-add-result-2
+add-result-2 c = search needs
+
+returns : tie.Need-returns
+returns c =
+    let read = c .before .before .before .before .new in
+    packed-symbol (read .result .symbol) (c .byte .result) (c .before .enum-told .given .1) (c .byte .ensures)
+    ∙ ap (λ (m : MagneticSymbol). packedAnswer (m .symbol)) (read .ensures)
+
+returns-2 : tie.Need-returns-2
+returns-2 c =
+    let read = c .before .before .before .before .before .before .new in
+    let number = c .before .number in
+    packed-refused (read .result .symbol) _ (number .result) (c .place .result) (c .before .before .before .answer .given .1) (number .ensures) (c .place .ensures)
+    ∙ ap (λ (m : MagneticSymbol). packedAnswer (m .symbol)) (read .ensures)
+
+pub magnetic-symbol-answer-spec : {M : Type 1} → statement M
+magnetic-symbol-answer-spec =
+    tie.close
+    (tie.spec
+    new-requires
+    enum-told
+    byte-requires
+    cast-result
+    mul-result
+    add-result
+    enum-known-answer
+    number-requires
+    cast-number
+    place-requires
+    mul-result-2
+    add-result-2
+    returns
+    returns-2)

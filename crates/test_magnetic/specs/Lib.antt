@@ -1,0 +1,2 @@
+-- How the test library packs what a magnetic text is read as into numbers.
+pub mod Packed
