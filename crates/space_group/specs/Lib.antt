@@ -21,3 +21,4 @@ pub mod Told
 pub mod FlaggedGenerators
 pub mod FlaggedOutcomes
 pub mod FlaggedSlots
+pub mod FlaggedSaid
