@@ -9,3 +9,5 @@ pub mod Symbols
 -- What the entries answer, and the list as numbers:
 pub mod Answers
 pub mod Numbers
+-- The answers by number and place:
+pub mod Told
