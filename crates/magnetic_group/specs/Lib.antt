@@ -6,3 +6,8 @@ pub mod Members
 pub mod SetOfMotions
 pub mod Unflagged
 pub mod Symbols
+-- What the entries answer, and the list as numbers:
+pub mod Answers
+pub mod Numbers
+-- The answers by number and place:
+pub mod Told

@@ -16,6 +16,7 @@ use Rattle.hall_symbol.specs.declared.Answer.the-variants.{Symbol, Refused}
 use Rattle.hall_symbol.specs.declared.refusal.Refusal as reading
 use Rattle.space_group.specs.Generated.{AllKeep}
 use Rattle.space_group.specs.declared.refusal.Refusal.the-variants.{Lattice, Rotations, Translations}
+use Rattle.space_group.specs.FlaggedGenerators.{withFlags, plain-with}
 use Rattle.space_group_theorems.specs.Acceptance.{SmallGenerators, FirstOff}
 use Rattle.symbol_group.specs.Exactly.{symbol-small}
 use Rattle.magnetic_symbol.specs.Answer.{magneticAnswer}
@@ -24,12 +25,6 @@ use Rattle.magnetic_symbol.specs.Told.{MagneticSpells, MagneticRefuses, magneti
 use Rattle.magnetic_symbol.specs.declared.MagneticSymbol.{MagneticSymbol}
 use Rattle.magnetic_group.specs.Generated.{plainOf, FewPairs, SmallPairs, OneTranslation, MagneticOutcome, group, refused, outcomeOf}
 use Rattle.magnetic_group.specs.Acceptance.{MagneticAccepted, accepted-exactly, accepted-list, lattice-exactly, rotations-exactly, translations-exactly}
-
--- Generators with their flags, one by one.
-abbrev pub withFlags : List Operation → List Bool → List (Flagged Operation)
-withFlags [] fs = []
-withFlags (g ∷ gs) [] = held g ∷ withFlags gs []
-withFlags (g ∷ gs) (f ∷ fs) = flaggedBy f g ∷ withFlags gs fs
 
 -- A letter and what its generators make, or the refusal of the text.
 pub data SymbolOutcome : Type 0 where
@@ -47,12 +42,7 @@ onSymbol (Refused r) m = misread r
 unfoldable pub magneticOutcome : List ℕ → SymbolOutcome
 magneticOutcome text = let m = magneticAnswer text in onSymbol (m .symbol .answer) m
 
--- The operations and the flags of generators with their flags are those given.
-pub plain-with : (gs : List Operation) (fs : List Bool) → plainOf (withFlags gs fs) ≡ gs
-plain-with [] fs = refl
-plain-with (g ∷ gs) [] = ap (λ (l : List Operation). g ∷ l) (plain-with gs [])
-plain-with (g ∷ gs) (f ∷ fs) = ap (λ (l : List Operation). g ∷ l) (plain-with gs fs)
-
+-- The flags of generators with their flags are those given.
 pub flags-with : (gs : List Operation) (fs : List Bool) → length fs ≡ length gs → map (λ (g : Flagged Operation). g .flag) (withFlags gs fs) ≡ fs
 flags-with [] [] h = refl
 flags-with [] (f ∷ fs) h = absurd (omega arith)

@@ -17,3 +17,8 @@ pub mod Slots
 pub mod Heads
 -- The answers by number and place:
 pub mod Told
+-- Generators with flags:
+pub mod FlaggedGenerators
+pub mod FlaggedOutcomes
+pub mod FlaggedSlots
+pub mod FlaggedSaid

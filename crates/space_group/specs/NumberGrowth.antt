@@ -168,7 +168,7 @@ times-turns x p y h e =
     let told = inside-says (saidBy x) (saidBy y) ((flagOf x + flagOf y) % 2) p (omega arith) (inside-number (numbered (productOf (saidBy x) (saidBy y)) ((flagOf x + flagOf y) % 2)) p e) in
     inside-digits (saidBy x) (saidBy y) (saidBy p) (told .0)
 
-unit-said : flaggedSaid unitNumber ≡ held identityOperation
+pub unit-said : flaggedSaid unitNumber ≡ held identityOperation
 unfolding flagOf
 unit-said = refl
 
@@ -264,10 +264,10 @@ reducedOperation g =
 unfoldable pub generatorNumber : Operation → ℕ
 generatorNumber g = packedOf (narrowed (reducedOperation g)) 0
 
-narrowed-narrow : (o : Operation) → Narrow (narrowed o .rotation)
+pub narrowed-narrow : (o : Operation) → Narrow (narrowed o .rotation)
 narrowed-narrow o = record { xx = omega arith; xy = omega arith; xz = omega arith; yx = omega arith; yy = omega arith; yz = omega arith; zx = omega arith; zy = omega arith; zz = omega arith }
 
-narrowed-short : (o : Operation) → Short (narrowed o .translation)
+pub narrowed-short : (o : Operation) → Short (narrowed o .translation)
 narrowed-short o = record { x = omega arith; y = omega arith; z = omega arith }
 
 -- It has the flag 0,
@@ -276,7 +276,7 @@ unfolding generatorNumber
 generator-flag g = let o = reducedOperation g in flag-said (narrowed o) 0 (narrowed-narrow o) (narrowed-short o) (omega arith)
 
 -- and says the generator modulo 12.
-generator-says : (g : Operation) → Digits (g .rotation) → saidBy (generatorNumber g) ≡ reducedOperation g
+pub generator-says : (g : Operation) → Digits (g .rotation) → saidBy (generatorNumber g) ≡ reducedOperation g
 unfolding generatorNumber
 generator-says g d =
     let o = reducedOperation g in
@@ -313,7 +313,7 @@ reduced-right f g =
     operation≡ (compose (motionOf f) (motionOf g)) (compose (motionOf f) (motionOf (reducedOperation g))) refl
     (reduced-plus (act R u) t ∙ ap (λ w. w ⊕ reduced t) (reduced-act R u ∙ ap (turned R) (reduced-vector (g .translation)) ∙ sym (reduced-act R v)) ∙ sym (reduced-plus (act R v) t))
 
-reduced-times : (f g : Operation) → productInside f g ≡ productInside f (reducedOperation g)
+pub reduced-times : (f g : Operation) → productInside f g ≡ productInside f (reducedOperation g)
 unfolding productOf product motionOf
 reduced-times f g = λ i. insideOf (cond (allInside (times (matrixOf (f .rotation)) (matrixOf (g .rotation)))) (Inside (reduced-right f g i)) Outside)
 

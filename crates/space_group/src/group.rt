@@ -48,7 +48,7 @@ fn clear(steps: &mut [u8])
 }
 
 // The index of the first of n generators that does not map the lattice onto itself, or n.
-fn first_off(c: Centering, n: usize, generators: [Operation; 9]) -> usize
+pub(crate) fn first_off(c: Centering, n: usize, generators: [Operation; 9]) -> usize
     requires { ⌜ n ≤ 9 ⌝ }
     ensures { λ r. ⌜ r ≡ firstOff c (take n generators) ⌝ }
 {

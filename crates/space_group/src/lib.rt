@@ -4,6 +4,7 @@ ghost use mathlib.Core.Path.{_≡_};
 ghost use lib.ListN.{take};
 ghost use Rattle.space_group.specs.Slots.{groupAnswer};
 
+pub mod flagged;
 mod group;
 pub mod refusal;
 mod traverse;

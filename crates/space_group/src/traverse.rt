@@ -166,7 +166,7 @@ pub(crate) fn traverse(
 }
 
 // The number of a generator: a product does not change where the right factor's translation goes modulo 12.
-fn generator_number(g: Operation) -> u64
+pub(crate) fn generator_number(g: Operation) -> u64
     ensures { λ r. ⌜ r ≡ generatorNumber g ⌝ }
 {
     let rotation = g.rotation;
