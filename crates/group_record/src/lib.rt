@@ -4,7 +4,7 @@ pub mod copier;
 pub mod items;
 pub mod layer;
 pub mod reader;
-mod sign;
+pub mod sign;
 pub mod symbol;
 mod writer;
 

@@ -4,7 +4,7 @@ ghost use Rattle.group_record.specs.Signs.{isSmall, latticeOf};
 use centering::Centering;
 
 // That of a lattice, or the small letter of a layer group, whose lattice is that of P or C.
-pub(crate) enum Sign {
+pub enum Sign {
     Plain(Centering),
     SmallP,
     SmallC,
