@@ -3,6 +3,7 @@ pub mod Packing
 pub mod Answers
 pub mod SymbolBounds
 pub mod RecordBounds
+pub mod ComparisonBounds
 pub mod ListBounds
 pub mod TableBounds
 pub mod MotionBounds
