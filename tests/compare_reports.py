@@ -16,7 +16,7 @@ import model
 
 SEED = 9
 PAIRED = 60         # records of which every two are compared
-NEIGHBOURS = 2000   # records near them
+NEIGHBOURS = 2500   # records near them, compared both ways
 ENTRY = 9
 # What is worked out by hand: two symbols and the report of their records in hex.
 BY_HAND = [
