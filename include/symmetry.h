@@ -59,6 +59,8 @@ enum symmetry_most {
     SYMMETRY_MOST_ORDER = 48,             /* elements of a group */
     SYMMETRY_MOST_RECORD = 245,           /* bytes of a record: 5 * 48 + 5; of edition 3 4 * 48 + 5 */
     SYMMETRY_MOST_LIST = 240,             /* bytes of another program's list: 5 * 48 */
+    SYMMETRY_MOST_REPORT = 864,           /* bytes of a report on two records: 9 * 96 */
+    SYMMETRY_REPORT_ENTRY = 9,            /* bytes of one difference in it */
     SYMMETRY_MOST_TABLE = 2304,           /* bytes of a table: 48 * 48 */
     SYMMETRY_MOST_LINE = 64,              /* bytes of an operation line that is read */
     SYMMETRY_MOST_LINE_WRITTEN = 34,      /* bytes of an operation line that is written */
@@ -97,8 +99,8 @@ enum symmetry_refusal {
     SYMMETRY_NO_LAYER = 19,         /* of a layer symbol: an operation mixes z with x or y, or keeps the sense of z and moves along it; at the list
                                        index of the first such operation */
     /* A place in lent memory; at 0. */
-    SYMMETRY_NO_ROOM = 20,          /* the start is beyond the buffer, or fewer bytes than the record or the line needs are left from it; or a
-                                       catalogue's state has under 81 bytes */
+    SYMMETRY_NO_ROOM = 20,          /* the start is beyond the buffer, or fewer bytes than the record, the line or the report needs are left from it;
+                                       or a catalogue's state has under 81 bytes */
     /* A table of products; at 0. */
     SYMMETRY_ORDER = 21,            /* the order is 0 or over 48 */
     SYMMETRY_CELLS = 22,            /* not as many bytes as the square of the order, or a byte that is no element */
@@ -127,7 +129,14 @@ enum symmetry_refusal {
     SYMMETRY_LIST_ENTRY = 44,       /* a code over 19682 or a coordinate over 11; at the index of the first such entry */
     /* A catalogue; at 0. */
     SYMMETRY_PIECE_TOO_LONG = 45,   /* a piece over 4,096 bytes */
-    SYMMETRY_CATALOGUE_ENDED = 46   /* a piece or an end after the end was announced */
+    SYMMETRY_CATALOGUE_ENDED = 46,  /* a piece or an end after the end was announced */
+    /* The second record of a comparison; at 0. The first's has the numbers 30 to 35. */
+    SYMMETRY_SECOND_SHORT = 60,     /* under 10 bytes */
+    SYMMETRY_SECOND_EDITION = 61,   /* as 31 */
+    SYMMETRY_SECOND_LETTER = 62,    /* as 32 */
+    SYMMETRY_SECOND_LENGTH = 63,    /* as 33 */
+    SYMMETRY_SECOND_ITEM = 64,      /* as 34 */
+    SYMMETRY_SECOND_NO_GROUP = 65   /* as 35 */
 };
 
 /* ---- an answer, taken apart ---- */
@@ -159,7 +168,7 @@ static inline const char *symmetry_reason(unsigned number)
     case SYMMETRY_TOO_MANY_ROTATIONS: return "too many rotations, or too large an entry";
     case SYMMETRY_TWO_TRANSLATIONS: return "one rotation with two translations";
     case SYMMETRY_NO_LAYER: return "an operation that is none of a layer";
-    case SYMMETRY_NO_ROOM: return "no room for the record or the line";
+    case SYMMETRY_NO_ROOM: return "no room for the record, the line or the report";
     case SYMMETRY_ORDER: return "an order of 0 or over 48";
     case SYMMETRY_CELLS: return "a table of another size, or a cell that is no element";
     case SYMMETRY_NO_IDENTITY: return "no identity";
@@ -182,6 +191,12 @@ static inline const char *symmetry_reason(unsigned number)
     case SYMMETRY_LIST_ENTRY: return "a wrong operation in the list";
     case SYMMETRY_PIECE_TOO_LONG: return "a piece of over 4,096 bytes";
     case SYMMETRY_CATALOGUE_ENDED: return "the catalogue has ended";
+    case SYMMETRY_SECOND_SHORT: return "a second record of under 10 bytes";
+    case SYMMETRY_SECOND_EDITION: return "another edition of the second record";
+    case SYMMETRY_SECOND_LETTER: return "a second record with no lattice letter";
+    case SYMMETRY_SECOND_LENGTH: return "a wrong count or length in the second record";
+    case SYMMETRY_SECOND_ITEM: return "a wrong operation in the second record";
+    case SYMMETRY_SECOND_NO_GROUP: return "a second record that holds no group";
     default: return "no refusal of these functions";
     }
 }
@@ -322,6 +337,13 @@ uint64_t symmetry_record_edition(const uint8_t *record, size_t record_length);
  * same letter and operations; moved back, it has the bytes that were read. 20 goes by the length that is written, 4 * n + 5 or 5 * n + 5.
  */
 uint64_t symmetry_record_move(const uint8_t *record, size_t record_length, uint8_t *out, size_t out_length, uint64_t start);
+ * Compares two records of edition 1, writes from out on how they differ, and answers how many bytes that is; 0 exactly if the two records are equal byte
+ * for byte. If their letters differ, the report is the two letters, the first's and the second's, and nothing else. If not, it has nine bytes for each
+ * difference, by ascending rotation code: the kind, 1 if only the first has the rotation, 2 if only the second has it, 3 if both have it with
+ * translations that differ by no vector of the lattice; the code, high byte first; the first's triple; the second's. A triple that is absent is 0 0 0.
+ * Bytes behind the report are as they were. To make the second record of the first, take out each operation whose code an entry has, put in the second's
+ * triple of each entry of kind 2 or 3, keep the order of codes, and count anew. 30 to 35 for the first record, then 60 to 65 for the second, then 20.
+uint64_t symmetry_record_compare(const uint8_t *first, size_t first_length, const uint8_t *second, size_t second_length, uint8_t *out, size_t out_length);
 
 /* ---- operation lines ---- */
 

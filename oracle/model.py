@@ -583,6 +583,50 @@ def check_list(text, data):
     return compare_list(letter, operations, data)
 
 
+# Two records compared, R13 ------------------------------------------------------------------------------------------
+
+FIRST_ONLY, SECOND_ONLY, IN_BOTH = 1, 2, 3
+SECOND_RECORD = 30
+
+
+def report_of(letter, operations, other_letter, other_operations):
+    """What differs between two groups: their letters, or nine bytes for each rotation that differs, in code order."""
+    if letter != other_letter:
+        return (letter + other_letter).encode()
+    first, second = dict(operations), dict(other_operations)
+    report = b""
+    for rotation in sorted(first.keys() | second.keys(), key=code):
+        ours, theirs = first.get(rotation), second.get(rotation)
+        if theirs is None:
+            kind = FIRST_ONLY
+        elif ours is None:
+            kind = SECOND_ONLY
+        elif smallest(letter, ours) != smallest(letter, theirs):
+            kind = IN_BOTH
+        else:
+            continue
+        report += bytes([kind]) + code(rotation).to_bytes(2, "big") + bytes(ours or NO_TRANSLATION) + bytes(theirs or NO_TRANSLATION)
+    return report
+
+
+def read_pair(first, second):
+    """Letter and operations of each of two records; refusals 30 to 35 for the first, then 60 to 65 for the second."""
+    letter, operations = read_record(first)
+    try:
+        return letter, operations, *read_record(second)
+    except Refusal as refusal:
+        raise Refusal(refusal.number + SECOND_RECORD, refusal.place) from None
+
+
+def compare_records(first, second, buffer):
+    """Puts the report at the start of a lent bytearray and answers its length; 20 comes last."""
+    report = report_of(*read_pair(first, second))
+    if len(report) > len(buffer):
+        raise Refusal(20, 0)
+    buffer[:len(report)] = report
+    return len(report)
+
+
 # Tables and subgroups ---------------------------------------------------------------------------------------------
 
 class Table:
@@ -963,6 +1007,7 @@ def example_rest():
     inverse_record = bytes.fromhex("0C7E0000004064000000500102000F")
     shorter_record = bytes.fromhex("0054528001B2A300500302000D")
     shortest_record = bytes.fromhex("01B2A3005003010009")
+    identity_record = bytes.fromhex("4064000000500101000A")
     all_subgroups = subgroups(cubic)
     just_fits, one_short = [7] * 98, [7] * 97
     lent = bytearray(range(20))
@@ -1001,6 +1046,13 @@ def example_rest():
         ("P 1, another translation", check_list(b"P 1", bytes.fromhex("4064060000")), ("entry", 0)),
         ("a list of four bytes", outcome(check_list, b"P 1", bytes(4)), (43, 0)),
         ("a list with a coordinate of 12", outcome(check_list, b"-P 1", bytes.fromhex("40640600000C7E00000C")), (44, 1)),
+        ("-P 1 against P 1", report_of(*read_pair(inverse_record, identity_record)).hex(), "010c7e000000000000"),
+        ("P 1 against -P 1", report_of(*read_pair(identity_record, inverse_record)).hex(), "020c7e000000000000"),
+        ("P 2 against P 21", report_of(*group_of_symbol(b"P 2"), *group_of_symbol(b"P 21")).hex(), "030c80000000000006"),
+        ("a record against itself", (compare_records(inverse_record, b"any" + inverse_record, bytearray(0))), 0),
+        ("P 1 against I 1", report_of(*group_of_symbol(b"P 1"), *group_of_symbol(b"I 1")), b"PI"),
+        ("no second record", outcome(compare_records, inverse_record, bytes(9), bytearray(0)), (60, 0)),
+        ("no room for a report", outcome(compare_records, inverse_record, identity_record, bytearray(8)), (20, 0)),
         ("-P 4 2 3, subgroups", len(all_subgroups), 98),
         ("-P 4 2 3, classes", len(classes(cubic)), 33),
         ("98 slots", (fill_subgroups(cubic, just_fits), just_fits), (98, all_subgroups)),

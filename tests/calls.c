@@ -335,6 +335,9 @@ static void written(void) {
             }
 }
 
+/* The record of -P 1 with one byte changed, and the refusal. */
+static const struct { size_t at; uint8_t byte; unsigned number; } damage[] = { { 11, 2, 31 }, { 10, 'S', 32 }, { 12, 3, 33 }, { 2, 12, 34 }, { 6, 0x63, 35 } };
+
 static void records(void) {
     uint8_t padded[20] = { 1, 2, 3, 4, 5 }, spoilt[15], out[ROOM], marks[ROOM];
     memcpy(padded + 5, inversion, 15);
@@ -354,7 +357,6 @@ static void records(void) {
     answers(symmetry_record_edition(shortest + 1, 8), refusal(30, 0), "a byte of the shortest record gone");
     answers(symmetry_record_order(inversion, 14), refusal(31, 0), "a byte of the record gone");
     /* edition, letter, count, a coordinate over 11, and the identity gone */
-    static const struct { size_t at; uint8_t byte; unsigned number; } damage[] = { { 11, 2, 31 }, { 10, 'S', 32 }, { 12, 3, 33 }, { 2, 12, 34 }, { 6, 0x63, 35 } };
     for (size_t i = 0; i < sizeof damage / sizeof *damage; i++) {
         memcpy(spoilt, inversion, 15);
         spoilt[damage[i].at] = damage[i].byte;
@@ -368,6 +370,47 @@ static void records(void) {
     answers(symmetry_symbol_record(NULL, 0, NULL, 0, 0), refusal(3, 0), "no text, and no room");
     answers(symmetry_symbol_record(TEXT("-P 1"), out, ROOM, UINT64_MAX), refusal(20, 0), "a start that wraps");
     answers(symmetry_record_copy(inversion, 15, out, ROOM, UINT64_MAX - 14), refusal(20, 0), "a start that wraps");
+    expect(memcmp(out, marks, ROOM) == 0, "untouched buffers", 0);
+}
+
+/* ---- two records ----
+   Of -P 1 and P 1 the inversion, code 3198, is only in one; 2 and 21 along z, code 3200, differ by six twelfths; P and I are other letters. */
+static const uint8_t one_record[10] = { 0x40, 0x64, 0, 0, 0, 'P', 1, 1, 0, 10 }, body[10] = { 0x40, 0x64, 0, 0, 0, 'I', 1, 1, 0, 10 };
+static const uint8_t turn[15] = { 0x0C, 0x80, 0, 0, 0, 0x40, 0x64, 0, 0, 0, 'P', 1, 2, 0, 15 }, screwed[15] = { 0x0C, 0x80, 0, 0, 6, 0x40, 0x64, 0, 0, 0, 'P', 1, 2, 0, 15 };
+
+static void compared(const uint8_t *first, size_t first_length, const uint8_t *second, size_t second_length, const uint8_t *report, size_t count) {
+    for (size_t length = 0; length <= count + 3; length++) {
+        uint8_t out[ROOM], after[ROOM];
+        memset(out, MARK, ROOM);
+        memset(after, MARK, ROOM);
+        int fits = count <= length;
+        if (fits) memcpy(after, report, count);
+        uint64_t got = symmetry_record_compare(first, first_length, second, second_length, length ? out : NULL, length);
+        expect(got == (fits ? count : refusal(20, 0)) && memcmp(out, after, ROOM) == 0, "two records compared", got);
+    }
+}
+
+static void comparisons(void) {
+    static const uint8_t lost[9] = { 1, 0x0C, 0x7E }, won[9] = { 2, 0x0C, 0x7E }, screw[9] = { 3, 0x0C, 0x80, 0, 0, 0, 0, 0, 6 }, unscrew[9] = { 3, 0x0C, 0x80, 0, 0, 6 };
+    static const uint8_t letters[2] = { 'P', 'I' }, both[18] = { 1, 0x0C, 0x7E, 0, 0, 0, 0, 0, 0, 2, 0x0C, 0x80, 0, 0, 0, 0, 0, 6 };
+    uint8_t out[ROOM], marks[ROOM], spoilt[15];
+    memset(out, MARK, ROOM);
+    memset(marks, MARK, ROOM);
+    compared(inversion, 15, one_record, 10, lost, 9);
+    compared(one_record, 10, inversion, 15, won, 9);
+    compared(turn, 15, screwed, 15, screw, 9);
+    compared(screwed, 15, turn, 15, unscrew, 9);
+    compared(inversion, 15, screwed, 15, both, 18);
+    compared(inversion, 15, inversion, 15, NULL, 0);
+    compared(one_record, 10, body, 10, letters, 2);
+    for (size_t i = 0; i < sizeof damage / sizeof *damage; i++) {
+        memcpy(spoilt, inversion, 15);
+        spoilt[damage[i].at] = damage[i].byte;
+        answers(symmetry_record_compare(spoilt, 15, NULL, 0, out, 0), refusal(damage[i].number, 0), "a damaged first record");
+        answers(symmetry_record_compare(inversion, 15, spoilt, 15, out, 0), refusal(damage[i].number + 30, 0), "a damaged second record");
+    }
+    answers(symmetry_record_compare(NULL, 0, NULL, 0, NULL, 0), refusal(30, 0), "no first record");
+    answers(symmetry_record_compare(inversion, 15, NULL, 0, NULL, 0), refusal(60, 0), "no second record");
     expect(memcmp(out, marks, ROOM) == 0, "untouched buffers", 0);
 }
 
@@ -514,6 +557,7 @@ int main(void) {
     layer_records();
     written();
     records();
+    comparisons();
     lines();
     checked();
     catalogues();

@@ -61,6 +61,7 @@ struct entry {
     ENTRY(record_copy, "sln", INPUT, LENT(0), call->number[0]) \
     ENTRY(record_edition, "s", INPUT) \
     ENTRY(record_move, "sln", INPUT, LENT(0), call->number[0]) \
+    ENTRY(record_compare, "sll", INPUT, LENT(0), LENT(1)) \
     ENTRY(line_operation, "s", INPUT) \
     ENTRY(operation_line, "sl", INPUT, LENT(0)) \
     ENTRY(symbol_check, "sl", INPUT, LENT(0)) \

@@ -32,6 +32,8 @@ static const struct { unsigned constant, number; } refusals[] = {
     { SYMMETRY_LINE_TOO_LONG, 40 }, { SYMMETRY_LINE_MISSPELT, 41 }, { SYMMETRY_LINE_DETERMINANT, 42 },
     { SYMMETRY_LIST_LENGTH, 43 }, { SYMMETRY_LIST_ENTRY, 44 },
     { SYMMETRY_PIECE_TOO_LONG, 45 }, { SYMMETRY_CATALOGUE_ENDED, 46 },
+    { SYMMETRY_SECOND_SHORT, 60 }, { SYMMETRY_SECOND_EDITION, 61 }, { SYMMETRY_SECOND_LETTER, 62 },
+    { SYMMETRY_SECOND_LENGTH, 63 }, { SYMMETRY_SECOND_ITEM, 64 }, { SYMMETRY_SECOND_NO_GROUP, 65 },
 };
 enum { REFUSALS = sizeof refusals / sizeof *refusals, ABOVE = 256 };
 
@@ -63,6 +65,8 @@ static void check_sizes(void)
     check("the largest order", SYMMETRY_MOST_ORDER, 48);
     check("the longest record", SYMMETRY_MOST_RECORD, 5 * 48 + 5);
     check("the longest list", SYMMETRY_MOST_LIST, 5 * 48);
+    check("the longest report", SYMMETRY_MOST_REPORT, 9 * (48 + 48));
+    check("the bytes of a difference", SYMMETRY_REPORT_ENTRY, 1 + 2 + 3 + 3);
     check("the largest table", SYMMETRY_MOST_TABLE, 48 * 48);
     check("the subgroups of a symbol's group", SYMMETRY_MOST_SYMBOL_SUBGROUPS, 98);
     /* of the 32 vectors over two elements: 1 space of no dimension, 31 of one, 155 of two and of three, 31 of four, 1 of five */

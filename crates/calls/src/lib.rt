@@ -2,6 +2,7 @@
 pub mod catalogues;
 pub mod editions;
 pub mod layer;
+pub mod comparison;
 pub mod line;
 pub mod list;
 mod motion;
