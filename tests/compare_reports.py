@@ -23,6 +23,8 @@ BY_HAND = [
     (b"-P 1", b"P 1", "010C7E000000000000"), (b"P 1", b"-P 1", "020C7E000000000000"), (b"P 2", b"P 21", "030C80000000000006"),
     (b"P 21", b"P 2", "030C80000006000000"), (b"P 2", b"P 2", ""), (b"P 1", b"I 1", "5049"), (b"H 3", b"P 3", "4850"),
     (b"P 2", b"-P 1", "020C7E000000000000" "010C80000000000000"), (b"I 2", b"I 2b", "030C80000000000600"), (b"I 2", b"I 2n", ""),
+    # A layer and a space group with the same motions differ in their letters; two layers as two space groups do.
+    (b"p 1", b"P 1", "7050"), (b"P 1", b"p 1", "5070"), (b"p 1", b"c 1", "7063"), (b"c 2", b"C 2", "6343"), (b"-p 1", b"p 1", "010C7E000000000000"),
 ]
 
 
@@ -36,7 +38,7 @@ def group(record):
 
 
 def record_of(text):
-    return model.record(*model.group_of_symbol(text))
+    return model.record(*(model.group_of_layer if text.lstrip(b"-")[:1] in b"pc" else model.group_of_symbol)(text))
 
 
 def taken(report, record):
@@ -104,6 +106,7 @@ def damaged(record, noise):
     trailer = record[-5:]
     yield record[-9:]
     yield record[:-4] + b"\x03" + record[-3:]
+    yield model.moved_record(record)
     yield record[:-5] + b"S" + trailer[1:]
     yield record[:-3] + bytes([49]) + record[-2:]
     yield b"\xff" + record[1:]
@@ -137,7 +140,7 @@ def main():
         other = neighbour(record, noise)
         compared(calls, record, other, noise)
         compared(calls, other, record, noise)
-    for text in (b"P 1", b"-P 1", b"P 31", b"I 4bw", b"R 3 2=", b"F 2 -2d"):
+    for text in (b"P 1", b"-P 1", b"P 31", b"I 4bw", b"R 3 2=", b"F 2 -2d", b"-p 1", b"c 2"):
         record = record_of(text)
         for bad in damaged(record, noise):
             for other in (record, record_of(b"-P 1"), bad, b"", record[:7]):
