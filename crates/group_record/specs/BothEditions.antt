@@ -1,5 +1,5 @@
 -- The editions that are read and written, 1 and 3: which number spells which, how wide their items are, and which one a record is moved to.
-use mathlib.Core.Path.{_≡_, refl, sym, _∙_, ap}
+use mathlib.Core.Path.{_≡_, refl, _∙_, ap}
 use mathlib.Core.Bool.{Bool, true, false, cond}
 use mathlib.Core.Option.{Option, none, some}
 use Prim.Native.Nat.{ℕ, _+_, _*_, _≤_, _<_}
@@ -78,12 +78,7 @@ known-length First = omega arith
 known-length Third = omega arith
 
 -- ---- where items stand
--- n items of four or five bytes;
-pub item-width : (k : Known) → (4 ≤ widthIn k) × (widthIn k ≤ 5)
-item-width First = (omega arith, omega arith)
-item-width Third = (omega arith, omega arith)
-
--- each stands within them,
+-- Each of n items stands within them,
 pub item-inside : (k : Known) (i n size : ℕ) → i < n → widthIn k * n ≤ size → widthIn k * i + widthIn k ≤ size
 item-inside First i n size h e = omega arith
 item-inside Third i n size h e = omega arith

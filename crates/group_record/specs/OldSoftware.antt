@@ -2,12 +2,12 @@
 use mathlib.Core.Path.{_≡_, refl, sym, _∙_, ap}
 use mathlib.Core.Logic.{_↔_}
 use mathlib.Core.List.{List, _++_, append-assoc}
-use Prim.Native.Nat.{ℕ, _+_, _<_, _≤_}
+use Prim.Native.Nat.{ℕ, _≤_}
 use native.Mathlib.Omega.{arith}
 use lib.ListN.{length, length-append}
 use Rattle.operation.specs.Answer.{refused}
 use Rattle.operation.specs.declared.Operation.{Operation}
-use Rattle.centering.specs.Letters.{byteOf, letterOf}
+use Rattle.centering.specs.Letters.{byteOf}
 use Rattle.centering.specs.declared.Centering.{Centering}
 use Rattle.group_record.specs.Items.{Bytes, bytesOf}
 use Rattle.group_record.specs.Editions.{trailerBytes, fromEnd, from-end}
@@ -25,7 +25,8 @@ use Rattle.group_record.specs.declared.Edition.the-variants.{First, Thir
 use Rattle.group_record.specs.declared.Refusal.the-variants.{Short, WrongEdition}
 
 -- ---- each refusal exactly when
-pub first-refused : (bytes : List ℕ) → Bytes bytes → (number place : ℕ) → (groupAnswer (readFirstOf bytes) ≡ refused number place tt) ↔ ((place ≡ 0) × Refuses firstRules firstMeaning bytes number)
+pub first-refused : (bytes : List ℕ) → Bytes bytes → (number place : ℕ)
+    → (groupAnswer (readFirstOf bytes) ≡ refused number place tt) ↔ ((place ≡ 0) × Refuses firstRules firstMeaning bytes number)
 unfolding readFirstOf
 first-refused bytes b number place = (
   (λ e. told-refused firstRules firstMeaning bytes b number place .0 (group-number (λ (k : Unit {0}). First) (toldBy firstRules bytes) number place .0 e)),
@@ -54,7 +55,8 @@ module _ (front : List ℕ) (c : Centering) (l : List Operation) (some : 1 ≤ l
   pub old-other : ¬ (length (front ++ recordBy Third c l) ≡ 9) → readFirstOf (front ++ recordBy Third c l) ≡ refusedGroup WrongEdition
   old-other more =
       let number = record-number Third front c l in
-      first-other-edition (front ++ recordBy Third c l) (fromEnd (front ++ recordBy Third c l) 4) (omega (arith, third-length)) refl (λ (one : fromEnd (front ++ recordBy Third c l) 4 ≡ 1). absurd (omega (arith, number, one)))
+      let bytes = front ++ recordBy Third c l in
+      first-other-edition bytes (fromEnd bytes 4) (omega (arith, third-length)) refl (λ (one : fromEnd bytes 4 ≡ 1). absurd (omega (arith, number, one)))
 
   -- In numbers: 30, or 31.
   pub old-thirty : length (front ++ recordBy Third c l) ≡ 9 → groupAnswer (readFirstOf (front ++ recordBy Third c l)) ≡ refused 30 0 tt

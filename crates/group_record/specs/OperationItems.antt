@@ -1,6 +1,6 @@
 -- What a record says of one operation, in any edition: the code of its rotation, and a translation; and the operation that such an item stands for.
 use mathlib.Core.Path.{_≡_}
-use Prim.Native.Nat.{ℕ, _<_}
+use Prim.Native.Nat.{_<_}
 use Rattle.operation.specs.Code.{codeOf, decodedOf}
 use Rattle.operation.specs.Product.{identityOperation}
 use Rattle.operation.specs.declared.Operation.{Operation}

@@ -1,5 +1,5 @@
 -- Edition 3 of the record: four bytes an operation, which are one number, high byte first: the code, and the rank of the triple among the 1728 below 12.
-use mathlib.Core.Path.{_≡_, refl, sym, _∙_, ap, ap₂}
+use mathlib.Core.Path.{_≡_, refl, _∙_, ap, ap₂}
 use mathlib.Core.Logic.{_⊎_, inl, inr, _↔_}
 use mathlib.Core.List.{List, [], _∷_, _++_, List·Memᴰ as Mem, List·Memᴰ·head as here, List·Memᴰ·tail as there}
 use Prim.Native.Nat.{ℕ, _+_, _*_, _/_, _%_, _<_, _≤_}
@@ -9,7 +9,6 @@ use lib.ListN.{length, getD, take}
 use Rattle.laws.specs.Residue.{Triple}
 use Rattle.laws.specs.Lattice.{rank, unrank, Before, before-rank, rank-lt, unrank-rank}
 use Rattle.laws.specs.Sorted.{Sorted, sorted-nil, sorted-cons}
-use Rattle.operation.specs.declared.Translation.{Translation}
 use Rattle.centering.specs.Lattices.{tripleOf, translationOf}
 use Rattle.group_record.specs.Items.{Bytes}
 use Rattle.group_record.specs.Editions.{Edition}
@@ -136,15 +135,20 @@ number-order i j h k = (forth, back)
     back (inl p) = let small-s = rank-lt s (h .1) in omega arith
     back (inr (p, b)) = let less = before-rank s t (h .1) (k .1) .0 b in omega arith
 
--- Where no code stands twice, numbers ascend exactly if codes do.
+abbrev pub CodesAscend : List Item → Type 0
+CodesAscend items = Sorted (λ (i j : Item). i .code < j .code) items
+
+abbrev pub NumbersAscend : List Item → Type 0
+NumbersAscend items = Sorted (λ (i j : Item). numberOfItem i < numberOfItem j) items
+
 abbrev pub CodesApart : List Item → Type 0
 CodesApart items = Sorted (λ (i j : Item). ¬ (i .code ≡ j .code)) items
 
-pub numbers-ascend : (items : List Item) → ((i : Item) → Mem i items → InRange i)
-    → Sorted (λ (i j : Item). i .code < j .code) items ↔ (Sorted (λ (i j : Item). numberOfItem i < numberOfItem j) items × CodesApart items)
+-- Where no code stands twice, numbers ascend exactly if codes do.
+pub numbers-ascend : (items : List Item) → ((i : Item) → Mem i items → InRange i) → CodesAscend items ↔ (NumbersAscend items × CodesApart items)
 numbers-ascend items ranged = (forth items ranged, λ (n, a). back items ranged n a)
   where
-    forth : (l : List Item) → ((i : Item) → Mem i l → InRange i) → Sorted (λ (i j : Item). i .code < j .code) l → Sorted (λ (i j : Item). numberOfItem i < numberOfItem j) l × CodesApart l
+    forth : (l : List Item) → ((i : Item) → Mem i l → InRange i) → CodesAscend l → NumbersAscend l × CodesApart l
     forth [] r sorted-nil = (sorted-nil, sorted-nil)
     forth (x ∷ l) r (sorted-cons first s) =
         let (n, a) = forth l (λ i m. r i (there m)) s in (
@@ -152,11 +156,12 @@ numbers-ascend items ranged = (forth items ranged, λ (n, a). back items ranged 
           sorted-cons (λ y m (e : x .code ≡ y .code). let less = first y m in omega arith) a,
         )
 
-    back : (l : List Item) → ((i : Item) → Mem i l → InRange i) → Sorted (λ (i j : Item). numberOfItem i < numberOfItem j) l → CodesApart l → Sorted (λ (i j : Item). i .code < j .code) l
+    back : (l : List Item) → ((i : Item) → Mem i l → InRange i) → NumbersAscend l → CodesApart l → CodesAscend l
     back [] r sorted-nil sorted-nil = sorted-nil
     back (x ∷ l) r (sorted-cons first s) (sorted-cons apart a) =
         sorted-cons (λ y m. less x y (number-order x y (r x (here refl)) (r y (there m)) .0 (first y m)) (apart y m)) (back l (λ i m. r i (there m)) s a)
       where
-        less : (i j : Item) → (i .code < j .code) ⊎ ((i .code ≡ j .code) × Before (tripleOf (i .translation)) (tripleOf (j .translation))) → ¬ (i .code ≡ j .code) → i .code < j .code
+        less : (i j : Item) → (i .code < j .code) ⊎ ((i .code ≡ j .code) × Before (tripleOf (i .translation)) (tripleOf (j .translation)))
+            → ¬ (i .code ≡ j .code) → i .code < j .code
         less i j (inl p) never = p
         less i j (inr (p, b)) never = absurd (never p)

@@ -1,13 +1,12 @@
 // The items of a record: where each stands in its edition, and what its bytes say. Only this file of the reader knows how many bytes an item takes.
 ghost use mathlib.Core.Path.{_≡_};
 ghost use Prim.Native.Nat.{_+_, _*_, _≤_};
-ghost use lib.ListN.{length};
+ghost use lib.ListN.{length, drop};
 ghost use Rattle.group_record.specs.BothEditions.{widthIn};
 ghost use Rattle.group_record.specs.FirstEdition.{itemIn};
 ghost use Rattle.group_record.specs.ThirdEdition.{numberedItemIn};
 ghost use Rattle.group_record.specs.Reading.{operationOfItem};
 ghost use Rattle.group_record.specs.Search.{itemAt};
-ghost use lib.ListN.{drop};
 use super::Edition;
 use operation::Operation;
 use operation::Translation;

@@ -1,7 +1,7 @@
 -- Five bytes, by their places.
-use Rattle.group_record.specs.Search.{first-item-bytes}
 use Prim.Native.Nat.{_+_}
 use native.Mathlib.Omega.{arith}
+use Rattle.group_record.specs.Search.{first-item-bytes}
 use borrow.Author.Needs.{needs}
 use Rattle.group_record.proofs.items.first_item.Statement.{statement}
 use Rattle.group_record.proofs.items.first_item.Tie as tie

@@ -1,11 +1,11 @@
 -- By cases of the edition.
+use mathlib.Core.Path.{_≡_, subst}
+use Prim.Native.Nat.{ℕ, _+_, _*_, _≤_}
+use native.Mathlib.Omega.{arith}
 use Rattle.group_record.specs.declared.Edition.{Edition}
+use Rattle.group_record.specs.declared.Edition.the-variants.{First, Third}
 use Rattle.group_record.specs.BothEditions.{widthIn}
 use Rattle.group_record.specs.Search.{itemAt}
-use lib.ListN.{length}
-use Prim.Native.Nat.{_+_, _*_, _≤_}
-use mathlib.Core.Path.{subst}
-use native.Mathlib.Omega.{arith}
 use borrow.Author.Needs.{needs}
 use Rattle.group_record.proofs.items.item_at.Statement.{statement}
 use Rattle.group_record.proofs.items.item_at.Tie as tie
@@ -14,23 +14,27 @@ use Rattle.group_record.proofs.items.item_at.Lts as lts
 use Rattle.group_record.proofs.items.first_item.Reads as first-item-reads
 use Rattle.group_record.proofs.items.third_item.Reads as third-item-reads
 
+-- What is asked, of the edition that is told.
+told-fits : (e k : Edition) (i size : ℕ) → e ≡ k → widthIn e * i + widthIn e ≤ size → widthIn k * i + widthIn k ≤ size
+told-fits e k i size p h = subst (λ (d : Edition). widthIn d * i + widthIn d ≤ size) p h
+
 enum-told : tie.Need-enum-told
 enum-told c = search needs
 
 mul-first-item : tie.Need-mul-first-item
-mul-first-item c = let a = c .before .before .before .args in let fits = subst (λ (e : Edition). widthIn e * a .i + widthIn e ≤ length (a .bytes .now)) (c .enum-told .given .1) (c .before .before .before .pre) in omega (arith, fits)
+mul-first-item c = omega (arith, told-fits _ First _ _ (c .enum-told .given .1) (c .before .before .before .pre))
 
 first-item-requires : tie.Need-first-item-requires
-first-item-requires c κs = let a = c .before .before .before .args in let fits = subst (λ (e : Edition). widthIn e * a .i + widthIn e ≤ length (a .bytes .now)) (c .enum-told .given .1) (c .before .before .before .pre) in omega (arith, fits)
+first-item-requires c κs = omega (arith, told-fits _ First _ _ (c .enum-told .given .1) (c .before .before .before .pre))
 
 enum-told-2 : tie.Need-enum-told-2
 enum-told-2 c = search needs
 
 mul-third-item : tie.Need-mul-third-item
-mul-third-item c = let a = c .before .before .before .args in let fits = subst (λ (e : Edition). widthIn e * a .i + widthIn e ≤ length (a .bytes .now)) (c .enum-told2 .given .1) (c .before .before .before .pre) in omega (arith, fits)
+mul-third-item c = omega (arith, told-fits _ Third _ _ (c .enum-told2 .given .1) (c .before .before .before .pre))
 
 third-item-requires : tie.Need-third-item-requires
-third-item-requires c κs = let a = c .before .before .before .args in let fits = subst (λ (e : Edition). widthIn e * a .i + widthIn e ≤ length (a .bytes .now)) (c .enum-told2 .given .1) (c .before .before .before .pre) in omega (arith, fits)
+third-item-requires c κs = omega (arith, told-fits _ Third _ _ (c .enum-told2 .given .1) (c .before .before .before .pre))
 
 returns : tie.Need-returns
 unfolding itemAt

@@ -1,9 +1,9 @@
 -- The code decides between a rotation and none; the answer follows it.
+use mathlib.Core.Path.{sym, _∙_, ap}
 use Rattle.operation.specs.declared.Operation.{Operation}
 use Rattle.operation.specs.Code.{decodedOf}
 use Rattle.group_record.specs.ListedForm.{operation≡}
 use Rattle.group_record.specs.OperationItems.{Item, operationOfItem, rotationOfDecoded}
-use mathlib.Core.Path.{sym, _∙_, ap}
 use borrow.Author.Needs.{needs}
 use Rattle.group_record.proofs.items.operation_at.Statement.{statement}
 use Rattle.group_record.proofs.items.operation_at.Tie as tie

@@ -1,9 +1,9 @@
 -- Four bytes, by their places; the number's parts are those of the definition.
-use Rattle.group_record.specs.Search.{third-item-bytes}
-use Rattle.group_record.specs.ThirdEdition.{numberedItemIn, itemOfNumber}
-use Rattle.laws.specs.Lattice.{unrank}
 use Prim.Native.Nat.{_+_}
 use native.Mathlib.Omega.{arith}
+use Rattle.laws.specs.Lattice.{unrank}
+use Rattle.group_record.specs.Search.{third-item-bytes}
+use Rattle.group_record.specs.ThirdEdition.{numberedItemIn, itemOfNumber}
 use borrow.Author.Needs.{needs}
 use Rattle.group_record.proofs.items.third_item.Statement.{statement}
 use Rattle.group_record.proofs.items.third_item.Tie as tie
@@ -53,13 +53,19 @@ cast-low-2 : tie.Need-cast-low-2
 cast-low-2 c = omega (arith, c .shared-slice-known4 .given (c .before .before .before .before .args .at + 3))
 
 add-low-3 : tie.Need-add-low-3
-add-low-3 c = omega (arith, c .before .shared-slice-known3 .given (c .before .before .before .before .args .at + 2), c .shared-slice-known4 .given (c .before .before .before .before .args .at + 3))
+add-low-3 c =
+    let a = c .before .before .before .before .args in
+    omega (arith, c .before .shared-slice-known3 .given (a .at + 2), c .shared-slice-known4 .given (a .at + 3))
 
 mul-number : tie.Need-mul-number
-mul-number c = omega (arith, c .before .before .before .shared-slice-known .given (c .before .before .before .before .args .at), c .before .before .shared-slice-known2 .given (c .before .before .before .before .args .at + 1))
+mul-number c =
+    let a = c .before .before .before .before .args in
+    omega (arith, c .before .before .before .shared-slice-known .given (a .at), c .before .before .shared-slice-known2 .given (a .at + 1))
 
 add-number : tie.Need-add-number
-add-number c = omega (arith, c .before .before .before .shared-slice-known .given (c .before .before .before .before .args .at), c .before .before .shared-slice-known2 .given (c .before .before .before .before .args .at + 1), c .before .shared-slice-known3 .given (c .before .before .before .before .args .at + 2), c .shared-slice-known4 .given (c .before .before .before .before .args .at + 3))
+add-number c =
+    let a = c .before .before .before .before .args in
+    omega (arith, c .before .before .before .shared-slice-known .given (a .at), c .before .before .shared-slice-known2 .given (a .at + 1), c .before .shared-slice-known3 .given (a .at + 2), c .shared-slice-known4 .given (a .at + 3))
 
 cast-t9 : tie.Need-cast-t9
 cast-t9 c = search needs
