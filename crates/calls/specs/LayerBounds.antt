@@ -1,6 +1,6 @@
 -- What is answered for a layer symbol's text can be packed: an accepted one has the order and the operations of the text with its capital letter, and 19 is
 -- at the index of an operation.
-use mathlib.Core.Path.{_≡_, refl, sym}
+use mathlib.Core.Path.{_≡_, refl}
 use mathlib.Core.Bool.{Bool, true, false, cond}
 use mathlib.Core.List.{List}
 use Prim.Native.Nat.{ℕ, _≤_}
@@ -16,7 +16,7 @@ use Rattle.symbol_group.specs.Answers.{symbolAnswer}
 use Rattle.symbol_group.specs.Slots.{symbol-slots}
 use Rattle.symbol_group.specs.declared.Answer as plain
 use Rattle.symbol_group.specs.declared.Answer.the-variants as plain-answer
-use Rattle.layer_group.specs.Answers.{refusedAnswer, layeredBy, layerAnswer, orderBy, orderOf, orderAnswer, letterBy, letterOf, letterAnswer, operationBy, operationAt, operationAnswer}
+use Rattle.layer_group.specs.Answers.{layeredBy, layerAnswer, orderBy, orderOf, orderAnswer, letterBy, letterOf, letterAnswer, operationBy, operationAt, operationAnswer}
 use Rattle.layer_group.specs.Capitals.{capitalised}
 use Rattle.layer_group.specs.Layers.{front}
 use Rattle.layer_group.specs.Refusals.{numberOf, placeOf}

@@ -4,7 +4,7 @@ use mathlib.Core.Path.{_≡_, refl, sym, _∙_, ap, ap₂}
 use mathlib.Core.Logic.{_↔_}
 use mathlib.Core.Bool.{Bool, cond}
 use mathlib.Core.List.{List, map}
-use Prim.Native.Nat.{ℕ, _+_, _≤_}
+use Prim.Native.Nat.{ℕ, _≤_}
 use native.Mathlib.Omega.{arith}
 use lib.ListN.{length, take}
 use Rattle.laws.specs.Motion.{SpaceMotion}
@@ -31,7 +31,7 @@ use Rattle.layer_group.specs.declared.LayerOrder.the-variants.{Is, Refused as O
 use Rattle.layer_group.specs.declared.refusal.Refusal.{Refusal}
 use Rattle.group_record.specs.Editions.{fromEnd, framed-letter}
 use Rattle.group_record.specs.FirstEdition.{firstEdition}
-use Rattle.group_record.specs.Record.{itemOf, listedForm, writtenIn, recordIn, recordOf}
+use Rattle.group_record.specs.Record.{itemOf, listedForm, recordIn, recordOf}
 use Rattle.group_record.specs.Places.{placedIn}
 use Rattle.group_record.specs.Copying.{roomFor}
 use Rattle.group_record.specs.Groups.{InSet, Listing}

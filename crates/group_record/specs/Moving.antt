@@ -1,15 +1,15 @@
 -- Records moved from one edition to the other: what is moved holds the same group, and moved twice it has the same bytes, from either side.
 -- The idea: what was read is in the listed form and allowed, so every edition's record of it reads back.
-use mathlib.Core.Path.{_≡_, refl, sym, _∙_, ap, ap₂, subst}
+use mathlib.Core.Path.{_≡_, refl, sym, _∙_, ap, subst}
 use mathlib.Core.Logic.{_↔_}
 use mathlib.Core.Bool.{Bool, true, false, cond}
 use mathlib.Core.List.{List, _++_, map}
-use Prim.Native.Nat.{ℕ, _+_, _-_, _≤_}
+use Prim.Native.Nat.{ℕ, _+_, _-_}
 use native.Mathlib.Omega.{arith}
 use lib.ListN.{length, take, drop, replicate}
 use lib.Seq.{take-at, length-take-le}
 use Rattle.laws.specs.Motion.{SpaceMotion}
-use Rattle.operation.specs.Answer.{Answer, given, refused, Nothing}
+use Rattle.operation.specs.Answer.{refused}
 use Rattle.operation.specs.Meaning.{motionOf}
 use Rattle.operation.specs.Product.{identityOperation}
 use Rattle.operation.specs.declared.Operation.{Operation}

@@ -1,6 +1,5 @@
 -- The bytes of a record: each operation by its item, ascending by code, each translation the smallest of its class; then the trailer.
 -- In any edition and under any letter's byte; the record of a symbol is edition 1 under its lattice's letter.
-use mathlib.Core.Path.{_≡_}
 use mathlib.Core.Bool.{Bool}
 use mathlib.Core.List.{List, _++_, map}
 use Prim.Native.Nat.{ℕ}
@@ -27,10 +26,6 @@ use Rattle.group_record.specs.declared.sign.Sign.{Sign}
 -- The bytes of operations as they stand, and of the trailer after them.
 unfoldable pub writtenIn : Edition Item → ℕ → List Operation → List ℕ
 writtenIn E letter l = bytesOf (λ f. E .write (itemOf f)) l ++ trailerBytes (E .width) (E .number) letter (length l)
-
--- In edition 1.
-unfoldable pub written : Centering → List Operation → List ℕ
-written c l = writtenIn firstEdition (byteOf c) l
 
 -- ---- the operations
 -- An operation with the smallest triple of its translation's class.

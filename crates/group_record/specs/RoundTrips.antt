@@ -13,7 +13,6 @@ use Rattle.operation.specs.Composed.{identity-motion}
 use Rattle.operation.specs.Meaning.{motionOf}
 use Rattle.operation.specs.Product.{identityOperation}
 use Rattle.operation.specs.declared.Operation.{Operation}
-use Rattle.centering.specs.Letters.{byteOf}
 use Rattle.centering.specs.declared.Centering.{Centering}
 use Rattle.group_record.specs.Items.{Bytes}
 use Rattle.group_record.specs.OperationItems.{Item, itemOf, operationOfItem}

@@ -18,7 +18,7 @@ use Rattle.centering.specs.declared.Centering.{Centering}
 use mathlib.Core.Option.{Option, none, some}
 use Rattle.centering.specs.declared.Letter.the-variants.{Is, None}
 use Rattle.group_record.specs.Items.{itemsIn, items-length, item-at}
-use Rattle.group_record.specs.Editions.{totalLength, fromEnd}
+use Rattle.group_record.specs.Editions.{fromEnd}
 use Rattle.group_record.specs.OperationItems.{Item}
 use Rattle.group_record.specs.BothEditions.{editionOf, widthIn}
 use Rattle.group_record.specs.FirstEdition.{itemIn}

@@ -23,7 +23,7 @@ use Rattle.symbol_group.specs.declared.Answer.the-variants as plain-answer
 use Rattle.symbol_group.specs.declared.SymbolGroup.{SymbolGroup}
 use Rattle.layer_group.specs.Capitals.{letterHere, marked, fromToken, capitalised}
 use Rattle.layer_group.specs.Layers.{front}
-use Rattle.layer_group.specs.Answers.{refusedAnswer, layeredBy, layered, layerAnswer, orderOf, smallOf, letterOf, operationAt}
+use Rattle.layer_group.specs.Answers.{refusedAnswer, layeredBy, layerAnswer, orderOf, smallOf, letterOf, operationAt}
 use Rattle.layer_group.specs.declared.refusal.Refusal.{Refusal}
 use Rattle.layer_group.specs.declared.refusal.Refusal.the-variants.{Symbol, NoLayer}
 use Rattle.layer_group.specs.declared.Answer.the-variants.{Group, Refused}

@@ -3,7 +3,7 @@
 ghost use mathlib.Core.Path.{_≡_};
 ghost use Prim.Native.Nat.{_<_, _≤_};
 ghost use lib.ListN.{length, take, drop, set};
-ghost use Rattle.hall_symbol.specs.Bytes.{whitespace, allowed};
+ghost use Rattle.hall_symbol.specs.Bytes.{whitespace};
 ghost use Rattle.hall_symbol.specs.Runs.{run};
 ghost use Rattle.layer_group.specs.Capitals.{isSmall, letterHere, marked, capitalised};
 

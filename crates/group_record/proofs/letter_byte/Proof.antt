@@ -1,9 +1,8 @@
 -- The capital's byte leaves room for the small one.
-use mathlib.Core.Path.{_≡_, ap, _∙_}
+use mathlib.Core.Path.{ap, _∙_}
 use Prim.Native.Nat.{ℕ, _+_}
 use native.Mathlib.Omega.{arith}
 use Rattle.layer_group.specs.Slots.{small-fits}
-use Rattle.group_record.specs.Signs.{letterByte}
 use borrow.Author.Needs.{needs}
 use Rattle.group_record.proofs.letter_byte.Statement.{statement}
 use Rattle.group_record.proofs.letter_byte.Tie as tie
