@@ -1,8 +1,8 @@
 // The entries for C: each asks one entry of the port, and hands its answer on as one number. include/symmetry.h declares them.
 pub mod catalogues;
+pub mod comparison;
 pub mod editions;
 pub mod layer;
-pub mod comparison;
 pub mod line;
 pub mod list;
 mod motion;
