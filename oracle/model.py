@@ -565,9 +565,9 @@ def report_of(letter, operations, other_letter, other_operations):
 
 def read_pair(first, second):
     """Letter and operations of each of two records; refusals 30 to 35 for the first, then 60 to 65 for the second."""
-    letter, operations = read_record(first)
+    letter, operations = read_first_record(first)
     try:
-        return letter, operations, *read_record(second)
+        return letter, operations, *read_first_record(second)
     except Refusal as refusal:
         raise Refusal(refusal.number + SECOND_RECORD, refusal.place) from None
 
