@@ -7,17 +7,19 @@ use Prim.Native.Nat.{ℕ, _+_, _<_, _≤_}
 use native.Mathlib.Omega.{arith}
 use lib.Dec.{ltb}
 use borrow.Author.Tests.{ltb-true, ltb-false, lt-ltb, le-ltb}
-use lib.ListN.{length, take, drop}
+use lib.ListN.{length, drop}
 use Rattle.operation.specs.Answer.{Answer, given, refused, Nothing}
-use Rattle.operation.specs.declared.Operation.{Operation}
-use Rattle.centering.specs.declared.Centering.{Centering}
 use Rattle.group_record.specs.Acceptance.{firstMeaning}
 use Rattle.group_record.specs.Items.{Bytes}
-use Rattle.group_record.specs.Reading.{refusalNumber, readingAnswer, groupAnswer, firstRules, readOf}
-use Rattle.group_record.specs.RefusalNumbers.{Refuses, too-few, edition, letter, count-or-length, item, group, read-refused, one-refusal}
+use Rattle.group_record.specs.declared.items.Item.{Item}
+use Rattle.group_record.specs.Reading.{refusalNumber, firstRules, firstGroupOf, readFirstOf, refusedGroup, acceptedGroup}
+use Rattle.group_record.specs.RefusalNumbers.{Refuses, too-few, edition, letter, count-or-length, item, group, toldAnswer, told-refused, one-refusal}
+use Rattle.group_record.specs.Rules.{Told, holds, toldBy}
+use Rattle.group_record.specs.Rules.{refused as not-held}
 use Rattle.group_record.specs.declared.Reading.{Reading}
 use Rattle.group_record.specs.declared.Reading.the-variants.{Accepted, Refused}
 use Rattle.group_record.specs.declared.Refusal.{Refusal}
+use Rattle.group_record.specs.declared.sign.Sign.{Sign}
 use Rattle.record_report.specs.Sheets.{readingOf, sheetOf}
 use Rattle.record_report.specs.Report.{reportOf}
 use Rattle.record_report.specs.Compared.{comparedAnswer, comparedBy, bufferBy, comparedOf, bufferOf}
@@ -40,28 +42,30 @@ refused-range (item k c front body n one few wide p q) = (omega arith, omega ari
 refused-range (group k c front items one few p g q) = (omega arith, omega arith)
 
 module _ (bytes : List ℕ) (b : Bytes bytes) where
-  -- What a reading of these bytes says.
-  abbrev saying : Reading → Answer (Centering × List Operation) Nothing
-  saying a = readingAnswer a (readOf bytes .centering) (take (readOf bytes .count) (readOf bytes .operations))
-
   -- What is not read is refused by its rule,
   pub refused-by : (r : Refusal) → readingOf bytes ≡ Refused r → RefusedBy bytes (refusalNumber r)
-  unfolding readingOf
-  refused-by r e = read-refused bytes b (refusalNumber r) 0 .0 (ap saying e) .1
+  unfolding readingOf readFirstOf refusedGroup acceptedGroup
+  refused-by r e = by (toldBy firstRules bytes) refl e
+    where
+      by : (t : Told Item Sign (Unit {0})) → toldBy firstRules bytes ≡ t → firstGroupOf t .answer ≡ Refused r → RefusedBy bytes (refusalNumber r)
+      by (not-held s) p q =
+          let same : s ≡ r = cc in
+          told-refused firstRules firstMeaning bytes b (refusalNumber r) 0 .0 (ap toldAnswer (p ∙ ap not-held same)) .1
+      by (holds k s items) p q = let z : _≡_ {A = ℕ} 0 1 = cc in absurd (omega arith)
 
   -- and what a rule refuses is not read.
   pub rule-refuses : (number : ℕ) → RefusedBy bytes number → (r : Refusal) × (readingOf bytes ≡ Refused r) × (refusalNumber r ≡ number)
-  unfolding readingOf
-  rule-refuses number h = by (readOf bytes .answer) refl (read-refused bytes b number 0 .1 (refl, h))
+  unfolding readingOf readFirstOf refusedGroup
+  rule-refuses number h = by (toldBy firstRules bytes) refl (told-refused firstRules firstMeaning bytes b number 0 .1 (refl, h))
     where
-      by : (a : Reading) → readOf bytes .answer ≡ a → groupAnswer (readOf bytes) ≡ refused number 0 tt → (r : Refusal) × (readOf bytes .answer ≡ Refused r)
-          × (refusalNumber r ≡ number)
-      by (Refused r) q e =
-          let same : saying (Refused r) ≡ refused number 0 tt = sym (ap saying q) ∙ e in
+      by : (t : Told Item Sign (Unit {0})) → toldBy firstRules bytes ≡ t → toldAnswer (toldBy firstRules bytes) ≡ refused number 0 tt
+          → (r : Refusal) × (firstGroupOf (toldBy firstRules bytes) .answer ≡ Refused r) × (refusalNumber r ≡ number)
+      by (not-held r) p e =
+          let same : toldAnswer (not-held r) ≡ refused number 0 tt = sym (ap toldAnswer p) ∙ e in
           let numbers : refusalNumber r ≡ number = cc in
-          (r, q, numbers)
-      by Accepted q e =
-          let same : saying Accepted ≡ refused number 0 tt = sym (ap saying q) ∙ e in
+          (r, ap (λ (t : Told Item Sign (Unit {0})). firstGroupOf t .answer) p, numbers)
+      by (holds k s items) p e =
+          let same : toldAnswer (holds k s items) ≡ refused number 0 tt = sym (ap toldAnswer p) ∙ e in
           let z : _≡_ {A = ℕ} 0 1 = cc in
           absurd (omega arith)
 

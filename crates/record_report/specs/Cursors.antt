@@ -16,7 +16,7 @@ use Rattle.operation.specs.declared.Translation.{Translation}
 use Rattle.centering.specs.Lattices.{tripleOf}
 use Rattle.group_record.specs.Items.{Bytes, itemsIn, bytesOf, items-length, item-at}
 use Rattle.group_record.specs.FirstEdition.{itemIn}
-use Rattle.group_record.specs.OperationItems.{Item}
+use Rattle.group_record.specs.declared.items.Item.{Item}
 use Rattle.record_report.specs.Report.{Entry, absent, entryBytes, ofPair, against, differences}
 
 -- ---- items in bytes

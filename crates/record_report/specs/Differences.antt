@@ -11,7 +11,7 @@ use borrow.Author.Tests.{ltb-true, ltb-false}
 use lib.ListN.{length, length-append, length-map}
 use Rattle.laws.specs.Sorted.{Sorted, sorted-cons, head-first, tail-sorted, sorted-map, key-strict, unique}
 use Rattle.operation.specs.declared.Translation.{Translation}
-use Rattle.group_record.specs.OperationItems.{Item}
+use Rattle.group_record.specs.declared.items.Item.{Item}
 use Rattle.record_report.specs.Report.{Entry, firstOnly, secondOnly, inBoth, ofPair, against, differences}
 
 -- Items and entries ascend by code.

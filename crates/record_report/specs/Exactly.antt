@@ -20,7 +20,8 @@ use Rattle.centering.specs.LatticeLaws.{congruent-lattice}
 use Rattle.centering.specs.declared.Centering.{Centering}
 use Rattle.group_record.specs.Groups.{InSet, Form}
 use Rattle.group_record.specs.ListedForm.{alike-reflexive, matrix-injective, code-matrix}
-use Rattle.group_record.specs.OperationItems.{Item, itemOf}
+use Rattle.group_record.specs.OperationItems.{itemOf}
+use Rattle.group_record.specs.declared.items.Item.{Item}
 use Rattle.record_report.specs.Sheets.{operationsIn, sheetOf}
 use Rattle.record_report.specs.Report.{Entry, entriesOf}
 use Rattle.record_report.specs.Differences.{EntryLower, Found, first-only, second-only, in-both, listed-found, found-listed, ascends, only-list}

@@ -11,7 +11,7 @@ use Rattle.centering.specs.Lattices.{congruentOf}
 use Rattle.centering.specs.declared.Centering.{Centering}
 use Rattle.centering.specs.declared.Centering.the-variants.{P, I}
 use Rattle.group_record.specs.Items.{bytesOf}
-use Rattle.group_record.specs.OperationItems.{Item}
+use Rattle.group_record.specs.declared.items.Item.{Item}
 use Rattle.record_report.specs.Sheets.{Sheet}
 use Rattle.record_report.specs.Report.{entryBytes, ofPair, against, differences, entriesOf, reportOf}
 

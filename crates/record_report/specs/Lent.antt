@@ -3,33 +3,37 @@
 use mathlib.Core.Path.{_≡_, refl, sym, _∙_, ap, ap₂, subst}
 use mathlib.Core.Logic.{_↔_}
 use mathlib.Core.Bool.{Bool, true, false, true≢false}
+use mathlib.Core.Option.{some}
 use mathlib.Core.List.{List, [], _∷_, _++_, map, append-assoc, List·Memᴰ as Mem, List·Memᴰ·head as here, List·Memᴰ·tail as there}
 use Prim.Native.Nat.{ℕ, _+_, _*_, _-_, _≤_}
 use native.Mathlib.Omega.{arith}
 use lib.Dec.{T}
 use borrow.Author.Tests.{eq-eqb, ne-eqb}
-use lib.ListN.{length, getD, take, drop, length-append, length-drop, length-map}
-use lib.Seq.{drop-at}
+use lib.ListN.{length, getD, take, drop, replicate, length-append, length-drop, length-map}
+use lib.Seq.{take-at, drop-at}
 use Rattle.laws.specs.LentParts.{tail-part}
 use Rattle.laws.specs.Lattice.{sameTriple, triple-decides}
 use Rattle.operation.specs.Meaning.{motionOf}
+use Rattle.operation.specs.Product.{identityOperation}
 use Rattle.operation.specs.declared.Translation.{Translation}
-use Rattle.centering.specs.Letters.{byteOf}
 use Rattle.centering.specs.Lattices.{tripleOf, translationOf, smallestOf, congruentOf}
-use Rattle.centering.specs.LatticeLaws.{holds, congruent-lattice, Smallest, smallest-is, smallest-same, byte-injective}
+use Rattle.centering.specs.LatticeLaws.{holds, congruent-lattice, Smallest, smallest-is, smallest-same}
 use Rattle.centering.specs.declared.Centering.{Centering}
-use Rattle.group_record.specs.Acceptance.{Holds}
+use Rattle.group_record.specs.Acceptance.{Holds, tells-exactly}
 use Rattle.group_record.specs.Editions.{fromEnd, from-end, trailerBytes, framed, framed-length, framed-items}
 use Rattle.group_record.specs.FirstEdition.{firstEdition}
 use Rattle.group_record.specs.Groups.{Form}
 use Rattle.group_record.specs.Items.{Bytes, bytesOf}
 use Rattle.group_record.specs.OneRecord.{written-items}
-use Rattle.group_record.specs.OperationItems.{Item, itemOf}
-use Rattle.group_record.specs.Reading.{firstReading, readOf}
+use Rattle.group_record.specs.OperationItems.{itemOf, operationOfItem}
+use Rattle.group_record.specs.declared.items.Item.{Item}
+use Rattle.group_record.specs.Reading.{firstReading, firstRules, firstGroupOf, readFirstOf, refusedGroup, acceptedGroup, slots}
 use Rattle.group_record.specs.ReadingTests.{GoodItems, form-good}
-use Rattle.group_record.specs.RoundTrips.{accepted-holds}
+use Rattle.group_record.specs.Rules.{Told, refused, toldBy}
+use Rattle.group_record.specs.Rules.{holds as holding}
 use Rattle.group_record.specs.declared.Reading.the-variants.{Accepted, Refused}
 use Rattle.group_record.specs.declared.Refusal.{Refusal}
+use Rattle.group_record.specs.declared.sign.Sign.{Sign}
 use Rattle.record_report.specs.Sheets.{readingOf, operationsIn, sheetOf}
 use Rattle.record_report.specs.Report.{Entry, entryBytes, ofPair, against, differences, lettersReport, entriesOf, reportOf}
 use Rattle.record_report.specs.Compared.{fittedAnswer, fitted, comparedOf, bufferOf}
@@ -55,23 +59,40 @@ sheet-items bytes = refl
 
 -- ---- what was read
 module _ (bytes : List ℕ) (R : Read bytes) where
-  -- The byte of the letter that was read.
+  -- What was told: a letter, and under it the operations and the lattice that the reader hands back.
+  told : (s : Sign) × Holds firstReading bytes tt s (operationsIn bytes) × (firstReading .lattice s ≡ readFirstOf bytes .centering)
+  unfolding readingOf operationsIn readFirstOf refusedGroup acceptedGroup slots
+  told = by (toldBy firstRules bytes) refl (R .accepted)
+    where
+      by : (t : Told Item Sign (Unit {0})) → toldBy firstRules bytes ≡ t → firstGroupOf t .answer ≡ Accepted
+          → (s : Sign) × Holds firstReading bytes tt s (take (firstGroupOf t .count) (firstGroupOf t .operations)) × (firstReading .lattice s ≡ firstGroupOf t .centering)
+      by (refused r) p a = let z : _≡_ {A = ℕ} 0 1 = cc in absurd (omega arith)
+      by (holding k s items) p a =
+          let l = map operationOfItem items in
+          (s, rw (take-at l (replicate (48 - length l) identityOperation) (length l) refl) (tells-exactly firstReading bytes (R .small) tt s l .0 (items, p, refl)), refl)
+
+  -- The letter that was read, and its byte.
+  pub sign : Sign
+  sign = told .0
+
   abbrev letterByte : ℕ
-  letterByte = byteOf (readOf bytes .centering)
+  letterByte = firstReading .byte sign
 
   -- The bytes end with the record of its operations, which are in the listed form and allowed.
-  pub held : Holds firstReading bytes tt (readOf bytes .centering) (operationsIn bytes)
-  unfolding readingOf operationsIn
-  held = accepted-holds bytes (R .small) (R .accepted)
+  held : Holds firstReading bytes tt sign (operationsIn bytes)
+  unfolding sign
+  held = told .1
+
+  pub read-lattice : firstReading .lattice sign ≡ sheetOf bytes .lattice
+  unfolding sign sheetOf
+  read-lattice = told .2
 
   pub read-form : Form (sheetOf bytes .lattice) (operationsIn bytes)
-  unfolding sheetOf
-  read-form = held .form
+  read-form = subst (λ (c : Centering). Form c (operationsIn bytes)) read-lattice (held .form)
 
   -- Codes ascend, and triples are the smallest of their classes.
   pub read-good : GoodItems (sheetOf bytes .lattice) (sheetOf bytes .items)
-  unfolding sheetOf
-  read-good = form-good (readOf bytes .centering) (operationsIn bytes) (held .form)
+  read-good = rw (sheet-items bytes) (form-good (sheetOf bytes .lattice) (operationsIn bytes) read-form)
 
   -- The bytes are something, the items and the trailer.
   ended : bytes ≡ held .front ++ framed firstEdition letterByte (sheetOf bytes .items)
@@ -94,8 +115,7 @@ module _ (bytes : List ℕ) (R : Read bytes) where
   unfolding trailer
   letter-byte = ap (λ (b : List ℕ). fromEnd b 5) by-trailer ∙ from-end before-trailer trailer 5 0 refl (omega arith)
 
-  -- The letter's byte says the lattice.
-  pub read-letter : sheetOf bytes .letter ≡ byteOf (sheetOf bytes .lattice)
+  pub read-letter : sheetOf bytes .letter ≡ firstReading .byte sign
   unfolding sheetOf
   read-letter = letter-byte
 
@@ -165,7 +185,12 @@ module _ (bytes : List ℕ) (R : Read bytes) where
 -- One letter has one lattice.
 pub one-lattice : (first second : List ℕ) → Read first → Read second → sheetOf first .letter ≡ sheetOf second .letter
     → sheetOf first .lattice ≡ sheetOf second .lattice
-one-lattice first second R S e = byte-injective (sheetOf first .lattice) (sheetOf second .lattice) (sym (read-letter first R) ∙ e ∙ read-letter second S)
+one-lattice first second R S e =
+    let G = firstReading .signs in
+    let byte : firstReading .byte (sign first R) ≡ firstReading .byte (sign second S) = sym (read-letter first R) ∙ e ∙ read-letter second S in
+    let some-same : some (sign first R) ≡ some (sign second S) = sym (G .there (sign first R)) ∙ ap (G .from) byte ∙ G .there (sign second S) in
+    let same : sign first R ≡ sign second S = cc in
+    sym (read-lattice first R) ∙ ap (firstReading .lattice) same ∙ read-lattice second S
 
 -- ---- two tests that agree give the same differences
 module _ (p q : Translation → Translation → Bool) where

@@ -7,7 +7,7 @@ use lib.Dec.{ltb, eqb}
 use Rattle.operation.specs.declared.Translation.{Translation}
 use Rattle.centering.specs.Lattices.{congruentOf}
 use Rattle.group_record.specs.Items.{bytesOf}
-use Rattle.group_record.specs.OperationItems.{Item}
+use Rattle.group_record.specs.declared.items.Item.{Item}
 use Rattle.record_report.specs.Sheets.{Sheet}
 
 -- ---- entries

@@ -6,8 +6,9 @@ use lib.ListN.{take}
 use Rattle.operation.specs.declared.Operation.{Operation}
 use Rattle.centering.specs.declared.Centering.{Centering}
 use Rattle.group_record.specs.Editions.{fromEnd}
-use Rattle.group_record.specs.OperationItems.{Item, itemOf}
-use Rattle.group_record.specs.Reading.{readOf}
+use Rattle.group_record.specs.OperationItems.{itemOf}
+use Rattle.group_record.specs.declared.items.Item.{Item}
+use Rattle.group_record.specs.Reading.{readFirstOf}
 use Rattle.group_record.specs.declared.Reading.{Reading}
 
 pub record Sheet : Type 0 where
@@ -17,12 +18,12 @@ pub record Sheet : Type 0 where
 
 -- Whether a record is read, or why not.
 unfoldable pub readingOf : List ℕ → Reading
-readingOf bytes = readOf bytes .answer
+readingOf bytes = readFirstOf bytes .answer
 
 -- The operations that it lists.
 unfoldable pub operationsIn : List ℕ → List Operation
-operationsIn bytes = take (readOf bytes .count) (readOf bytes .operations)
+operationsIn bytes = take (readFirstOf bytes .count) (readFirstOf bytes .operations)
 
 -- The letter is the first byte of the trailer, five from the end.
 unfoldable pub sheetOf : List ℕ → Sheet
-sheetOf bytes = record { letter = fromEnd bytes 5; lattice = readOf bytes .centering; items = map itemOf (operationsIn bytes) }
+sheetOf bytes = record { letter = fromEnd bytes 5; lattice = readFirstOf bytes .centering; items = map itemOf (operationsIn bytes) }

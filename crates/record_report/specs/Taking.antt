@@ -9,7 +9,7 @@ use Rattle.laws.specs.Sorted.{keep, sort}
 use Rattle.group_record.specs.Editions.{fromEnd, framed}
 use Rattle.group_record.specs.FirstEdition.{firstEdition}
 use Rattle.group_record.specs.Items.{itemsIn}
-use Rattle.group_record.specs.OperationItems.{Item}
+use Rattle.group_record.specs.declared.items.Item.{Item}
 use Rattle.record_report.specs.Report.{Entry}
 use Rattle.record_report.specs.Cursors.{itemsOf}
 

@@ -11,7 +11,7 @@ use lib.Seq.{take-at, drop-at, drop-drop, length-take-le}
 use borrow.Rule.Slice.PartMut.{putMid}
 use Rattle.laws.specs.LentParts.{put-at}
 use Rattle.operation.specs.declared.Translation.{Translation}
-use Rattle.group_record.specs.OperationItems.{Item}
+use Rattle.group_record.specs.declared.items.Item.{Item}
 use Rattle.record_report.specs.Report.{entryBytes}
 use Rattle.record_report.specs.Compared.{fittedAnswer, fitted}
 use Rattle.record_report.specs.Cursors.{itemsOf, itemAt, sameTranslation, kindOf, bytesAt, sameBytes, onUnless, entryCode, tripleUnless, entryAt, step, step-within, step-length, all-left, some-at, nine-bytes}

@@ -18,7 +18,8 @@ use Rattle.centering.specs.Lattices.{congruentOf}
 use Rattle.group_record.specs.Editions.{fromEnd, framed, framed-injective}
 use Rattle.group_record.specs.FirstEdition.{firstEdition}
 use Rattle.group_record.specs.Items.{itemsIn, bytesOf, bytes-length, read-written}
-use Rattle.group_record.specs.OperationItems.{Item, item≡}
+use Rattle.group_record.specs.OperationItems.{item≡}
+use Rattle.group_record.specs.declared.items.Item.{Item}
 use Rattle.record_report.specs.Sheets.{Sheet, sheetOf}
 use Rattle.record_report.specs.Report.{Entry, firstOnly, secondOnly, inBoth, entryBytes, differences, lettersReport, entriesOf, reportOf}
 use Rattle.record_report.specs.Cursors.{nine-bytes}

@@ -11,7 +11,7 @@ ghost use Rattle.record_report.specs.Lent.{Read};
 use entries::report_entries;
 use group_record::Reading;
 use group_record::Refusal;
-use group_record::reader::read_record;
+use group_record::reader::read_first_record;
 
 // How many bytes the report has; or why the first record is not read, why the second is not, or that the report does not fit.
 pub enum Compared {
@@ -39,7 +39,7 @@ pub fn compare_records(first: &[u8], second: &[u8], out: &mut [u8]) -> Compared
 fn read(bytes: &[u8]) -> Reading
     ensures { λ r. ⌜ r ≡ readingOf (now (bytes .entry)) ⌝ }
 {
-    let group = read_record(bytes);
+    let group = read_first_record(bytes);
     group.answer
 }
 

@@ -6,12 +6,12 @@ use borrow.Author.Needs.{needs}
 use Rattle.record_report.proofs.read.Statement.{statement}
 use Rattle.record_report.proofs.read.Tie as tie
 
-read-record-requires : tie.Need-read-record-requires
-read-record-requires c κs = search needs
+read-first-record-requires : tie.Need-read-first-record-requires
+read-first-record-requires c κs = search needs
 
 returns : tie.Need-returns
 unfolding readingOf
-returns c = ap (λ (g : RecordGroup). g .answer) (c .read-record .ensures)
+returns c = ap (λ (g : RecordGroup). g .answer) (c .read-first-record .ensures)
 
 pub read-spec : {M : Type 1} → statement M
-read-spec = tie.close (tie.spec read-record-requires returns)
+read-spec = tie.close (tie.spec read-first-record-requires returns)
