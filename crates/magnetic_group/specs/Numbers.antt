@@ -1,15 +1,12 @@
 -- The list of a magnetic symbol as numbers: they say the operations that are answered, in their order; and how the answers are put together from them.
-use mathlib.Core.Path.{_≡_, refl, sym, _∙_, ap, ap₂, subst}
-use mathlib.Core.Bool.{cond}
-use mathlib.Core.List.{List, [], map}
+use mathlib.Core.Path.{_≡_, refl, sym, _∙_, ap}
+use mathlib.Core.List.{List, map}
 use Prim.Native.Nat.{ℕ, _-_, _≤_, _<_}
 use native.Mathlib.Omega.{arith}
 use native.Mathlib.Decide.{decLt}
 use lib.Dec.{eqb}
 use lib.ListN.{length, getD, replicate, length-map, List·getD-append}
-use lib.Seq.{take-at}
 use borrow.Author.Tests.{lt-ltb, le-ltb}
-use Rattle.laws.specs.Growth.{turns, grow, grown}
 use Rattle.group_growth.specs.Verdicts.{Verdict, listed, overgrown, torn, imageVerdict, onGrowth}
 use Rattle.group_growth.specs.Acceptance.{listed-length}
 use Rattle.group_growth.specs.Flagged.{Flagged, held, imageFlagged}
@@ -42,7 +39,6 @@ use Rattle.magnetic_group.specs.Symbols.{SymbolOutcome, made, misread, o
 use Rattle.magnetic_group.specs.Answers.{refusedAnswer, madeAnswer, groupBy, generatorsOf, slotsOf, orderBy, letterBy, besideFlag, operationBy}
 use Rattle.magnetic_group.specs.declared.Answer.the-variants.{Group, Refused}
 use Rattle.magnetic_group.specs.declared.MagneticGroup.{MagneticGroup}
-use Rattle.magnetic_group.specs.declared.FlaggedOperation.{FlaggedOperation}
 use Rattle.magnetic_group.specs.declared.MagneticOrder.the-variants.{Is, Refused as OrderRefused}
 use Rattle.magnetic_group.specs.declared.MagneticLetter.the-variants.{Is as IsLetter, Refused as LetterRefused}
 use Rattle.magnetic_group.specs.declared.MagneticOperation.the-variants.{Operation as FoundOperation, PastEnd, Refused as FoundRefused}
@@ -76,7 +72,8 @@ module _ (c : Centering) (gens : List (Flagged Operation)) where
   pub numbers-say : imageList flaggedSaid (numberOutcome c gens) ≡ listOf (outcomeOf c gens)
   numbers-say = elim (decLt (firstOff c (plainOf gens)) (length (plainOf gens))) [
     | yes h ↦
-        ap (imageList flaggedSaid) (numbers-off c gens (omega (arith, length-map gens (λ (g : Flagged Operation). g .element)))) ∙ ap listOf (sym (outcome-off h))
+        ap (imageList flaggedSaid) (numbers-off c gens (omega (arith, length-map gens (λ (g : Flagged Operation). g .element)))) ∙ ap listOf
+        (sym (outcome-off h))
     | no h ↦
         let all : length (plainOf gens) ≤ firstOff c (plainOf gens) = omega arith in
         ap (imageList flaggedSaid) (numbers-grown c gens (omega (arith, length-map gens (λ (g : Flagged Operation). g .element))))

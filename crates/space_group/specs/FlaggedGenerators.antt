@@ -2,16 +2,13 @@
 use mathlib.Core.Path.{_≡_, refl, sym, _∙_, ap}
 use mathlib.Core.Bool.{Bool, true, false}
 use mathlib.Core.List.{List, [], _∷_, map}
-use Prim.Native.Nat.{ℕ, zero, suc, _+_, _*_, _≤_, _<_}
+use Prim.Native.Nat.{ℕ, zero, suc, _+_, _<_}
 use native.Mathlib.Omega.{arith}
-use lib.Dec.{eqb}
 use lib.ListN.{length, getD, take}
 use Rattle.group_growth.specs.Flagged.{Flagged, flaggedBy, held}
-use Rattle.operation.specs.Meaning.{Digits}
 use Rattle.operation.specs.declared.Operation.{Operation}
-use Rattle.packed_operation.specs.Number.{flagOf, saidBy, packedOf, narrowed}
-use Rattle.packed_operation.specs.RoundTrip.{number-says, flag-said}
-use Rattle.space_group.specs.NumberGrowth.{reducedOperation, generatorNumber, flaggedSaid}
+use Rattle.packed_operation.specs.Number.{packedOf, narrowed}
+use Rattle.space_group.specs.NumberGrowth.{reducedOperation, generatorNumber}
 
 -- Generators with their flags, one by one.
 abbrev pub withFlags : List Operation → List Bool → List (Flagged Operation)

@@ -13,7 +13,7 @@ use Rattle.laws.specs.Motion.{SpaceMotion, product, compose, identity}
 use Rattle.laws.specs.Closure.{Congruence}
 use Rattle.laws.specs.SameMatrix.{sameRotation, same-rotation, rotation-same}
 use Rattle.laws.specs.Growth.{Growth, turns, grow, grown, takenUp, imageGrowth}
-use Rattle.group_growth.specs.Verdicts.{listed, overgrown, torn, imageVerdict, onGrowth}
+use Rattle.group_growth.specs.Verdicts.{listed, torn, imageVerdict, onGrowth}
 use Rattle.group_growth.specs.Growing.{verdict}
 use Rattle.group_growth.specs.Forms.{growth-verdict}
 use Rattle.group_growth.specs.Flagged.{xor, Flagged, flaggedBy, held, imageFlagged, sameFlagged, timesFlagged, key-flag, key-element, flagged-key}
@@ -21,12 +21,12 @@ use Rattle.group_growth.specs.FlaggedGrowth.{withFlag, formsWithFlag, flaggedTi
 use Rattle.operation.specs.Meaning.{Digits, motionOf}
 use Rattle.operation.specs.Product.{identityOperation, operationOf}
 use Rattle.operation.specs.declared.Operation.{Operation}
-use Rattle.packed_operation.specs.Number.{flagOf, saidBy, packedOf, narrowed}
+use Rattle.packed_operation.specs.Number.{flagOf, saidBy, narrowed}
 use Rattle.packed_operation.specs.RoundTrip.{number-says, flag-said}
 use Rattle.centering.specs.declared.Centering.{Centering}
 use Rattle.space_group.specs.Traversal.{sameTurn, productInside}
 use Rattle.space_group.specs.OperationGrowth.{motionGrowth, operationForms, identity-operation}
-use Rattle.space_group.specs.NumberGrowth.{AllDigits, reducedOperation, generatorNumber, narrowed-narrow, narrowed-short, generator-says, reduced-times, flaggedSaid, sameFlaggedClass, timesSaid, unitNumber, unit-said, numberGrowth, flagged-growth}
+use Rattle.space_group.specs.NumberGrowth.{AllDigits, reducedOperation, generatorNumber, narrowed-narrow, narrowed-short, generator-says, reduced-times, flaggedSaid, sameFlaggedClass, timesSaid, unit-said, numberGrowth, flagged-growth}
 use Rattle.space_group.specs.FlaggedGenerators.{bitOf, flaggedNumber}
 use Rattle.space_group.specs.FlaggedOutcomes.{elements}
 

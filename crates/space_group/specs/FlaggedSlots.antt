@@ -55,7 +55,8 @@ module _ (c : Centering) (n : ℕ) (generators : List Operation) (flags : List B
   gens = withFlags (take n generators) (take n flags)
 
   -- All where n is over 9.
-  pub all-used : 9 < n → length flags ≡ 9 → (answer : FlaggedAnswer) (slots : List ℕ) → Answers (numberOutcome c (withFlags (take 9 generators) (take 9 flags))) answer slots
+  pub all-used : 9 < n → length flags ≡ 9 → (answer : FlaggedAnswer) (slots : List ℕ)
+      → Answers (numberOutcome c (withFlags (take 9 generators) (take 9 flags))) answer slots
       → Answers (numberOutcome c gens) answer slots
   all-used h also answer slots A =
       let first = take-all 9 generators (omega arith) ∙ sym (take-all n generators (omega arith)) in
@@ -87,12 +88,14 @@ module _ (c : Centering) (n : ℕ) (generators : List Operation) (flags : List B
       by-growth : (o : Option (Growth ℕ)) → grown ≡ o → numberOutcome c gens ≡ ofVerdict (onGrowth o)
       by-growth o e = numbers-grown c gens (omega (arith, long, found-elements)) ∙ ap (λ p. ofVerdict (onGrowth p)) e
 
-      pub answers-unbounded : ended .within ≡ false → (slots : List ℕ) → slots ≡ replicate 96 unitNumber → Answers (numberOutcome c gens) (Refused Rotations) slots
+      pub answers-unbounded : ended .within ≡ false → (slots : List ℕ) → slots ≡ replicate 96 unitNumber
+          → Answers (numberOutcome c gens) (Refused Rotations) slots
       answers-unbounded w slots fresh =
           answers-refused (numberOutcome c gens) Rotations (by-growth none (ended-none grown ended before numbers noughts steps ends w)) slots fresh
 
       module _ (w : ended .within ≡ true) where
-        pub answers-torn : ended .steady ≡ false → (slots : List ℕ) → slots ≡ replicate 96 unitNumber → Answers (numberOutcome c gens) (Refused Translations) slots
+        pub answers-torn : ended .steady ≡ false → (slots : List ℕ) → slots ≡ replicate 96 unitNumber
+            → Answers (numberOutcome c gens) (Refused Translations) slots
         answers-torn t slots fresh =
             let (s, e, held) = ended-some grown ended before numbers noughts steps ends w in
             let torn : s .steady ≡ false = sym (held .steady) ∙ t in

@@ -24,7 +24,8 @@ returns c =
 returns-2 : tie.Need-returns-2
 returns-2 c =
     let made = c .before .before .before .list in
-    letter-refused (c .before .before .before .before .before .before .args .text .now) (made .result) (made .ensures .0) (c .before .answer .given .0 .0) (c .before .answer .given .1)
+    letter-refused (c .before .before .before .before .before .before .args .text .now) (made .result) (made .ensures .0) (c .before .answer .given .0 .0)
+    (c .before .answer .given .1)
 
 pub letter-spec : {M : Type 1} → statement M
 letter-spec = tie.close (tie.spec list-requires enum-told enum-known-answer returns returns-2)

@@ -21,10 +21,12 @@ enum-told : tie.Need-enum-told
 enum-told c = search needs
 
 -- The list in its slots, where the index is compared.
-made : (c : tie.Else1) → Listed (c .before .before .before .before .before .before .before .args .text .now) (c .before .before .before .before .list .result .count) (c .before .before .before .before .list .last .1 .0)
+made : (c : tie.Else1)
+    → Listed (c .before .before .before .before .before .before .before .args .text .now) (c .before .before .before .before .list .result .count) (c .before .before .before .before .list .last .1 .0)
 made c =
     let l = c .before .before .before .before .list in
-    slots-listed (c .before .before .before .before .before .before .before .args .text .now) (l .result) (l .last .1 .0) (c .before .before .enum-told .given .1) (l .ensures .0) (l .ensures .1)
+    slots-listed (c .before .before .before .before .before .before .before .args .text .now) (l .result) (l .last .1 .0)
+    (c .before .before .enum-told .given .1) (l .ensures .0) (l .ensures .1)
 
 -- An index that is used is that of a slot.
 in-slots : (c : tie.Else1) → c .before .before .before .before .before .before .before .args .index < 96
@@ -59,7 +61,8 @@ returns-3 : tie.Need-returns-3
 returns-3 c =
     let a = c .before .before .before .before .before .before .before .before .before .args in
     let l = c .before .before .before .before .before .before .list in
-    operation-given (a .text .now) (l .result .count) (l .last .1 .0) (made (c .before .before)) (a .index) _ (c .before .before .if1 .left) _ (c .before .said .ensures) _ (c .flag .ensures .0)
+    operation-given (a .text .now) (l .result .count) (l .last .1 .0) (made (c .before .before)) (a .index) _ (c .before .before .if1 .left) _
+    (c .before .said .ensures) _ (c .flag .ensures .0)
 
 pub operation-at-spec : {M : Type 1} → statement M
 operation-at-spec =

@@ -24,7 +24,8 @@ returns c =
 returns-2 : tie.Need-returns-2
 returns-2 c =
     let made = c .before .before .before .list in
-    order-refused (c .before .before .before .before .before .before .args .text .now) (made .result) (made .ensures .0) (c .before .answer .given .0 .0) (c .before .answer .given .1)
+    order-refused (c .before .before .before .before .before .before .args .text .now) (made .result) (made .ensures .0) (c .before .answer .given .0 .0)
+    (c .before .answer .given .1)
 
 pub order-spec : {M : Type 1} → statement M
 order-spec = tie.close (tie.spec list-requires enum-told enum-known-answer returns returns-2)

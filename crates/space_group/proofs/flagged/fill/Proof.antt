@@ -1,6 +1,6 @@
 -- The loop writes the number from the front.
 use mathlib.Core.Path.{_≡_, refl, ap, _∙_}
-use mathlib.Core.List.{List, [], _++_, append-nil}
+use mathlib.Core.List.{List, _++_, append-nil}
 use Prim.Native.Nat.{ℕ, _≤_, _-_}
 use native.Mathlib.Omega.{arith}
 use lib.ListN.{length, drop, set, replicate, length-set}
@@ -44,7 +44,8 @@ returns c =
     let l = c .before .loop in
     let s = c .before .before .args .numbers .now in
     let e : l .i ≡ length s = omega arith in
-    l .inv .2 ∙ ap (λ (k : ℕ). replicate k unitNumber ++ drop k s) e ∙ ap (λ r. replicate (length s) unitNumber ++ r) (drop-length s) ∙ append-nil (replicate (length s) unitNumber)
+    l .inv .2 ∙ ap (λ (k : ℕ). replicate k unitNumber ++ drop k s) e ∙ ap (λ r. replicate (length s) unitNumber ++ r) (drop-length s) ∙ append-nil
+    (replicate (length s) unitNumber)
 
 pub fill-spec : {M : Type 1} → statement M
 fill-spec =

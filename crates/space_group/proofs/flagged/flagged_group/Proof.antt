@@ -25,7 +25,8 @@ returns : tie.Need-returns
 returns c =
     let start = c .before .before .before .before .before in
     let a = start .args in
-    all-used (a .c) (a .n) (a .generators) (a .flags) (start .good .1 .1 .0 .1 .0 .1) (c .before .before .if1 .taken) (start .good .1 .1 .1 .0 .1 .0 .1) (c .listed .result) (c .listed .last .1 .1 .1 .1 .0) (c .listed .ensures)
+    all-used (a .c) (a .n) (a .generators) (a .flags) (start .good .1 .1 .0 .1 .0 .1) (c .before .before .if1 .taken) (start .good .1 .1 .1 .0 .1 .0 .1)
+    (c .listed .result) (c .listed .last .1 .1 .1 .1 .0) (c .listed .ensures)
 
 listed-requires-2 : tie.Need-listed-requires-2
 listed-requires-2 c κs =

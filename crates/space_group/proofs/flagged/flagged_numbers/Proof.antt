@@ -57,10 +57,12 @@ loop-again c =
     let nine : length (a .t2) ≡ 9 = c .before .before .before .before .before .good .1 .0 .1 .0 .1 in
     let also : length (a .t3) ≡ 9 = c .before .before .before .before .before .good .1 .1 .0 .1 .0 .1 in
     let long = with-length (a .t2) (a .t3) in
-    let next = c .flagged-number .ensures ∙ ap flaggedNumber (sym (with-at (a .t2) (a .t3) (l .i) _ _ (flaggedBy false identityOperation) (omega arith) (omega arith))) in (
+    let next = c .flagged-number .ensures ∙ ap flaggedNumber
+    (sym (with-at (a .t2) (a .t3) (l .i) _ _ (flaggedBy false identityOperation) (omega arith) (omega arith))) in (
       omega arith,
       simp length-set (l .inv .1),
-      ap₂ (λ m x. set m (l .i) x) (l .inv .2) next ∙ filled-more flaggedNumber (withFlags (a .t2) (a .t3)) (a .numbers .now) (l .i) _ (omega arith) (omega arith),
+      ap₂ (λ m x. set m (l .i) x) (l .inv .2) next ∙ filled-more flaggedNumber (withFlags (a .t2) (a .t3)) (a .numbers .now) (l .i) _ (omega arith)
+          (omega arith),
     )
 
 same-length : tie.Need-same-length Inv-loop μ-loop

@@ -27,7 +27,8 @@ returns : tie.Need-returns
 returns c =
     let start = c .before .before .before in
     let a = start .args in
-    answers-off (a .c) (a .n) (a .generators) (a .flags) (nine start) (start .pre .0) (c .before .first-off .result) (c .before .first-off .ensures) (c .if1 .taken) (a .numbers .now) (start .pre .1)
+    answers-off (a .c) (a .n) (a .generators) (a .flags) (nine start) (start .pre .0) (c .before .first-off .result) (c .before .first-off .ensures)
+    (c .if1 .taken) (a .numbers .now) (start .pre .1)
 
 slice-aggregate-flagged-numbers : tie.Need-slice-aggregate-flagged-numbers
 slice-aggregate-flagged-numbers c = search needs
@@ -56,13 +57,18 @@ same-length c = search needs
 returns-2 : tie.Need-returns-2
 returns-2 c =
     let g = c .before .before .before .before .before .before .before .before .before in
-    let start = c .before .before .before .before .before .before .before .before .before .before .before .before .before .before .before .before .before .before .before in
+    let start =
+    c .before .before .before .before .before .before .before .before .before .before .before .before .before .before .before .before .before .before .before
+    in
     let a = start .args in
     let off = g .before .before .before .before .before .before .before .before .first-off in
     let factors = g .before .before .before .before .before .flagged-numbers in
     let long : length (g .traverse .last .1 .1 .1 .1 .0) ≡ 96 = omega (arith, ap length (start .pre .1)) in
     let fresh = c .before .before .fill .ensures ∙ ap (λ (k : ℕ). replicate k unitNumber) long in
-    answers-unbounded (a .c) (a .n) (a .generators) (a .flags) (nine start) (start .pre .0) (off .result) (off .ensures) (g .before .before .before .before .before .before .before .if1 .left) (factors .last .1 .1 .1 .0) (factors .ensures) (g .traverse .result) (a .numbers .now) (g .traverse .last .1 .1 .1 .1 .0) (replicate 864 0) (g .traverse .last .1 .1 .1 .1 .1 .0) (g .traverse .ensures) (not-true _ (c .before .before .before .before .if2 .taken)) (c .before .before .fill .last .0) fresh
+    answers-unbounded (a .c) (a .n) (a .generators) (a .flags) (nine start) (start .pre .0) (off .result) (off .ensures)
+    (g .before .before .before .before .before .before .before .if1 .left) (factors .last .1 .1 .1 .0) (factors .ensures) (g .traverse .result)
+    (a .numbers .now) (g .traverse .last .1 .1 .1 .1 .0) (replicate 864 0) (g .traverse .last .1 .1 .1 .1 .1 .0) (g .traverse .ensures)
+    (not-true _ (c .before .before .before .before .if2 .taken)) (c .before .before .fill .last .0) fresh
 
 fill-requires-2 : tie.Need-fill-requires-2
 fill-requires-2 c κs = search needs
@@ -73,13 +79,19 @@ same-length-2 c = search needs
 returns-3 : tie.Need-returns-3
 returns-3 c =
     let g = c .before .before .before .before .before .before .before .before .before .before .before in
-    let start = c .before .before .before .before .before .before .before .before .before .before .before .before .before .before .before .before .before .before .before .before .before in
+    let start =
+    c .before .before .before .before .before .before .before .before .before .before .before .before .before .before .before .before .before .before .before .before .before
+    in
     let a = start .args in
     let off = g .before .before .before .before .before .before .before .before .first-off in
     let factors = g .before .before .before .before .before .flagged-numbers in
     let long : length (g .traverse .last .1 .1 .1 .1 .0) ≡ 96 = omega (arith, ap length (start .pre .1)) in
     let fresh = c .before .before .fill2 .ensures ∙ ap (λ (k : ℕ). replicate k unitNumber) long in
-    answers-torn (a .c) (a .n) (a .generators) (a .flags) (nine start) (start .pre .0) (off .result) (off .ensures) (g .before .before .before .before .before .before .before .if1 .left) (factors .last .1 .1 .1 .0) (factors .ensures) (g .traverse .result) (a .numbers .now) (g .traverse .last .1 .1 .1 .1 .0) (replicate 864 0) (g .traverse .last .1 .1 .1 .1 .1 .0) (g .traverse .ensures) (not-false _ (c .before .before .before .before .before .before .if2 .left)) (not-true _ (c .before .before .before .before .if3 .taken)) (c .before .before .fill2 .last .0) fresh
+    answers-torn (a .c) (a .n) (a .generators) (a .flags) (nine start) (start .pre .0) (off .result) (off .ensures)
+    (g .before .before .before .before .before .before .before .if1 .left) (factors .last .1 .1 .1 .0) (factors .ensures) (g .traverse .result)
+    (a .numbers .now) (g .traverse .last .1 .1 .1 .1 .0) (replicate 864 0) (g .traverse .last .1 .1 .1 .1 .1 .0) (g .traverse .ensures)
+    (not-false _ (c .before .before .before .before .before .before .if2 .left)) (not-true _ (c .before .before .before .before .if3 .taken))
+    (c .before .before .fill2 .last .0) fresh
 
 same-length-3 : tie.Need-same-length-3
 same-length-3 c = search needs
@@ -91,7 +103,10 @@ returns-4 c =
     let a = start .args in
     let off = g .before .before .before .before .before .before .before .before .first-off in
     let factors = g .before .before .before .before .before .flagged-numbers in
-    answers-listed (a .c) (a .n) (a .generators) (a .flags) (nine start) (start .pre .0) (off .result) (off .ensures) (g .before .before .before .before .before .before .before .if1 .left) (factors .last .1 .1 .1 .0) (factors .ensures) (g .traverse .result) (a .numbers .now) (g .traverse .last .1 .1 .1 .1 .0) (replicate 864 0) (g .traverse .last .1 .1 .1 .1 .1 .0) (g .traverse .ensures) (not-false _ (c .before .before .if2 .left)) (not-false _ (c .if3 .left)) (start .pre .1)
+    answers-listed (a .c) (a .n) (a .generators) (a .flags) (nine start) (start .pre .0) (off .result) (off .ensures)
+    (g .before .before .before .before .before .before .before .if1 .left) (factors .last .1 .1 .1 .0) (factors .ensures) (g .traverse .result)
+    (a .numbers .now) (g .traverse .last .1 .1 .1 .1 .0) (replicate 864 0) (g .traverse .last .1 .1 .1 .1 .1 .0) (g .traverse .ensures)
+    (not-false _ (c .before .before .if2 .left)) (not-false _ (c .if3 .left)) (start .pre .1)
 
 pub listed-spec : {M : Type 1} → statement M
 listed-spec =
