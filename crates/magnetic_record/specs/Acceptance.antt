@@ -24,7 +24,8 @@ use Rattle.centering.specs.Lattices.{points}
 use Rattle.centering.specs.LatticeLaws.{Smallest}
 use Rattle.centering.specs.declared.Centering.{Centering}
 use Rattle.group_record.specs.Items.{Bytes}
-use Rattle.group_record.specs.OperationItems.{Item, itemOf, operationOfItem}
+use Rattle.group_record.specs.OperationItems.{itemOf, operationOfItem}
+use Rattle.group_record.specs.declared.items.Item.{Item}
 use Rattle.group_record.specs.Rules.{Told, toldBy}
 use Rattle.group_record.specs.Reading.{isItem, alikeItems, productListed, pairListed, keepsItem}
 use Rattle.group_record.specs.Groups.{Alike}

@@ -14,7 +14,8 @@ use Rattle.operation.specs.Meaning.{motionOf}
 use Rattle.operation.specs.declared.Operation.{Operation}
 use Rattle.centering.specs.LatticeLaws.{Smallest}
 use Rattle.centering.specs.declared.Centering.{Centering}
-use Rattle.group_record.specs.OperationItems.{Item, operationOfItem}
+use Rattle.group_record.specs.OperationItems.{operationOfItem}
+use Rattle.group_record.specs.declared.items.Item.{Item}
 use Rattle.group_record.specs.Groups.{Form}
 use Rattle.group_record.specs.ReadingTests.{GoodItems, good-form}
 use Rattle.magnetic_record.specs.SecondEdition.{MagneticItem, magnetic≡, magneticKey}

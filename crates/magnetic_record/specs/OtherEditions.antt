@@ -8,7 +8,7 @@ use lib.ListN.{length, length-append}
 use Rattle.group_record.specs.Items.{bytesOf, bytes-length}
 use Rattle.group_record.specs.Editions.{Edition, totalLength, trailerBytes, framed}
 use Rattle.group_record.specs.FirstEdition.{firstEdition}
-use Rattle.group_record.specs.OperationItems.{Item}
+use Rattle.group_record.specs.declared.items.Item.{Item}
 use Rattle.group_record.specs.Rules.{Rules, refused, toldBy}
 use Rattle.group_record.specs.Reading.{firstRules}
 use Rattle.group_record.specs.Outcomes.{Meaning, wrong-edition, outcome-told}

@@ -10,7 +10,8 @@ use Rattle.laws.specs.Lattice.{all}
 use Rattle.operation.specs.Product.{identityOperation}
 use Rattle.centering.specs.Letters.{byteOf}
 use Rattle.centering.specs.declared.Centering.{Centering}
-use Rattle.group_record.specs.OperationItems.{Item, itemOf}
+use Rattle.group_record.specs.OperationItems.{itemOf}
+use Rattle.group_record.specs.declared.items.Item.{Item}
 use Rattle.group_record.specs.Reading.{isItem, alikeItems, pairListed, keepsItem, oneNumber, one-number}
 use Rattle.group_record.specs.Signs.{latticeLetters}
 use Rattle.group_record.specs.Rules.{Rules}

@@ -8,7 +8,7 @@ use native.Mathlib.Decide.{decLt}
 use lib.ListN.{length, getD, take}
 use Rattle.group_record.specs.Items.{Bytes}
 use Rattle.group_record.specs.Editions.{Edition}
-use Rattle.group_record.specs.OperationItems.{Item}
+use Rattle.group_record.specs.declared.items.Item.{Item}
 use Rattle.group_record.specs.FirstEdition.{itemBytes, itemIn, item-again, item-bytes-again}
 
 -- What a record says of one operation: the code of its rotation, a translation, and its flag, which is 1 with time reversal and 0 without.
