@@ -337,12 +337,15 @@ uint64_t symmetry_record_edition(const uint8_t *record, size_t record_length);
  * same letter and operations; moved back, it has the bytes that were read. 20 goes by the length that is written, 4 * n + 5 or 5 * n + 5.
  */
 uint64_t symmetry_record_move(const uint8_t *record, size_t record_length, uint8_t *out, size_t out_length, uint64_t start);
+
+/*
  * Compares two records of edition 1, writes from out on how they differ, and answers how many bytes that is; 0 exactly if the two records are equal byte
  * for byte. If their letters differ, the report is the two letters, the first's and the second's, and nothing else. If not, it has nine bytes for each
  * difference, by ascending rotation code: the kind, 1 if only the first has the rotation, 2 if only the second has it, 3 if both have it with
  * translations that differ by no vector of the lattice; the code, high byte first; the first's triple; the second's. A triple that is absent is 0 0 0.
  * Bytes behind the report are as they were. To make the second record of the first, take out each operation whose code an entry has, put in the second's
  * triple of each entry of kind 2 or 3, keep the order of codes, and count anew. 30 to 35 for the first record, then 60 to 65 for the second, then 20.
+ */
 uint64_t symmetry_record_compare(const uint8_t *first, size_t first_length, const uint8_t *second, size_t second_length, uint8_t *out, size_t out_length);
 
 /* ---- operation lines ---- */
