@@ -10,6 +10,7 @@ Prints 'N passed, M failed'.
 
 import sys
 
+from compare_records import write_everywhere, written
 from entries import BEYOND, Noise, answer_of, comparison, packed, recorded, sets
 
 import cases
@@ -21,21 +22,6 @@ SHARE = 20
 FIRST = bytes.fromhex("0C7E0000004064000000500102000F")
 THIRD = bytes.fromhex("0054528001B2A300500302000D")
 SHORTEST = bytes.fromhex("01B2A3005003010009")
-
-
-def written(lent, start, record):
-    return lent[:start] + record + lent[start + len(record):]
-
-
-def write_everywhere(calls, entry, source, record, noise):
-    """What is written from a source: where it fits exactly, at a stated start, and where a byte is lacking."""
-    count = record[-3]
-    start, more = 1 + noise.below(9), noise.below(9)
-    exact, lent = noise.bytes(len(record)), noise.bytes(start + len(record) + more)
-    calls.call(entry, source, exact, 0, gives=count, leaves=[record])
-    calls.call(entry, source, lent, start, gives=count, leaves=[written(lent, start, record)])
-    calls.call(entry, source, noise.bytes(len(record) - 1), 0, gives=packed(20))
-    calls.call(entry, source, noise.bytes(start + len(record) - 1), start, gives=packed(20))
 
 
 def known_records(share):
