@@ -61,7 +61,7 @@ REFUSED = {
     ("P 2aa",): "layers: refused 17: a letter twice in one token\n  P 2aa\n      ^\n",
     ("Q 1",): "layers: refused 4: the first token is no lattice letter\n  Q 1\n  ^\n",
     ("P 1a",): "layers: refused 14: one rotation with two translations\n",
-    ("--record", "00"): "layers: refused 30: a record of under 10 bytes\n",
+    ("--record", "00"): "layers: refused 30: a record of under 9 bytes\n",
 }
 
 
