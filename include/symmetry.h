@@ -36,7 +36,7 @@
  * below are for that. A list of conjugates or positions never has more than SYMMETRY_MOST_ORDER entries, and a list of classes never more than that
  * of subgroups.
  *
- * Stack. The deepest call was measured at 9,040 bytes below its caller (docs/MEASURES.md has each function's figure): 10 KiB is enough.
+ * Stack. The deepest call that was measured takes 7,056 bytes below its caller (docs/MEASURES.md has the functions and their figures): 10 KiB is enough.
  */
 #ifndef SYMMETRY_H
 #define SYMMETRY_H
@@ -51,7 +51,7 @@ extern "C" {
 /*
  * The version of this header: the first number changes when something that stands here changes, the second when something is added.
  */
-enum symmetry_version { SYMMETRY_VERSION_MAJOR = 1, SYMMETRY_VERSION_MINOR = 1 };
+enum symmetry_version { SYMMETRY_VERSION_MAJOR = 2, SYMMETRY_VERSION_MINOR = 0 };
 
 /* Sizes that are always enough, and that something needs. */
 enum symmetry_most {
@@ -113,8 +113,8 @@ enum symmetry_refusal {
     SYMMETRY_NOT_AN_ELEMENT = 28,   /* the element or the index is not below the order */
     SYMMETRY_NOT_NORMALIZING = 29,  /* a permutation asked for an element that does not conjugate the subgroup to itself */
     /* A group record; at 0. */
-    SYMMETRY_RECORD_SHORT = 30,     /* under 9 bytes */
-    SYMMETRY_RECORD_EDITION = 31,   /* the edition is not 1 or 3 */
+    SYMMETRY_RECORD_SHORT = 30,     /* under 9 bytes; of a comparison under 10 */
+    SYMMETRY_RECORD_EDITION = 31,   /* the edition is not 1 or 3; of a comparison not 1 */
     SYMMETRY_RECORD_LETTER = 32,    /* the letter is not one of P A B C I R F H p c */
     SYMMETRY_RECORD_LENGTH = 33,    /* not 1 to 48 operations, or a stated length that is wrong or beyond the buffer */
     SYMMETRY_RECORD_ITEM = 34,      /* a code over 19682, a coordinate over 11, a translation not the smallest of its class, or codes not ascending;

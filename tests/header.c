@@ -78,7 +78,7 @@ static void check_sizes(void)
     check("the bytes of a slot", SYMMETRY_SLOT, 8);
     check("the state of a catalogue", SYMMETRY_CATALOGUE_STATE, 1 + 80);
     check("the longest piece", SYMMETRY_MOST_PIECE, 4096);
-    check("the version", SYMMETRY_VERSION_MAJOR * 100 + SYMMETRY_VERSION_MINOR, 101);
+    check("the version", SYMMETRY_VERSION_MAJOR * 100 + SYMMETRY_VERSION_MINOR, 200);
 }
 
 int main(void)

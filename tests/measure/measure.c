@@ -21,7 +21,9 @@ uint8_t source[SOURCE_ROOM];
 size_t length;
 uint64_t number;
 volatile uint64_t answer;
-static uint8_t sets[LIST_ROOM], bytes[48], record[RECORD_ROOM];
+static uint8_t sets[LIST_ROOM], bytes[48], record[RECORD_ROOM], report[SYMMETRY_MOST_REPORT], state[SYMMETRY_CATALOGUE_STATE];
+/* What a record is compared with, the record of P 1; its first five bytes are a list to be checked. */
+static const uint8_t other[] = { 0x40, 0x64, 0, 0, 0, 0x50, 1, 1, 0, 10 };
 static uint64_t set, element;
 
 #define SYMBOL source, length
@@ -30,6 +32,7 @@ static uint64_t set, element;
 #define SETS sets, sizeof sets
 #define BYTES bytes, sizeof bytes
 #define OUT record, sizeof record
+#define STATE (state[0] = 0, state), sizeof state
 
 #define CALLS(CALL) \
     CALL(symbol_order, SYMBOL) CALL(record_order, RECORD) CALL(table_order, TABLE) \
@@ -37,6 +40,9 @@ static uint64_t set, element;
     CALL(symbol_letter, SYMBOL) CALL(record_letter, RECORD) \
     CALL(symbol_operation, SYMBOL, number) \
     CALL(symbol_record, SYMBOL, OUT, number) CALL(record_copy, RECORD, OUT, number) \
+    CALL(layer_order, SYMBOL) CALL(layer_letter, SYMBOL) CALL(layer_operation, SYMBOL, number) CALL(layer_record, SYMBOL, OUT, number) \
+    CALL(record_edition, RECORD) CALL(record_move, RECORD, OUT, number) CALL(record_compare, RECORD, other, sizeof other, report, sizeof report) \
+    CALL(symbol_check, SYMBOL, other, 5) CALL(catalogue_piece, STATE, SYMBOL, OUT) \
     CALL(symbol_subgroups, SYMBOL, SETS) CALL(record_subgroups, RECORD, SETS) CALL(table_subgroups, TABLE, SETS) \
     CALL(symbol_classes, SYMBOL, SETS) CALL(record_classes, RECORD, SETS) CALL(table_classes, TABLE, SETS) \
     CALL(symbol_conjugate, SYMBOL, set, element) CALL(record_conjugate, RECORD, set, element) CALL(table_conjugate, TABLE, set, element) \

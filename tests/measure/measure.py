@@ -75,12 +75,20 @@ def of_symbols():
         text = b"" if text == "-" else bytes.fromhex(text)
         name = ("database " if index < DATABASE else "symbol ") + shown(text)
         yield from of_group(name, "symbol", text)
-        yield from (Call(name, "symbol_" + entry, text) for entry in ("letter", "operation", "record"))
+        yield from (Call(name, "symbol_" + entry, text) for entry in ("letter", "operation", "record", "check"))
+        yield Call(name, "catalogue_piece", text + b"\n")
         if refusal == "0":
             whole = 2 ** int(place) - 1
             yield from of_subgroup(name, "symbol", text, 0, whole)
             yield from of_buffer("record of " + shown(text), bytes.fromhex(record[0]))
             yield from of_subgroup("record of " + shown(text), "record", bytes.fromhex(record[0]), 0, whole)
+
+
+def of_layers():
+    """The layer symbols of the Rust's database."""
+    for line in recorded("layers.txt"):
+        text = bytes.fromhex(line.split()[0])
+        yield from (Call("layer " + shown(text), "layer_" + entry, text) for entry in ("order", "letter", "operation", "record"))
 
 
 def of_values():
@@ -94,7 +102,7 @@ def of_values():
 
 def of_buffer(name, record):
     yield from of_group(name, "record", record)
-    yield from (Call(name, "record_" + entry, record) for entry in ("letter", "copy"))
+    yield from (Call(name, "record_" + entry, record) for entry in ("letter", "copy", "edition", "move", "compare"))
 
 
 def of_buffers():
@@ -133,6 +141,7 @@ def of_all_groups():
 
 def all_calls():
     yield from of_symbols()
+    yield from of_layers()
     yield from of_values()
     yield from of_buffers()
     yield from of_tables()
