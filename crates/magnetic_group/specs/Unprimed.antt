@@ -1,6 +1,6 @@
 -- Texts without `'`: where the plain entry accepts one, the magnetic one answers the same letter and list with every flag 0, and where the magnetic one
 -- answers at most 48 operations, the plain one accepts. So plain symbols are those that hold the flag at 0, seen from outside.
-use mathlib.Core.Path.{_≡_, refl, sym, _∙_, ap, ap₂}
+use mathlib.Core.Path.{_≡_, refl, sym, _∙_, ap}
 use mathlib.Core.Bool.{Bool, false}
 use mathlib.Core.List.{List, [], _∷_, map}
 use Prim.Native.Nat.{ℕ, zero, suc, _-_, _≤_}
@@ -79,7 +79,8 @@ module _ (text : List ℕ) (h : Every unprimed text) where
   -- What the plain entry answers of generators that are accepted: their letter and their list.
   plain-list : (c : Centering) (gens operations : List Operation) (steps : List ℕ) → readSymbol text ≡ symbol c gens
       → plain.outcomeOf c gens ≡ plain.group operations steps
-      → (symbolAnswer text .answer ≡ Group) × (symbolAnswer text .centering ≡ c) × (take (symbolAnswer text .count) (symbolAnswer text .operations) ≡ operations)
+      → (symbolAnswer text .answer ≡ Group) × (symbolAnswer text .centering ≡ c)
+      × (take (symbolAnswer text .count) (symbolAnswer text .operations) ≡ operations)
   unfolding symbolAnswer
   plain-list c gens operations steps e o =
       let own : symbolAnswer text ≡ outcomeAnswer c (length gens) (plain.group operations steps) =
