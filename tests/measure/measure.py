@@ -22,6 +22,9 @@ DATABASE = 530
 MOST_FUNCTIONS = 20
 
 SYMBOLS = ("P 1", "-P 2ac 2n", "-F 4 2 3")
+# Each has 64 bytes, all that are read.
+LONG_LINES = [" " * (64 - len(line)) + line for line in (
+    "-x-y-z-11/12,-x-y-z-11/12,-x-y-z-11/12", "-x+y-11/12,-x+z-11/12,-y-z-11/12", "+ 11/12 - x + y, - 11/12 + x + z, + 11/12 - y - z", "x,y,z")]
 CUBIC, MANY = "-P 4 2 3", "C2 ^ 5"
 PROGRAMS = ("rust", "gemmi")
 # The heap of the Rust and of gemmi is warm after the first call, and each call of the Rust has other keys for its hash tables.
@@ -77,6 +80,8 @@ def of_symbols():
         yield from of_group(name, "symbol", text)
         yield from (Call(name, "symbol_" + entry, text) for entry in ("letter", "operation", "record", "check"))
         yield Call(name, "catalogue_piece", text + b"\n")
+        if len(text) <= 80:
+            yield Call(name, "catalogue_end", text)
         if refusal == "0":
             whole = 2 ** int(place) - 1
             yield from of_subgroup(name, "symbol", text, 0, whole)
@@ -89,6 +94,18 @@ def of_layers():
     for line in recorded("layers.txt"):
         text = bytes.fromhex(line.split()[0])
         yield from (Call("layer " + shown(text), "layer_" + entry, text) for entry in ("order", "letter", "operation", "record"))
+
+
+def of_lines():
+    """Operation lines: of each operation of the largest groups, and long ones that are read. A catalogue's start takes nothing."""
+    yield Call("a state", "catalogue_start", b"")
+    for line in LONG_LINES:
+        yield Call("line " + line.strip(), "line_operation", line.encode())
+    for line in recorded("symbols.txt")[:DATABASE]:
+        text, _, _, record = line.split()
+        record = bytes.fromhex(record)
+        for at in range(0, len(record) - 5, 5):
+            yield Call("operation %d of %s" % (at // 5, shown(bytes.fromhex(text))), "operation_line", record[at:at + 5])
 
 
 def of_values():
@@ -142,6 +159,7 @@ def of_all_groups():
 def all_calls():
     yield from of_symbols()
     yield from of_layers()
+    yield from of_lines()
     yield from of_values()
     yield from of_buffers()
     yield from of_tables()
