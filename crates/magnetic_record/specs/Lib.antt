@@ -12,3 +12,7 @@ pub mod SymbolRecords
 pub mod OtherEditions
 pub mod Example
 pub mod Answers
+pub mod Walk
+pub mod Search
+pub mod Numbers
+pub mod Trailer
