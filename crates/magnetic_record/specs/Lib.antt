@@ -11,3 +11,4 @@ pub mod OneRecord
 pub mod SymbolRecords
 pub mod OtherEditions
 pub mod Example
+pub mod Answers
