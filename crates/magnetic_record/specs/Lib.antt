@@ -12,3 +12,5 @@ pub mod SymbolRecords
 pub mod OtherEditions
 pub mod Example
 pub mod Answers
+pub mod TextRecords
+pub mod Writing
