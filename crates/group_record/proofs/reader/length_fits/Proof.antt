@@ -26,11 +26,23 @@ add-total c = omega (arith, c .items-length .ensures, items-short (c .before .be
 
 returns-3 : tie.Need-returns-3
 unfolding lengthFits
-returns-3 c = simp (← c .before .items-length .ensures, le-leb 1 (c .before .before .before .before .args .n) (omega arith), le-leb (c .before .before .before .before .args .n) 48 (omega arith), ne-eqb _ _ (c .if3 .taken))
+returns-3 c =
+    simp (
+      ← c .before .items-length .ensures,
+      le-leb 1 (c .before .before .before .before .args .n) (omega arith),
+      le-leb (c .before .before .before .before .args .n) 48 (omega arith),
+      ne-eqb _ _ (c .if3 .taken),
+    )
 
 returns-4 : tie.Need-returns-4
 unfolding lengthFits
-returns-4 c = simp (← c .before .items-length .ensures, le-leb 1 (c .before .before .before .before .args .n) (omega arith), le-leb (c .before .before .before .before .args .n) 48 (omega arith), eq-eqb _ _ (c .if3 .left))
+returns-4 c =
+    simp (
+      ← c .before .items-length .ensures,
+      le-leb 1 (c .before .before .before .before .args .n) (omega arith),
+      le-leb (c .before .before .before .before .args .n) 48 (omega arith),
+      eq-eqb _ _ (c .if3 .left),
+    )
 
 pub length-fits-spec : {M : Type 1} → statement M
 length-fits-spec =
