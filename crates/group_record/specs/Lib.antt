@@ -35,6 +35,7 @@ pub mod LayerReading
 pub mod Moving
 pub mod OldSoftware
 pub mod Example
+pub mod ExampleText
 -- What the code does with items.
 pub mod Search
 pub mod Found
