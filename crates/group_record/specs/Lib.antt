@@ -35,9 +35,11 @@ pub mod LayerReading
 pub mod Moving
 pub mod OldSoftware
 pub mod Example
+pub mod ExampleText
 -- What the code does with items.
 pub mod Search
 pub mod Found
 pub mod Parts
+pub mod WrittenItems
 pub mod Selection
 pub mod Writing

@@ -72,20 +72,27 @@ module _ {Item Letter Kind : Type 0} (R : Rules Item Letter Kind) (W : Meaning R
         → bytes ≡ front ++ record-bytes R W k c items → GoodBy R W k c items → ¬ W .IsAllowed c items → Refuses bytes 35
 
   -- What is refused with a number is refused by its rule,
-  by-rule : (bytes : List ℕ) (t : Told Item Letter Kind) → Outcome R W bytes t → (number place : ℕ) → toldAnswer t ≡ refused number place tt → (place ≡ 0) × Refuses bytes number
+  by-rule : (bytes : List ℕ) (t : Told Item Letter Kind) → Outcome R W bytes t → (number place : ℕ) → toldAnswer t ≡ refused number place tt
+      → (place ≡ 0) × Refuses bytes number
   by-rule bytes t (too-short h) number place e = let same : number ≡ 30 = cc in ((cc), rw same (too-few h))
-  by-rule bytes t (wrong-edition front l d n high low h p q) number place e = let same : number ≡ 31 = cc in ((cc), rw same (edition front l d n high low h p q))
+  by-rule bytes t (wrong-edition front l d n high low h p q) number place e = let same : number ≡ 31 =
+      cc in ((cc), rw same (edition front l d n high low h p q))
   by-rule bytes t (wrong-letter k front l n high low h p q) number place e = let same : number ≡ 32 = cc in ((cc), rw same (letter k front l n high low h p q))
-  by-rule bytes t (wrong-length k c front n high low h p q) number place e = let same : number ≡ 33 = cc in ((cc), rw same (count-or-length k c front n high low h p q))
-  by-rule bytes t (wrong-item k c front body n one few wide p q) number place e = let same : number ≡ 34 = cc in ((cc), rw same (item k c front body n one few wide p q))
-  by-rule bytes t (not-allowed k c front items one few p g q) number place e = let same : number ≡ 35 = cc in ((cc), rw same (group k c front items one few p g q))
+  by-rule bytes t (wrong-length k c front n high low h p q) number place e = let same : number ≡ 33 =
+      cc in ((cc), rw same (count-or-length k c front n high low h p q))
+  by-rule bytes t (wrong-item k c front body n one few wide p q) number place e = let same : number ≡ 34 =
+      cc in ((cc), rw same (item k c front body n one few wide p q))
+  by-rule bytes t (not-allowed k c front items one few p g q) number place e = let same : number ≡ 35 =
+      cc in ((cc), rw same (group k c front items one few p g q))
   by-rule bytes t (accepted k c front items one few p g a) number place e = let z : _≡_ {A = ℕ} 0 1 = cc in absurd (omega arith)
 
   -- and what a rule refuses is refused with its number, at 0.
   rule-answer : (bytes : List ℕ) (number : ℕ) → Refuses bytes number → toldAnswer (toldBy R bytes) ≡ refused number 0 tt
   rule-answer bytes number (too-few h) = ap toldAnswer (outcome-told R W bytes (not-held Short) (too-short h))
-  rule-answer bytes number (edition front l d n high low h p q) = ap toldAnswer (outcome-told R W bytes (not-held WrongEdition) (wrong-edition front l d n high low h p q))
-  rule-answer bytes number (letter k front l n high low h p q) = ap toldAnswer (outcome-told R W bytes (not-held WrongLetter) (wrong-letter k front l n high low h p q))
+  rule-answer bytes number (edition front l d n high low h p q) =
+      ap toldAnswer (outcome-told R W bytes (not-held WrongEdition) (wrong-edition front l d n high low h p q))
+  rule-answer bytes number (letter k front l n high low h p q) =
+      ap toldAnswer (outcome-told R W bytes (not-held WrongLetter) (wrong-letter k front l n high low h p q))
   rule-answer bytes number (count-or-length k c front n high low h p q) =
       ap toldAnswer (outcome-told R W bytes (not-held WrongLength) (wrong-length k c front n high low h p q))
   rule-answer bytes number (item k c front body n one few wide p q) =
@@ -94,7 +101,8 @@ module _ {Item Letter Kind : Type 0} (R : Rules Item Letter Kind) (W : Meaning R
       ap toldAnswer (outcome-told R W bytes (not-held NotAllowed) (not-allowed k c front items one few p g q))
 
   -- A buffer is refused with a number exactly if that number's rule says so, and its place is 0.
-  pub told-refused : (bytes : List ℕ) → Bytes bytes → (number place : ℕ) → (toldAnswer (toldBy R bytes) ≡ refused number place tt) ↔ ((place ≡ 0) × Refuses bytes number)
+  pub told-refused : (bytes : List ℕ) → Bytes bytes → (number place : ℕ)
+      → (toldAnswer (toldBy R bytes) ≡ refused number place tt) ↔ ((place ≡ 0) × Refuses bytes number)
   told-refused bytes b number place = (
     by-rule bytes (toldBy R bytes) (told-outcome R W bytes b) number place,
     λ (p, r). rw p (rule-answer bytes number r),
@@ -108,14 +116,16 @@ unfolding refusedGroup
 group-number name (not-held r) number place = ((λ e. cc), λ e. cc)
 group-number name (holds k c items) number place = (
   (λ e.
-      let clash : _≡_ {A = Answer (Bool × Centering × List Operation) Nothing} (given (isSmall c, latticeOf c, map operationOfItem items)) (refused number place tt) = sym (accepted-answer (name k) c (map operationOfItem items)) ∙ e in
+      let clash : _≡_ {A = Answer (Bool × Centering × List Operation) Nothing} (given (isSmall c, latticeOf c, map operationOfItem items))
+      (refused number place tt) = sym (accepted-answer (name k) c (map operationOfItem items)) ∙ e in
       let z : _≡_ {A = ℕ} 0 1 = cc in
       absurd (omega arith)),
   λ e. let z : _≡_ {A = ℕ} 0 1 = cc in absurd (omega arith),
 )
 
 -- A buffer is refused with a number exactly if that number's rule says so, and its place is 0.
-pub read-refused : (bytes : List ℕ) → Bytes bytes → (number place : ℕ) → (groupAnswer (readOf bytes) ≡ refused number place tt) ↔ ((place ≡ 0) × Refuses bothRules bothMeaning bytes number)
+pub read-refused : (bytes : List ℕ) → Bytes bytes → (number place : ℕ)
+    → (groupAnswer (readOf bytes) ≡ refused number place tt) ↔ ((place ≡ 0) × Refuses bothRules bothMeaning bytes number)
 unfolding readOf
 read-refused bytes b number place = (
   (λ e. told-refused bothRules bothMeaning bytes b number place .0 (group-number (λ (k : Known). k) (toldBy bothRules bytes) number place .0 e)),
@@ -153,11 +163,13 @@ no-room-exactly width a start size number place = (forth a, back a)
     short n true t e = inr ((cc), (cc), (n, refl, ltb-true size (start + (width * n + 5)) t))
     short n false t e = inl e
 
-    forth : (a : Answer ℕ Nothing) → orNoRoom width a start size ≡ refused number place tt → (a ≡ refused number place tt) ⊎ ((number ≡ 20) × (place ≡ 0) × WantsRoom width a start size)
+    forth : (a : Answer ℕ Nothing) → orNoRoom width a start size ≡ refused number place tt
+        → (a ≡ refused number place tt) ⊎ ((number ≡ 20) × (place ≡ 0) × WantsRoom width a start size)
     forth (given n) e = short n (ltb size (start + (width * n + 5))) refl e
     forth (refused m p c) e = inl e
 
-    back : (a : Answer ℕ Nothing) → (a ≡ refused number place tt) ⊎ ((number ≡ 20) × (place ≡ 0) × WantsRoom width a start size) → orNoRoom width a start size ≡ refused number place tt
+    back : (a : Answer ℕ Nothing) → (a ≡ refused number place tt) ⊎ ((number ≡ 20) × (place ≡ 0) × WantsRoom width a start size)
+        → orNoRoom width a start size ≡ refused number place tt
     back (refused m p c) (inl e) = e
     back (refused m p c) (inr (q, r, (n, e, h))) = let z : _≡_ {A = ℕ} 0 1 = cc in absurd (omega arith)
     back (given n) (inl e) = let z : _≡_ {A = ℕ} 0 1 = cc in absurd (omega arith)
@@ -178,28 +190,34 @@ room-as long start size = elim (decLt size (start + long)) [
 
 -- What a copy or a move answers: 30 to 35 as the reading does, then 20 by the edition that is written, else the count.
 pub copy-told : (moved : Bool) (bytes out : List ℕ) (start : ℕ)
-    → copyAnswer (writtenAs moved bytes out start) ≡ orNoRoom (widthIn (chosenEdition moved (readOf bytes .edition))) (recordOrder (readOf bytes)) start (length out)
+    → copyAnswer (writtenAs moved bytes out start) ≡ orNoRoom (widthIn (chosenEdition moved (readOf bytes .edition))) (recordOrder (readOf bytes)) start
+    (length out)
 unfolding writtenAs
 copy-told moved bytes out start = by (readOf bytes .answer) (chosenEdition moved (readOf bytes .edition)) (readOf bytes .count)
   where
-    fits : (chosen : Known) (n : ℕ) (b : Bool) → ltb (length out) (start + (widthIn chosen * n + 5)) ≡ b → copyAnswer (cond (not b) (CopyWritten n) CopyNoRoom) ≡ cond b noRoom (given n)
+    fits : (chosen : Known) (n : ℕ) (b : Bool) → ltb (length out) (start + (widthIn chosen * n + 5)) ≡ b
+        → copyAnswer (cond (not b) (CopyWritten n) CopyNoRoom) ≡ cond b noRoom (given n)
     fits chosen n true e = refl
     fits chosen n false e = refl
 
-    by : (a : Reading) (chosen : Known) (n : ℕ) → copyAnswer (copiedBy a chosen n start (length out)) ≡ orNoRoom (widthIn chosen) (orderBy a n) start (length out)
+    by : (a : Reading) (chosen : Known) (n : ℕ)
+        → copyAnswer (copiedBy a chosen n start (length out)) ≡ orNoRoom (widthIn chosen) (orderBy a n) start (length out)
     by Accepted chosen n = rw (room-as (widthIn chosen * n + 5) start (length out)) (fits chosen n (ltb (length out) (start + (widthIn chosen * n + 5))) refl)
     by (Refused r) chosen n = refl
 
 -- What is answered for a symbol's record: 1 to 14 as for the symbol's order, then 20, else the order.
-pub symbol-record-told : (text out : List ℕ) (start : ℕ) → symbolRecordAnswer (symbolRecordOf text out start) ≡ orNoRoom 5 (orderAnswer (orderOf text)) start (length out)
+pub symbol-record-told : (text out : List ℕ) (start : ℕ)
+    → symbolRecordAnswer (symbolRecordOf text out start) ≡ orNoRoom 5 (orderAnswer (orderOf text)) start (length out)
 unfolding symbolRecordOf orderOf
 symbol-record-told text out start = by (symbolAnswer text .answer) (symbolAnswer text .count)
   where
-    fits : (n : ℕ) (b : Bool) → ltb (length out) (start + (5 * n + 5)) ≡ b → symbolRecordAnswer (cond (not b) (Written n) symbol-record.NoRoom) ≡ cond b noRoom (given n)
+    fits : (n : ℕ) (b : Bool) → ltb (length out) (start + (5 * n + 5)) ≡ b
+        → symbolRecordAnswer (cond (not b) (Written n) symbol-record.NoRoom) ≡ cond b noRoom (given n)
     fits n true e = refl
     fits n false e = refl
 
-    by : (a : symbol-answer.Answer) (n : ℕ) → symbolRecordAnswer (writtenBy a n start (length out)) ≡ orNoRoom 5 (orderAnswer (symbol.orderBy a n)) start (length out)
+    by : (a : symbol-answer.Answer) (n : ℕ)
+        → symbolRecordAnswer (writtenBy a n start (length out)) ≡ orNoRoom 5 (orderAnswer (symbol.orderBy a n)) start (length out)
     by symbol-answers.Group n = rw (room-as (5 * n + 5) start (length out)) (fits n (ltb (length out) (start + (5 * n + 5))) refl)
     by (symbol-answers.Refused r) n = refl
 
@@ -272,9 +290,11 @@ same-shape g h (inr (k, c, l, p)) (inl (r, q)) e n =
     let z : _≡_ {A = ℕ} 0 1 = cc in
     absurd (omega arith)
 same-shape g h (inr (a, c, l, p)) (inr (b, d, k, q)) e n =
-    let answers : _≡_ {A = Answer (Bool × Centering × List Operation) Nothing} (given (isSmall c, latticeOf c, l)) (given (isSmall d, latticeOf d, k)) = sym (accepted-answer a c l) ∙ sym (ap groupAnswer p) ∙ e ∙ ap groupAnswer q ∙ accepted-answer b d k in
+    let answers : _≡_ {A = Answer (Bool × Centering × List Operation) Nothing} (given (isSmall c, latticeOf c, l)) (given (isSmall d, latticeOf d, k)) =
+    sym (accepted-answer a c l) ∙ sym (ap groupAnswer p) ∙ e ∙ ap groupAnswer q ∙ accepted-answer b d k in
     let same : _≡_ {A = Bool × Centering × List Operation} (isSmall c, latticeOf c, l) (isSmall d, latticeOf d, k) = cc in
-    let letter : c ≡ d = sign-told c d (ap (λ (x : Bool × Centering × List Operation). x .0) same) (ap (λ (x : Bool × Centering × List Operation). x .1) same) in
+    let letter : c ≡ d =
+    sign-told c d (ap (λ (x : Bool × Centering × List Operation). x .0) same) (ap (λ (x : Bool × Centering × List Operation). x .1) same) in
     let list : l ≡ k = ap (λ (x : Bool × Centering × List Operation). x .2) same in
     let edition : a ≡ b = accepted-edition a b c d l k (sym (ap recordEdition p) ∙ n ∙ ap recordEdition q) in
     p ∙ ap₂ (λ (m : Known) (s : Sign). acceptedGroup m s l) edition letter ∙ ap (acceptedGroup b d) list ∙ sym q
