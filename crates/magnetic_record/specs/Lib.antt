@@ -11,3 +11,6 @@ pub mod OneRecord
 pub mod SymbolRecords
 pub mod OtherEditions
 pub mod Example
+pub mod Answers
+pub mod TextRecords
+pub mod Writing
