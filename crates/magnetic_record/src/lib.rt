@@ -1,5 +1,8 @@
 // The record of a magnetic group, edition 2: the byte form of a group of flagged operations, six bytes an operation with the flag last.
 // New in the port: the Rust has no such form.
+mod group;
+mod items;
+pub mod reader;
 pub mod symbol;
 mod writer;
 
