@@ -30,14 +30,16 @@ returns : tie.Need-returns
 returns c =
     let l = c .before .before .before .before .list in
     c .refused-symbol .ensures
-    ∙ ap packed (refused-answer _ (l .result) (l .ensures .0) _ (c .before .before .answer .given .1) (c .before .before .before .before .before .before .before .args .question))
+    ∙ ap packed (refused-answer _ (l .result) (l .ensures .0) _ (c .before .before .answer .given .1)
+    (c .before .before .before .before .before .before .before .args .question))
 
 returns-2 : tie.Need-returns-2
 returns-2 c =
     let l = c .before .before .before .before .list in
     c .answered .ensures
     ∙ ap packed
-    (list-answers _ (l .result) (l .ensures .0) (l .last .1 .0) (l .ensures .1) (c .before .before .enum-told .given .1) (c .before .before .before .before .before .before .before .args .question))
+    (list-answers _ (l .result) (l .ensures .0) (l .last .1 .0) (l .ensures .1) (c .before .before .enum-told .given .1)
+    (c .before .before .before .before .before .before .before .args .question))
 
 pub asked-spec : {M : Type 1} → statement M
 asked-spec =
