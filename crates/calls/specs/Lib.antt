@@ -12,6 +12,7 @@ pub mod LineBounds
 pub mod FlaggedNumbers
 pub mod MagneticBounds
 pub mod MagneticQuestions
+pub mod MagneticRecordBounds
 pub mod Catalogues
 pub mod CatalogueState
 pub mod CatalogueBounds

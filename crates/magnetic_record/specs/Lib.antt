@@ -12,12 +12,9 @@ pub mod SymbolRecords
 pub mod OtherEditions
 pub mod Example
 pub mod Answers
-<<<<<<< HEAD
 pub mod TextRecords
 pub mod Writing
-=======
 pub mod Walk
 pub mod Search
 pub mod Numbers
 pub mod Trailer
->>>>>>> reader
