@@ -18,3 +18,4 @@ pub mod Walk
 pub mod Search
 pub mod Numbers
 pub mod Trailer
+pub mod Copying

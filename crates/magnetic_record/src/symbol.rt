@@ -8,7 +8,8 @@ use magnetic_group::list;
 
 // The count of what was written; a refusal leaves out as it was.
 pub fn write_record(text: &[u8], out: &mut [u8], start: usize) -> SymbolRecord
-    ensures { λ r. ⌜ (r ≡ magneticRecordOf (now (text .entry)) (now (out .entry)) start) × (now (out .exit) ≡ magneticBufferOf (now (text .entry)) (now (out .entry)) start) ⌝ }
+    ensures { λ r. ⌜ (r ≡ magneticRecordOf (now (text .entry)) (now (out .entry)) start)
+        × (now (out .exit) ≡ magneticBufferOf (now (text .entry)) (now (out .entry)) start) ⌝ }
 {
     let mut numbers = [0u64; 96];
     let group = list(text, &mut numbers);

@@ -27,7 +27,8 @@ enum-told c = search needs
 
 -- The list in its slots.
 listed : (c : tie.After-place-group-arg)
-    → Listed (c .before .before .before .before .before .before .before .args .text .now) (c .before .before .before .list .result .count) (c .before .before .before .list .last .1 .0)
+    → Listed (c .before .before .before .before .before .before .before .args .text .now) (c .before .before .before .list .result .count)
+    (c .before .before .before .list .last .1 .0)
 listed c =
     let l = c .before .before .before .list in
     slots-listed (c .before .before .before .before .before .before .before .args .text .now) (l .result) (l .last .1 .0) (c .before .enum-told .given .1)
