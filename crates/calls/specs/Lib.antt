@@ -9,6 +9,10 @@ pub mod ListBounds
 pub mod TableBounds
 pub mod MotionBounds
 pub mod LineBounds
+pub mod FlaggedNumbers
+pub mod MagneticBounds
+pub mod MagneticQuestions
+pub mod MagneticRecordBounds
 pub mod Catalogues
 pub mod CatalogueState
 pub mod CatalogueBounds

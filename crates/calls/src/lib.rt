@@ -5,6 +5,8 @@ pub mod editions;
 pub mod layer;
 pub mod line;
 pub mod list;
+pub mod magnetic;
+pub mod magnetic_records;
 mod motion;
 mod packing;
 pub mod record;
