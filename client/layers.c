@@ -9,7 +9,7 @@
 #include "picture.h"
 
 /* What the words of the call name. The caller says which, and it is not guessed from the text: lists of Hall symbols print a mark as an apostrophe. */
-enum family { PLAIN, RECORD, LAYER };
+enum family { PLAIN, RECORD, LAYER, MAGNETIC };
 
 static struct lattice all;
 
@@ -42,6 +42,8 @@ static const char *hint(enum family family, unsigned number, const char *at)
         return "a layer symbol begins with p or c";
     if (number == SYMMETRY_LATTICE_WRONG && strchr("pc", at[*at == '-']) && at[*at == '-'])
         return "p and c are letters of layer symbols: ./layers --layer SYMBOL";
+    if (number == SYMMETRY_TOKEN_PRIMED && family == MAGNETIC)
+        return "a time reversal is one apostrophe at the end of a token";
     if (number == SYMMETRY_TOKEN_PRIMED && family == PLAIN)
         return "the mark ' of printed lists is written ^ here; a time reversal is read by ./layers --magnetic SYMBOL";
     if (number == SYMMETRY_TOKEN_MISSPELT && *at == '"')
@@ -164,17 +166,14 @@ static void print_counts(void)
     printf("the %lu classes hold %lu subgroups together, and %lu are listed\n", (unsigned long)all.classes, (unsigned long)together, (unsigned long)all.layers);
 }
 
-/* The operations of a layer symbol in list order. */
-static void print_operations(const char *text)
+/* An operation that was answered as a number. With a flag the line ends as in magnetic structure files: ,-1 if time is reversed, else ,+1. */
+static void print_operation(size_t i, uint64_t value, int flagged)
 {
-    size_t i;
-    for (i = 0; i < all.order; i++) {
-        uint8_t bytes[SYMMETRY_OPERATION];
-        bytes_of_value(symmetry_value(symmetry_layer_operation((const uint8_t *)text, strlen(text), i)), bytes);
-        printf("operation %lu: ", (unsigned long)i);
-        print_line(bytes);
-        printf("\n");
-    }
+    uint8_t bytes[SYMMETRY_OPERATION];
+    bytes_of_value(value, bytes);
+    printf("operation %lu: ", (unsigned long)i);
+    print_line(bytes);
+    printf("%s\n", !flagged ? "" : symmetry_flag(value) ? ",-1" : ",+1");
 }
 
 static void print_subgroups(const struct lattice_source *from)
@@ -198,11 +197,13 @@ static void print_source(void)
 static void print_text(enum family family, const char *text, const struct lattice_source *from)
 {
     uint64_t letter = from->is_record ? symmetry_record_letter(from->bytes, from->length) : symmetry_symbol_letter(from->bytes, from->length);
+    size_t i;
     print_flat(stdout, text);
     printf(": letter %c, order %lu, %lu subgroups in %lu classes\n", (int)symmetry_value(letter), (unsigned long)all.order, (unsigned long)all.layers,
            (unsigned long)all.classes);
     if (family == LAYER) {
-        print_operations(text);
+        for (i = 0; i < all.order; i++)
+            print_operation(i, symmetry_value(symmetry_layer_operation((const uint8_t *)text, strlen(text), i)), 0);
         print_record(from);
     }
     print_subgroups(from);
@@ -296,9 +297,26 @@ static int show_record(const char *digits, int picture)
     return status;
 }
 
+/* A magnetic symbol has no subgroups here, so there is nothing to gather: its operations, each with its flag as magnetic structure files write it. */
+static int show_magnetic(const char *text)
+{
+    const uint8_t *bytes = (const uint8_t *)text;
+    size_t i, length = strlen(text);
+    uint64_t order = symmetry_magnetic_order(bytes, length);
+    if (symmetry_refused(order))
+        return refuse(MAGNETIC, text, order);
+    print_flat(stdout, text);
+    printf(": letter %c, order %lu, operations only: the subgroups of magnetic groups are not numbered\n",
+           (int)symmetry_value(symmetry_magnetic_letter(bytes, length)), (unsigned long)symmetry_value(order));
+    for (i = 0; i < symmetry_value(order); i++)
+        print_operation(i, symmetry_value(symmetry_magnetic_operation(bytes, length, i)), 1);
+    print_source();
+    return 0;
+}
+
 static enum family family_of(const char *option)
 {
-    return strcmp(option, "--record") == 0 ? RECORD : strcmp(option, "--layer") == 0 ? LAYER : PLAIN;
+    return strcmp(option, "--record") == 0 ? RECORD : strcmp(option, "--layer") == 0 ? LAYER : strcmp(option, "--magnetic") == 0 ? MAGNETIC : PLAIN;
 }
 
 int main(int argc, char **argv)
@@ -317,7 +335,11 @@ int main(int argc, char **argv)
     }
     if (at + 1 != argc)
         return misused(family == RECORD ? "one record is asked for" : "one symbol is asked for");
-    status = family == RECORD ? show_record(argv[at], picture) : show(family, argv[at], (const uint8_t *)argv[at], strlen(argv[at]), picture);
+    if (family == MAGNETIC && picture)
+        return misused("a magnetic symbol has operations only, and no picture");
+    status = family == MAGNETIC ? show_magnetic(argv[at])
+        : family == RECORD ? show_record(argv[at], picture)
+                           : show(family, argv[at], (const uint8_t *)argv[at], strlen(argv[at]), picture);
     if (fflush(stdout) != 0 || ferror(stdout)) {
         fprintf(stderr, "layers: the output could not be written\n");
         return 1;

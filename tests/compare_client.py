@@ -91,6 +91,22 @@ conjugates times the normalizer's order is 4 for 5 of 5 subgroups
 the order divides 4 for 5 of 5 subgroups
 the 5 classes hold 5 subgroups together, and 5 are listed
 """ + SOURCE,
+    # The half a cell along x reverses time; by itself twice it is a whole cell, and time as it was.
+    ("--magnetic", "P 1a'"): """P 1a': letter P, order 2, operations only: the subgroups of magnetic groups are not numbered
+operation 0: x,y,z,+1
+operation 1: x+1/2,y,z,-1
+""" + SOURCE,
+    # The half turn about x reverses time, the one about z does not; so their product, the one about y, does.
+    ("--magnetic", "-P 2 2'"): """-P 2 2': letter P, order 8, operations only: the subgroups of magnetic groups are not numbered
+operation 0: x,y,z,+1
+operation 1: -x,-y,-z,+1
+operation 2: -x,-y,z,+1
+operation 3: x,-y,-z,-1
+operation 4: x,y,-z,+1
+operation 5: -x,y,z,-1
+operation 6: -x,y,-z,-1
+operation 7: x,-y,z,-1
+""" + SOURCE,
 }
 REFUSED = {
     ("P 2aq",): "layers: refused 5: a misspelt token\n  P 2aq\n      ^\n",
@@ -105,9 +121,13 @@ REFUSED = {
     ("--layer", "P 2"): "layers: refused 4: the first token is no lattice letter\n  P 2\n  ^\n  a layer symbol begins with p or c\n",
     ("--layer", "p 2aq"): "layers: refused 5: a misspelt token\n  p 2aq\n      ^\n",
     ("--layer", "p 21"): "layers: refused 19: an operation that is none of a layer (operation 1 of its list; they count from 0, and the identity is the first)\n",
+    ("P 3 2'",): "layers: refused 8: an apostrophe\n  P 3 2'\n      ^\n"
+                 "  the mark ' of printed lists is written ^ here; a time reversal is read by ./layers --magnetic SYMBOL\n",
+    ("--magnetic", "P 1'a"): "layers: refused 8: an apostrophe\n  P 1'a\n    ^\n  a time reversal is one apostrophe at the end of a token\n",
+    ("--magnetic", "P 2q'"): "layers: refused 5: a misspelt token\n  P 2q'\n     ^\n",
     ("--record", "00"): "layers: refused 30: a record of under 9 bytes\n",
 }
-MISUSED = [(), ("P 1", "P 1"), ("--fast", "P 1"), ("--record", "0"), ("--record", "0G"), ("--record",), ("--layer",), ("--record", "--svg", "00")]
+MISUSED = [(), ("P 1", "P 1"), ("--fast", "P 1"), ("--record", "0"), ("--record", "0G"), ("--record",), ("--layer",), ("--record", "--svg", "00"), ("--svg", "--magnetic", "P 1"), ("--magnetic",)]
 
 
 def recorded():
