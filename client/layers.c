@@ -161,7 +161,8 @@ static void print_counts(void)
                 together += all.conjugates[layer];
                 break;
             }
-    printf("conjugates times the normalizer's order is %lu for %lu of %lu subgroups\n", (unsigned long)all.order, (unsigned long)fitting, (unsigned long)all.layers);
+    printf("conjugates times the normalizer's order is %lu for %lu of %lu subgroups\n", (unsigned long)all.order, (unsigned long)fitting,
+           (unsigned long)all.layers);
     printf("the order divides %lu for %lu of %lu subgroups\n", (unsigned long)all.order, (unsigned long)dividing, (unsigned long)all.layers);
     printf("the %lu classes hold %lu subgroups together, and %lu are listed\n", (unsigned long)all.classes, (unsigned long)together, (unsigned long)all.layers);
 }
