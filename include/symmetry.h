@@ -439,9 +439,12 @@ uint64_t symmetry_table_conjugate(uint64_t order, const uint8_t *table, size_t t
  * that conjugates to it: the subgroup itself first with the identity, then the others in the order of lists. Answers how many there are. 27 if the
  * set is no subgroup, then 26 if either list is too short; both lists are 0 then, also one that was long enough.
  */
-uint64_t symmetry_symbol_conjugates(const uint8_t *text, size_t text_length, uint64_t set, uint8_t *sets, size_t sets_length, uint8_t *conjugators, size_t conjugators_length);
-uint64_t symmetry_record_conjugates(const uint8_t *record, size_t record_length, uint64_t set, uint8_t *sets, size_t sets_length, uint8_t *conjugators, size_t conjugators_length);
-uint64_t symmetry_table_conjugates(uint64_t order, const uint8_t *table, size_t table_length, uint64_t set, uint8_t *sets, size_t sets_length, uint8_t *conjugators, size_t conjugators_length);
+uint64_t symmetry_symbol_conjugates(const uint8_t *text, size_t text_length, uint64_t set, uint8_t *sets, size_t sets_length,
+                                    uint8_t *conjugators, size_t conjugators_length);
+uint64_t symmetry_record_conjugates(const uint8_t *record, size_t record_length, uint64_t set, uint8_t *sets, size_t sets_length,
+                                    uint8_t *conjugators, size_t conjugators_length);
+uint64_t symmetry_table_conjugates(uint64_t order, const uint8_t *table, size_t table_length, uint64_t set, uint8_t *sets, size_t sets_length,
+                                   uint8_t *conjugators, size_t conjugators_length);
 
 /* The set of the elements that conjugate a subgroup to itself. 27 if the set is no subgroup. */
 uint64_t symmetry_symbol_normalizer(const uint8_t *text, size_t text_length, uint64_t set);
@@ -455,7 +458,8 @@ uint64_t symmetry_table_normalizer(uint64_t order, const uint8_t *table, size_t 
  */
 uint64_t symmetry_symbol_permutation(const uint8_t *text, size_t text_length, uint64_t set, uint64_t element, uint8_t *positions, size_t positions_length);
 uint64_t symmetry_record_permutation(const uint8_t *record, size_t record_length, uint64_t set, uint64_t element, uint8_t *positions, size_t positions_length);
-uint64_t symmetry_table_permutation(uint64_t order, const uint8_t *table, size_t table_length, uint64_t set, uint64_t element, uint8_t *positions, size_t positions_length);
+uint64_t symmetry_table_permutation(uint64_t order, const uint8_t *table, size_t table_length, uint64_t set, uint64_t element,
+                                    uint8_t *positions, size_t positions_length);
 
 #ifdef __cplusplus
 }

@@ -126,10 +126,11 @@ REFUSED = {
                  "  the mark ' of printed lists is written ^ here; a time reversal is read by ./layers --magnetic SYMBOL\n",
     ("--magnetic", "P 1'a"): "layers: refused 8: an apostrophe\n  P 1'a\n    ^\n  a time reversal is one apostrophe at the end of a token\n",
     ("--magnetic", "P 2q'"): "layers: refused 5: a misspelt token\n  P 2q'\n     ^\n",
+    ("--record", "--svg", "00"): "layers: refused 30: a record of under 9 bytes\n",
     ("--record", "00"): "layers: refused 30: a record of under 9 bytes\n",
 }
 MISUSED = [(), ("P 1", "P 1"), ("--fast", "P 1"), ("--record", "0"), ("--record", "0G"), ("--record",), ("--layer",),
-           ("--record", "--svg", "00"), ("--svg", "--magnetic", "P 1"), ("--magnetic",)]
+           ("--record", "--layer", "00"), ("--svg", "--magnetic", "P 1"), ("--magnetic",)]
 
 
 def recorded():
