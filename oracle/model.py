@@ -359,14 +359,15 @@ def flagged_product(left, right):
 
 def generated_pairs(generators):
     """All generated pairs of rotation and flag; refusal 13."""
-    found = [(IDENTITY, 0)]
-    for rotation, flag in found:
+    found, waiting = {(IDENTITY, 0)}, [(IDENTITY, 0)]
+    for rotation, flag in waiting:
         for generator, _, other in generators:
             pair = rotation_product(rotation, generator), flag ^ other
             if pair not in found:
                 if len(found) == MOST_FLAGGED or any(abs(entry) > 1 for entry in pair[0]):
                     raise Refusal(13, 0)
-                found.append(pair)
+                found.add(pair)
+                waiting.append(pair)
     return found
 
 
@@ -1175,8 +1176,8 @@ def example_magnetics():
         (b"P 1a'", 2), (b"P 1'", 2), (b"P 1 1c'", 2), (b"P 1", 1), (b"-P 1", 2), (b"P 1a", (14, 0)), (b"-P 4 2 3 1'", 96), (b"H 3'", 6), (b"-P 4 2 3", 48),
         (b"P 2'a", (8, 2)), (b"P 2''", (8, 2)), (b"P 2'q", (5, 4)), (b"P '", (5, 2)), (b"P -'", (5, 3)), (b"P' 1", (4, 0)), (b"p 1'", (4, 0)),
         (b"c 1", (4, 0)), (b"P 2aa'", (17, 4)), (b"P 1x'", (6, 2)), (b"P 22'", (7, 3)), (b"P 2 (0 0 1')", (9, 4)), (b"P (0 0 0)'", (10, 2)),
-        (b"R 2'", (12, 0)), (b"-R 2'", (12, 1)), (b"P 4' 6", (13, 0)), (b"P 1a' 1b'", (14, 0)), (b"P 1' 1a'", (14, 0)), (b"P 3w'", (14, 0)), (b"P 2w'", (14, 0)),
-        (b"C 1a' 1b'", 2), (b"P" + b" 1'" * 8, 2), (b"P" + b" 1'" * 9, (11, 26)), (b"P 1'".ljust(81), (1, 80)), (b"", (3, 0)), (b"P 1\xff'", (2, 3)),
+        (b"R 2'", (12, 0)), (b"-R 2'", (12, 1)), (b"P 4' 6", (13, 0)), (b"P 1a' 1b'", (14, 0)), (b"P 1' 1a'", (14, 0)), (b"P 3w'", (14, 0)),
+        (b"P 2w'", (14, 0)), (b"C 1a' 1b'", 2), (b"P" + b" 1'" * 8, 2), (b"P" + b" 1'" * 9, (11, 26)), (b"P 1'".ljust(81), (1, 80)), (b"", (3, 0)), (b"P 1\xff'", (2, 3)),
     ]
     lent = bytearray(range(22))
     group = group_of_magnetic(b"P 1a'")
@@ -1188,7 +1189,8 @@ def example_magnetics():
         ("edition 1", bytes.fromhex("4064000000500101000A"), 31), ("edition 3", b"0" + bytes.fromhex("01B2A3005003010009"), 31),
         ("the letter p", first + b"p" + short[1:], 32), ("a count of 0", first + b"P\x02\x00\x00\x05", 33), ("5n+5", first + b"P\x02\x01\x00\x0a", 33),
         ("a flag of 2", first[:5] + b"\x02" + short, 34), ("flags that descend", second + first + trailer, 34), ("a pair twice", first + first + trailer, 34),
-        ("a triple not the smallest", b"\x40\x64\x0b\x0b\x0b\x00" + b"I" + short[1:], 34), ("the identity with the flag alone", first[:5] + b"\x01" + short, 35),
+        ("a triple not the smallest", b"\x40\x64\x0b\x0b\x0b\x00" + b"I" + short[1:], 34),
+        ("the identity with the flag alone", first[:5] + b"\x01" + short, 35),
         ("a product's flag", bytes.fromhex("0C7E00000001") + first + bytes.fromhex("406400000001") + b"P\x02\x03\x00\x17", 35),
     ]
     return [("magnetic " + text.decode("latin-1"), magnetic_count(text), expected) for text, expected in cases] + [
