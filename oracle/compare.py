@@ -45,6 +45,14 @@ def read_list(words):
     return [(tuple(map(int, item[:9])), tuple(int(word, 16) for word in item[9:])) for item in items]
 
 
+def read_flagged(words):
+    """Magnetic operations as the harness writes them: rotation, the bits of three doubles, and the flag."""
+    count, rest = int(words[0]), words[1:]
+    assert len(rest) == 13 * count
+    items = [rest[i:i + 13] for i in range(0, len(rest), 13)]
+    return [(tuple(map(int, item[:9])), tuple(int(word, 16) for word in item[9:12]), int(item[12])) for item in items]
+
+
 def exact(operations):
     return [(rotation, tuple(map(model.bits, model.doubles(translation)))) for rotation, translation in operations]
 

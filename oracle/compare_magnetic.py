@@ -17,13 +17,12 @@ from collections import Counter
 import cases
 import compare
 import model
-from compare import ask, double_of, hex_of
+from compare import ask, double_of, hex_of, read_flagged
 
 RANDOM = 100000
 SEED = 14
 SHIFTS = 100
 LETTERS = "PABCIRF"
-CODES = model.MOST_CODE + 1
 
 PICKED = [
     b"P 1a'", b"P 1'", b"P 1 1c'", b"-P 1'", b"P -1'", b"-P 4 2 3 1'", b"-F 4 2 3 1'", b"-I 4bd 2c 3 1'", b"P 3'", b"P 6'", b"P 3* 2'", b"P 31'", b"P 41'", b"P 4w'",
@@ -40,22 +39,8 @@ def database(harness):
     return [model.text_of_hex(word) for word in found]
 
 
-def read_flagged(words):
-    """Flagged operations as the harness writes them: rotation, the bits of three doubles, and the flag."""
-    count, rest = int(words[0]), words[1:]
-    assert len(rest) == 13 * count
-    items = [rest[i:i + 13] for i in range(0, len(rest), 13)]
-    return [(tuple(map(int, item[:9])), tuple(int(word, 16) for word in item[9:12]), int(item[12])) for item in items]
-
-
 def exact(operations):
     return [(rotation, tuple(map(model.bits, model.doubles(translation))), flag) for rotation, translation, flag in operations]
-
-
-def operation_number(rotation, translation, flag):
-    """An operation as C has it: the flag before the code."""
-    x, y, z = translation
-    return (flag * CODES + model.code(rotation)) * 1728 + x * 144 + y * 12 + z
 
 
 # Where the model refuses and the original answers a list: what must hold of the text for the difference to be a listed one ----
@@ -143,7 +128,7 @@ def compare_symbols(harness, texts):
 def recorded_line(text, answer):
     """A symbol, its letter, its order and the number of each operation; every double must be a twelfth's."""
     letter, *words = answer.split(" ")
-    numbers = [operation_number(rotation, model.twelfths([double_of(part) for part in parts]), flag) for rotation, parts, flag in read_flagged(words)]
+    numbers = [model.flagged_number(rotation, model.twelfths([double_of(part) for part in parts]), flag) for rotation, parts, flag in read_flagged(words)]
     return " ".join(map(str, [hex_of(text), letter, len(numbers)] + numbers))
 
 

@@ -399,6 +399,12 @@ def listed_flagged(generators):
     return waiting
 
 
+def flagged_number(rotation, translation, flag):
+    """A flagged operation as one number: the flag before the code, the code before x, y and z."""
+    x, y, z = translation
+    return (flag * 3 ** 9 + code(rotation)) * 1728 + x * 144 + y * 12 + z
+
+
 def group_of_magnetic(text):
     """Letter and flagged operations in list order; refusals 1 to 14 and 17."""
     letter, generators = read_magnetic(text)
@@ -1198,6 +1204,7 @@ def example_magnetics():
         ("P 1a', list", group, ("P", [(IDENTITY, (0, 0, 0), 0), (IDENTITY, (6, 0, 0), 1)])),
         ("the inversion has no flag", group_of_magnetic(b"-P 2'")[1][1], (INVERSION, NO_TRANSLATION, 0)),
         ("H 3', flags", [flag for _, _, flag in group_of_magnetic(b"H 3'")[1]], [0, 1, 0, 1, 0, 1]),
+        ("P 1a', numbers", [flagged_number(*operation) for operation in group[1]], [28484352, 34012224 + 28485216]),
         ("P 1a', record", magnetic_record(*group), MAGNETIC_RECORD),
         ("P 1a', record at 3", (write_magnetic_record(*group, lent, 3), bytes(lent)), (2, bytes(range(3)) + MAGNETIC_RECORD + bytes(range(20, 22)))),
         ("P 1a', no room", outcome(write_magnetic_record, *group, bytearray(19), 3), (20, 0)),
