@@ -9,6 +9,8 @@ pub mod ListBounds
 pub mod TableBounds
 pub mod MotionBounds
 pub mod LineBounds
+pub mod FlaggedNumbers
+pub mod MagneticBounds
 pub mod Catalogues
 pub mod CatalogueState
 pub mod CatalogueBounds

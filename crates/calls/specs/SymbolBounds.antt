@@ -41,7 +41,7 @@ use Rattle.calls.specs.Packing.{Told, Close, near, Within, Low, AnyLette
 
 -- ---- places
 -- 1 to 11 and 17: numbers and places of a text are small.
-text-close : (bytes : List ℕ) (r : text-refusal.Refusal) → Refuses bytes r → Close (text.numberOf r) (text.placeOf r)
+pub text-close : (bytes : List ℕ) (r : text-refusal.Refusal) → Refuses bytes r → Close (text.numberOf r) (text.placeOf r)
 text-close bytes r h =
     let (some, few) = number-range r in
     record { some = omega arith; one-byte = omega arith; at-most = place-within bytes r h }

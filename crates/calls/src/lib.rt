@@ -5,6 +5,7 @@ pub mod editions;
 pub mod layer;
 pub mod line;
 pub mod list;
+pub mod magnetic;
 mod motion;
 mod packing;
 pub mod record;

@@ -63,7 +63,7 @@ pub extern "C" fn symmetry_symbol_record(text: &[u8], out: &mut [u8], start: u64
     }
 }
 
-fn refused_symbol(refusal: Refusal) -> u64
+pub(crate) fn refused_symbol(refusal: Refusal) -> u64
     requires { ⌜ Told (numberOf refusal) (placeOf refusal) ⌝ }
     ensures { λ r. ⌜ r ≡ numberOf refusal * topByte + placeOf refusal ⌝ }
 {
