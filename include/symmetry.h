@@ -11,11 +11,14 @@
  * Answers. Each function returns one number. Its top byte is 0 and the value stands below it; or its top byte is the number of a refusal and the rest
  * is the refusal's place. Two different answers never share a number. symmetry_number, symmetry_place and symmetry_value take an answer apart.
  *
- * Sources. The functions come in four families that differ in what the group is given by:
+ * Sources. The functions come in families that differ in what the group is given by:
  *   symmetry_symbol_...   text    the bytes of a Hall symbol, at most 80; no byte 0 ends it. Elements are numbered in list order: breadth first from
  *                                 the identity, right factors running over the symbol's generators in order. Refusals 1 to 14 and 17.
  *   symmetry_layer_...    text    the bytes of a layer symbol, which is spelt as a Hall symbol but with the letter p or c. Its list is that of the text
  *                                 with P or C. Refusals 1 to 14 and 17, then 19.
+ *   symmetry_magnetic_... text    the bytes of a magnetic symbol, which is spelt as a Hall symbol, but an N token may end with an apostrophe: time
+ *                                 reversal. Operations have a flag, products combine flags by exclusive or, and a rotation may come once with the flag
+ *                                 and once without it: up to 96 operations. Refusals 1 to 14 and 17.
  *   symmetry_record_...   record  bytes that end with a group record, of edition 1 or 3; what stands before it is not looked at. Elements are numbered
  *                                 in the record's order, by ascending rotation code. Refusals 30 to 35.
  *   symmetry_table_...    order and table   n and n * n bytes by rows, the byte at i * n + j being the product of i and j. Refusals 21 to 25.
@@ -51,12 +54,13 @@ extern "C" {
 /*
  * The version of this header: the first number changes when something that stands here changes, the second when something is added.
  */
-enum symmetry_version { SYMMETRY_VERSION_MAJOR = 2, SYMMETRY_VERSION_MINOR = 0 };
+enum symmetry_version { SYMMETRY_VERSION_MAJOR = 2, SYMMETRY_VERSION_MINOR = 1 };
 
 /* Sizes that are always enough, and that something needs. */
 enum symmetry_most {
     SYMMETRY_MOST_TEXT = 80,              /* bytes of a symbol's text */
     SYMMETRY_MOST_ORDER = 48,             /* elements of a group */
+    SYMMETRY_MOST_MAGNETIC_ORDER = 96,    /* operations of a magnetic symbol: each rotation with the flag and without it */
     SYMMETRY_MOST_RECORD = 245,           /* bytes of a record: 5 * 48 + 5; of edition 3 4 * 48 + 5 */
     SYMMETRY_MOST_LIST = 240,             /* bytes of another program's list: 5 * 48 */
     SYMMETRY_MOST_REPORT = 864,           /* bytes of a report on two records: 9 * 96 */
@@ -87,15 +91,18 @@ enum symmetry_refusal {
     SYMMETRY_TOKEN_MISSPELT = 5,    /* an N token that no rule spells; at its first offending byte, or where a missing fold should stand */
     SYMMETRY_AXIS_UNSETTLED = 6,    /* no axis follows from the token and those before it, or fold and axis have no matrix; at that token */
     SYMMETRY_DIGIT_WRONG = 7,       /* a screw digit out of range, on another axis than z, not first, or a second one; at the first such digit */
-    SYMMETRY_TOKEN_PRIMED = 8,      /* an apostrophe, which only magnetic symbols have; at that token */
+    SYMMETRY_TOKEN_PRIMED = 8,      /* an apostrophe, which only magnetic symbols have; of a magnetic symbol more than one in a token, or one that is
+                                       not its last byte; at that token */
     SYMMETRY_SHIFT_MALFORMED = 9,   /* the shift of origin is not three numbers -11 to 11 in brackets at the end; at its opening bracket */
     SYMMETRY_NO_ROTATION = 10,      /* no N token; at the opening bracket, or at the text's length */
     SYMMETRY_TOO_MANY_TOKENS = 11,  /* a ninth N token; at that token */
     SYMMETRY_LETTER_DOUBLED = 17,   /* a letter a b c n u v w d twice in one N token; at the first that repeats an earlier one */
     /* The generators that a symbol spells. */
     SYMMETRY_LATTICE_NOT_KEPT = 12, /* a generator does not map the centred lattice onto itself; at its index from 0 */
-    SYMMETRY_TOO_MANY_ROTATIONS = 13, /* over 48 rotations, or one with an entry outside -1..1; at 0 */
-    SYMMETRY_TWO_TRANSLATIONS = 14, /* one rotation with two translations that differ by no vector of the lattice; at 0 */
+    SYMMETRY_TOO_MANY_ROTATIONS = 13, /* over 48 rotations, of a magnetic symbol over 96 pairs of a rotation and a flag, or a rotation with an entry
+                                       outside -1..1; at 0 */
+    SYMMETRY_TWO_TRANSLATIONS = 14, /* one rotation, of a magnetic symbol with one flag, with two translations that differ by no vector of the
+                                       lattice; at 0 */
     SYMMETRY_NO_LAYER = 19,         /* of a layer symbol: an operation mixes z with x or y, or keeps the sense of z and moves along it; at the list
                                        index of the first such operation */
     /* A place in lent memory; at 0. */
@@ -218,8 +225,9 @@ static inline uint64_t symmetry_set(const uint8_t *sets, size_t k)
 }
 
 /*
- * The value that symmetry_symbol_operation and symmetry_layer_operation answer, taken apart: the entry -1, 0 or 1 of the rotation's matrix in a row and
- * a column 0 to 2, and the translation 0 to 11 twelfths along axis 0, 1 or 2.
+ * The value that symmetry_symbol_operation, symmetry_layer_operation and symmetry_magnetic_operation answer, taken apart: the entry -1, 0 or 1 of the
+ * rotation's matrix in a row and a column 0 to 2, the translation 0 to 11 twelfths along axis 0, 1 or 2, and the flag, 1 for time reversal, else 0; that
+ * of an operation of a symbol without flags is 0.
  */
 static inline int symmetry_entry(uint64_t value, unsigned row, unsigned column)
 {
@@ -234,6 +242,8 @@ static inline unsigned symmetry_twelfths(uint64_t value, unsigned axis)
 {
     return (unsigned)(axis == 0 ? value / 144 % 12 : axis == 1 ? value / 12 % 12 : value % 12);
 }
+
+static inline unsigned symmetry_flag(uint64_t value) { return (unsigned)(value / 34012224); }
 
 /*
  * The value that symmetry_catalogue_piece and symmetry_catalogue_end answer, taken apart: how many bytes of the piece were taken; 1 if they finished a
@@ -251,9 +261,10 @@ static inline uint64_t symmetry_catalogue_answer(uint64_t value)
 
 /* ---- the group itself ---- */
 
-/* The order: how many operations modulo the lattice, or how many elements. 1 to 48. */
+/* The order: how many operations modulo the lattice, or how many elements. 1 to 48; of a magnetic symbol 1 to 96. */
 uint64_t symmetry_symbol_order(const uint8_t *text, size_t text_length);
 uint64_t symmetry_layer_order(const uint8_t *text, size_t text_length);
+uint64_t symmetry_magnetic_order(const uint8_t *text, size_t text_length);
 uint64_t symmetry_record_order(const uint8_t *record, size_t record_length);
 uint64_t symmetry_table_order(uint64_t order, const uint8_t *table, size_t table_length);
 
@@ -265,6 +276,7 @@ uint64_t symmetry_table_identity(uint64_t order, const uint8_t *table, size_t ta
 /* The byte of the centring letter, one of P A B C I R F H; of a layer symbol p or c; of a record any of these. */
 uint64_t symmetry_symbol_letter(const uint8_t *text, size_t text_length);
 uint64_t symmetry_layer_letter(const uint8_t *text, size_t text_length);
+uint64_t symmetry_magnetic_letter(const uint8_t *text, size_t text_length);
 uint64_t symmetry_record_letter(const uint8_t *record, size_t record_length);
 
 /*
@@ -273,6 +285,13 @@ uint64_t symmetry_record_letter(const uint8_t *record, size_t record_length);
  */
 uint64_t symmetry_symbol_operation(const uint8_t *text, size_t text_length, uint64_t index);
 uint64_t symmetry_layer_operation(const uint8_t *text, size_t text_length, uint64_t index);
+
+/*
+ * The same with the flag before the code: (flag * 19683 + code) * 1728 + x * 144 + y * 12 + z. symmetry_entry and symmetry_twelfths read it as they read
+ * the other, and symmetry_flag reads the flag. The identity without the flag stands first. The two operations of P 1a' are x,y,z and x+1/2,y,z with
+ * time reversal.
+ */
+uint64_t symmetry_magnetic_operation(const uint8_t *text, size_t text_length, uint64_t index);
 
 /* ---- lists of another program ---- */
 

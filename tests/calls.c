@@ -542,6 +542,58 @@ static void catalogues(void) {
     expect(state[81] == MARK && state[ROOM - 1] == MARK, "bytes behind the state", state[81]);
 }
 
+/* Magnetic symbols worked out by hand: 16484 is the identity's code, 3200 that of the turn by a half about z, and a flag adds 19683 to the code. */
+static void magnetic(void) {
+    static const struct { const char *text; uint64_t order; char letter; } good[] = {
+        { "P 1", 1, 'P' }, { "P 1'", 2, 'P' }, { "P 1a'", 2, 'P' }, { "P 1 1c'", 2, 'P' }, { "P 2'", 2, 'P' }, { "-P 2'", 4, 'P' }, { "H 3'", 6, 'H' },
+        { "-P 4 2 3", 48, 'P' }, { "-P 4 2 3 1'", 96, 'P' }, { "-F 4 2 3 1'", 96, 'F' }, { "P 2' (0 0 1)", 2, 'P' }, { " -P\t1' ", 4, 'P' },
+    };
+    static const struct { const char *text; unsigned number, place; } bad[] = {
+        { "P 1a", 14, 0 }, { "P 1a' 1b'", 14, 0 }, { "P 4' 6", 13, 0 }, { "R 2'", 12, 0 }, { "P 2''", 8, 2 }, { "P 2'a", 8, 2 }, { "P 2'1", 8, 2 },
+        { "P 2'q", 5, 4 }, { "P 2aa'", 17, 4 }, { "P' 2", 4, 0 }, { "P '", 5, 2 }, { "P -'", 5, 3 }, { "P 2a1'", 7, 4 }, { "P 1x'", 6, 2 }, { "p 1'", 4, 0 },
+        { "P", 10, 1 }, { "", 3, 0 }, { "P 2 (0 0 0')", 9, 4 }, { "P 1' 1' 1' 1' 1' 1' 1' 1' 1'", 11, 26 }, { "P 1'\x7f", 2, 4 },
+    };
+    for (size_t i = 0; i < sizeof good / sizeof *good; i++) {
+        const uint8_t *text = (const uint8_t *)good[i].text;
+        size_t length = strlen(good[i].text);
+        answers(symmetry_magnetic_order(text, length), good[i].order, good[i].text);
+        answers(symmetry_magnetic_letter(text, length), (uint64_t)good[i].letter, good[i].text);
+        answers(symmetry_magnetic_operation(text, length, 0), UINT64_C(16484) * 1728, good[i].text);
+        answers(symmetry_magnetic_operation(text, length, good[i].order), refusal(28, 0), good[i].text);
+        answers(symmetry_magnetic_operation(text, length, UINT64_MAX), refusal(28, 0), good[i].text);
+        uint64_t flagged = 0;
+        for (uint64_t k = 0; k < good[i].order; k++) flagged += symmetry_flag(symmetry_magnetic_operation(text, length, k));
+        answers(flagged, strchr(good[i].text, '\'') ? good[i].order / 2 : 0, "half of the operations have the flag, or none");
+    }
+    for (size_t i = 0; i < sizeof bad / sizeof *bad; i++) {
+        const uint8_t *text = (const uint8_t *)bad[i].text;
+        size_t length = strlen(bad[i].text);
+        uint64_t told = refusal(bad[i].number, bad[i].place);
+        answers(symmetry_magnetic_order(text, length), told, bad[i].text);
+        answers(symmetry_magnetic_letter(text, length), told, bad[i].text);
+        answers(symmetry_magnetic_operation(text, length, 0), told, bad[i].text);
+        answers(symmetry_magnetic_operation(text, length, UINT64_MAX), told, bad[i].text);
+    }
+    /* x+1/2,y,z with time reversal, and the turn by a half with it */
+    uint64_t moved = symmetry_magnetic_operation(TEXT("P 1a'"), 1), turned_back = symmetry_magnetic_operation(TEXT("P 2c'"), 1);
+    answers(moved, (UINT64_C(19683) + 16484) * 1728 + 6 * 144, "the second operation of P 1a'");
+    expect(symmetry_flag(moved) == 1 && symmetry_twelfths(moved, 0) == 6 && symmetry_entry(moved, 0, 0) == 1, "taken apart", moved);
+    answers(turned_back, (UINT64_C(19683) + 3200) * 1728 + 6, "the second operation of P 2c'");
+    answers(symmetry_magnetic_operation(TEXT("P 2c"), 1), UINT64_C(3200) * 1728 + 6, "that of P 2c");
+    /* a plain symbol has no time reversal */
+    answers(symmetry_symbol_order(TEXT("P 2'")), refusal(8, 2), "a plain symbol with an apostrophe");
+    answers(symmetry_symbol_order(TEXT("P 1a'")), refusal(8, 2), "a plain symbol with an apostrophe");
+    uint8_t longest[81];
+    memset(longest, ' ', sizeof longest);
+    memcpy(longest, "P 2", 3);
+    longest[79] = '\'';
+    answers(symmetry_magnetic_order(longest, 81), refusal(1, 80), "81 bytes");
+    answers(symmetry_magnetic_order(longest, 80), refusal(5, 79), "80 bytes that end in a lone apostrophe");
+    longest[78] = '1';
+    answers(symmetry_magnetic_order(longest, 80), 4, "80 bytes that end in 1'");
+    answers(symmetry_magnetic_letter(NULL, 0), refusal(3, 0), "no text");
+}
+
 int main(void) {
     static const uint8_t flip_conjugates[] = { 9, 17, 33 }, flip_conjugators[] = { 0, 2, 1 };
     static const uint8_t other_conjugates[] = { 17, 9, 33 }, other_conjugators[] = { 0, 1, 2 };
@@ -555,6 +607,7 @@ int main(void) {
     pointed();
     layers();
     layer_records();
+    magnetic();
     written();
     records();
     comparisons();

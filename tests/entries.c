@@ -57,6 +57,9 @@ struct entry {
     ENTRY(layer_letter, "s", INPUT) \
     ENTRY(layer_operation, "sn", INPUT, call->number[0]) \
     ENTRY(layer_record, "sln", INPUT, LENT(0), call->number[0]) \
+    ENTRY(magnetic_order, "s", INPUT) \
+    ENTRY(magnetic_letter, "s", INPUT) \
+    ENTRY(magnetic_operation, "sn", INPUT, call->number[0]) \
     ENTRY(symbol_record, "sln", INPUT, LENT(0), call->number[0]) \
     ENTRY(record_copy, "sln", INPUT, LENT(0), call->number[0]) \
     ENTRY(record_edition, "s", INPUT) \

@@ -63,6 +63,7 @@ static void check_sizes(void)
 {
     check("the longest text", SYMMETRY_MOST_TEXT, 80);
     check("the largest order", SYMMETRY_MOST_ORDER, 48);
+    check("the largest order of a magnetic symbol", SYMMETRY_MOST_MAGNETIC_ORDER, 2 * 48);
     check("the longest record", SYMMETRY_MOST_RECORD, 5 * 48 + 5);
     check("the longest list", SYMMETRY_MOST_LIST, 5 * 48);
     check("the longest report", SYMMETRY_MOST_REPORT, 9 * (48 + 48));
@@ -78,7 +79,7 @@ static void check_sizes(void)
     check("the bytes of a slot", SYMMETRY_SLOT, 8);
     check("the state of a catalogue", SYMMETRY_CATALOGUE_STATE, 1 + 80);
     check("the longest piece", SYMMETRY_MOST_PIECE, 4096);
-    check("the version", SYMMETRY_VERSION_MAJOR * 100 + SYMMETRY_VERSION_MINOR, 200);
+    check("the version", SYMMETRY_VERSION_MAJOR * 100 + SYMMETRY_VERSION_MINOR, 201);
 }
 
 int main(void)
@@ -88,6 +89,8 @@ int main(void)
     /* the rotation 0 -1 0 / 1 -1 0 / 0 0 1 has the digits 1 0 1 2 0 1 1 1 2 of base 3; the translation is 11, 0 and 4 twelfths */
     const uint64_t code = 6561 + 729 + 2 * 243 + 27 + 9 + 3 + 2, operation = code * 1728 + 11 * 144 + 0 * 12 + 4;
     const int entries[9] = { 0, -1, 0, 1, -1, 0, 0, 0, 1 };
+    /* the same with time reversal, and the largest value: all entries 1, eleven twelfths along each axis, and the flag */
+    const uint64_t reversed = (1 * 19683 + code) * 1728 + 11 * 144 + 0 * 12 + 4, largest = (1 * 19683 + 19682) * UINT64_C(1728) + 11 * 144 + 11 * 12 + 11;
     const uint8_t sets[16] = { 0, 0, 255, 255, 255, 255, 255, 255, 128, 7, 6, 5, 4, 3, 2, 1 };
     /* of a catalogue: 7 bytes taken and no line; 4,096 taken and a line with 48 operations; none taken and a line refused 1 at 80 */
     const uint64_t none = 7, many = 4096 + UINT64_C(65536) * (1 + 48), over = UINT64_C(65536) * (1 + 256 * 1 + 80);
@@ -113,9 +116,19 @@ int main(void)
     check("a set of all bits", symmetry_value(UINT64_C(0x0000FFFFFFFFFFFF)), UINT64_C(0x0000FFFFFFFFFFFF));
     for (i = 0; i < 9; i++)
         check("an entry plus one", (uint64_t)(symmetry_entry(operation, i / 3, i % 3) + 1), (uint64_t)(entries[i] + 1));
+    for (i = 0; i < 9; i++)
+        check("an entry plus one, with time reversal", (uint64_t)(symmetry_entry(reversed, i / 3, i % 3) + 1), (uint64_t)(entries[i] + 1));
     check("x", symmetry_twelfths(operation, 0), 11);
     check("y", symmetry_twelfths(operation, 1), 0);
     check("z", symmetry_twelfths(operation, 2), 4);
+    check("x, with time reversal", symmetry_twelfths(reversed, 0), 11);
+    check("y, with time reversal", symmetry_twelfths(reversed, 1), 0);
+    check("z, with time reversal", symmetry_twelfths(reversed, 2), 4);
+    check("no flag", symmetry_flag(operation), 0);
+    check("no flag before the largest code", symmetry_flag(largest - 19683 * UINT64_C(1728)), 0);
+    check("a flag", symmetry_flag(reversed), 1);
+    check("a flag before the least code", symmetry_flag(19683 * UINT64_C(1728)), 1);
+    check("a flag before the largest code", symmetry_flag(largest), 1);
     check("the first set", symmetry_set(sets, 0), UINT64_C(0x0000FFFFFFFFFFFF));
     check("the second set", symmetry_set(sets, 1), UINT64_C(0x8007060504030201));
     check("bytes taken", symmetry_catalogue_taken(none), 7);

@@ -1,5 +1,5 @@
--- What is answered for a magnetic symbol's text can be packed: orders are at most 96, operations have entries in −1..1 and coordinates below 12, and places are
--- those of the text without its time reversals.
+-- What is answered for a magnetic symbol's text can be packed: orders are at most 96, operations have entries in −1..1 and coordinates below 12, and places
+-- are those of the text without its time reversals.
 use mathlib.Core.Path.{_≡_, refl, ap, subst}
 use mathlib.Core.Bool.{Bool, true, false, cond}
 use mathlib.Core.List.{List, List·Memᴰ as Mem}
@@ -43,7 +43,8 @@ module _ (text : List ℕ) where
       text-close (refuses .copy) r (refuses .refuses)
 
   -- 12 is at a generator's index, of which there are at most nine; 13 and 14 are at 0.
-  refused-close : (c : Centering) (r : generators.Refusal) → magneticOutcome text ≡ made c (refused r) → Close (numberOf (NoGroup r)) (placeOf (NoGroup r))
+  refused-close : (c : Centering) (r : generators.Refusal) → magneticOutcome text ≡ made c (refused r)
+      → Close (numberOf (NoGroup r)) (placeOf (NoGroup r))
   refused-close c (Lattice i) e =
       let (gs, fs, spells, _) = made-spelled text c (refused (Lattice i)) e in
       let off = symbol-twelve text c gs fs spells i .0 e in
@@ -58,7 +59,8 @@ module _ (text : List ℕ) where
   misread-told : (r : text-refusal.Refusal) → magneticOutcome text ≡ misread r → Told (numberOf (Text r)) (placeOf (Text r))
   misread-told r e = let h = misread-close r e in near (h .some) (h .one-byte) (h .at-most)
 
-  refused-told : (c : Centering) (r : generators.Refusal) → magneticOutcome text ≡ made c (refused r) → Told (numberOf (NoGroup r)) (placeOf (NoGroup r))
+  refused-told : (c : Centering) (r : generators.Refusal) → magneticOutcome text ≡ made c (refused r)
+      → Told (numberOf (NoGroup r)) (placeOf (NoGroup r))
   refused-told c r e = let h = refused-close c r e in near (h .some) (h .one-byte) (h .at-most)
 
   -- ---- the list

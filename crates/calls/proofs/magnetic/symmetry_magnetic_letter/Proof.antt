@@ -25,16 +25,21 @@ enum-known-refusal : tie.Need-enum-known-refusal
 enum-known-refusal c = search needs
 
 refused-symbol-requires : tie.Need-refused-symbol-requires
-refused-symbol-requires c κs = subst (λ (a : MagneticLetter). Within AnyLetter (letterAnswer a)) (sym (c .before .before .before .letter .ensures) ∙ c .before .refusal .given .1) (letter-within _)
+refused-symbol-requires c κs =
+    subst (λ (a : MagneticLetter). Within AnyLetter (letterAnswer a))
+    (sym (c .before .before .before .letter .ensures) ∙ c .before .refusal .given .1) (letter-within _)
 
 returns : tie.Need-returns
 returns c =
-    c .byte .ensures ∙ ap (λ (a : MagneticLetter). packed (mapped byteOf (letterAnswer a))) (sym (c .before .before .centering .given .1) ∙ c .before .before .before .before .letter .ensures)
+    c .byte .ensures
+    ∙ ap (λ (a : MagneticLetter). packed (mapped byteOf (letterAnswer a)))
+    (sym (c .before .before .centering .given .1) ∙ c .before .before .before .before .letter .ensures)
 
 returns-2 : tie.Need-returns-2
 returns-2 c =
     c .refused-symbol .ensures
-    ∙ ap (λ (a : MagneticLetter). packed (mapped byteOf (letterAnswer a))) (sym (c .before .before .refusal .given .1) ∙ c .before .before .before .before .letter .ensures)
+    ∙ ap (λ (a : MagneticLetter). packed (mapped byteOf (letterAnswer a)))
+    (sym (c .before .before .refusal .given .1) ∙ c .before .before .before .before .letter .ensures)
 
 pub symmetry-magnetic-letter-spec : {M : Type 1} → statement M
 symmetry-magnetic-letter-spec =

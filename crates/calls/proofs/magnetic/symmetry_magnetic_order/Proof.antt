@@ -18,7 +18,9 @@ enum-known-refusal : tie.Need-enum-known-refusal
 enum-known-refusal c = search needs
 
 refused-symbol-requires : tie.Need-refused-symbol-requires
-refused-symbol-requires c κs = subst (λ (a : MagneticOrder). Within Low (orderAnswer a)) (sym (c .before .before .before .order .ensures) ∙ c .before .refusal .given .1) (order-within _)
+refused-symbol-requires c κs =
+    subst (λ (a : MagneticOrder). Within Low (orderAnswer a))
+    (sym (c .before .before .before .order .ensures) ∙ c .before .refusal .given .1) (order-within _)
 
 returns : tie.Need-returns
 returns c = ap (λ (a : MagneticOrder). packed (orderAnswer a)) (sym (c .before .n .given .1) ∙ c .before .before .before .order .ensures)
