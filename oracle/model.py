@@ -329,7 +329,7 @@ def group_of_layer(text):
     return letter, operations
 
 
-# Magnetic symbols, (iv) of 02 ---------------------------------------------------------------------------------------
+# Magnetic symbols, R15 ----------------------------------------------------------------------------------------------
 
 # A flagged operation is a rotation, a translation and a flag: 1 with time reversal, 0 without.
 MOST_FLAGGED = 96
@@ -575,7 +575,7 @@ def class_of(letter, operation):
     return rotation, smallest(letter, translation)
 
 
-# Magnetic records, (iv) of 02 ---------------------------------------------------------------------------------------
+# Magnetic records, R15.7 to R15.11 ----------------------------------------------------------------------------------
 
 MAGNETIC_EDITION = 2
 MAGNETIC_ITEM = 6
@@ -1177,7 +1177,7 @@ def magnetic_count(text):
 
 
 def example_magnetics():
-    """(name, what the model says, what 02 says) for magnetic symbols and records."""
+    """(name, what the model says, what R15 says) for magnetic symbols and records."""
     cases = [
         (b"P 1a'", 2), (b"P 1'", 2), (b"P 1 1c'", 2), (b"P 1", 1), (b"-P 1", 2), (b"P 1a", (14, 0)), (b"-P 4 2 3 1'", 96), (b"H 3'", 6), (b"-P 4 2 3", 48),
         (b"P 2'a", (8, 2)), (b"P 2''", (8, 2)), (b"P 2'q", (5, 4)), (b"P '", (5, 2)), (b"P -'", (5, 3)), (b"P' 1", (4, 0)), (b"p 1'", (4, 0)),
