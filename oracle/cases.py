@@ -1,7 +1,7 @@
 """The inputs that the recorded answers are made for: symbols, damaged symbols and tables.
 
 Everything here is fixed: the same call gives the same list on every machine. The symbols are picked by hand or run
-through by rule, so that each rule and each refusal of the scope document ("01") is met several times.
+through by rule, so that each rule and each refusal of docs/RULES.md is met several times.
 """
 
 import random
@@ -526,7 +526,7 @@ def altered(table, *changes):
 
 
 def other_tables():
-    """(name, order, entries) of what 01 refuses as a table."""
+    """(name, order, entries) of what the rules refuse as a table."""
     # A Latin square with identity and inverses that is no group's: every loop of order 5 but C5 is one.
     loop = [[0, 1, 2, 3, 4], [1, 0, 3, 4, 2], [2, 4, 0, 1, 3], [3, 2, 4, 0, 1], [4, 3, 1, 2, 0]]
     left_only = [[0, 1, 2], [0, 1, 2], [0, 1, 2]]

@@ -1,15 +1,15 @@
 #!/usr/bin/env python3
-"""The rules of the scope document ("01") as a plain program, with those of the requests ("02") that have landed.
+"""The rules of docs/RULES.md as a plain program.
 
-It is written from these two alone: it shares no line with the Rust original and none with the port, and it is kept as the
+It is written from their text alone: it shares no line with the Rust original and none with the port, and it is kept as the
 independent judge of what is accepted, what is refused with which number and place, and what each answer holds.
 All arithmetic is in whole numbers; a translation is a triple of twelfths. Speed is no aim.
 
-    python3 oracle/model.py test        run the examples of 01
+    python3 oracle/model.py test        run the examples of the rules
     python3 oracle/model.py answers     one answer line for each input line (see `answer_line`)
     python3 oracle/model.py program     what the port's program writes for the bytes on standard input
 
-A section below has the name of the section of 01 that it states.
+A section below says which section of the rules it states, by its name.
 """
 
 import re
@@ -161,9 +161,9 @@ def spelt_token(token, place):
 def read_n_token(token, place, before):
     """Rotation, translation, fold and axis of one N token, given those before it; refusals 5, 8, 6, 7 and 17.
 
-    By 02 (v) the place of 5 is the first byte that no N token has after the bytes before it, or the token's end where it
+    By R8.8 the place of 5 is the first byte that no N token has after the bytes before it, or the token's end where it
     breaks off, and the place of 7 is the digit's; 6 and 8 are told of the token's start.
-    By 02 (viii) a letter that occurs twice is refused 17, after 7, at the first byte that repeats an earlier one."""
+    By R2.7 a letter that occurs twice is refused 17, after 7, at the first byte that repeats an earlier one."""
     spelt = spelt_token(token, place)
     minus, fold, mark, letter, run = (part.decode() for part in spelt.groups())
     if "'" in run:
@@ -229,7 +229,7 @@ POINTS = {
     "F": [(0, 0, 0), (0, 6, 6), (6, 0, 6), (6, 6, 0)],
     "H": [(0, 0, 0), (8, 4, 0), (4, 8, 0)],
 }
-# The letters of layers, (vi) of 02, have the lattices of their capitals.
+# The letters of layers, R14.1, have the lattices of their capitals.
 LAYER_LETTERS = "pc"
 POINTS.update((letter, POINTS[letter.upper()]) for letter in LAYER_LETTERS)
 MOST_OPERATIONS = 48
@@ -311,7 +311,7 @@ def group_of_symbol(text):
     return letter, group_of_generators(letter, generators)
 
 
-# Layer groups, (vi) of 02 -------------------------------------------------------------------------------------------
+# Layer groups, R14 -------------------------------------------------------------------------------------------
 
 def of_layer(operation):
     """Whether the entries xz, yz, zx and zy are 0, and z does not move where the entry zz is 1."""
@@ -1132,7 +1132,7 @@ def answer_line(line):
     return "what"
 
 
-# The examples of 01 -----------------------------------------------------------------------------------------------
+# The examples of the rules -----------------------------------------------------------------------------------------------
 
 def outcome(action, *arguments):
     """What an action answers, or its refusal as a pair of number and place."""
@@ -1152,7 +1152,7 @@ def z_translations(text):
 
 
 def example_symbols():
-    """(name, what the model says, what 01 says) for the symbols of "Symbols to try"."""
+    """(name, what the model says, what the rules say) for symbols that reach every rule."""
     cases = [
         (b"P 1", 1), (b"-P 1", 2), (b"P 1a", (14, 0)), (b"P 2w", (14, 0)), (b"P 2a1", (7, 4)), (b"P 2aa", (17, 4)), (b"P 2ab", 2), (b"P 1x", (6, 2)),
         (b"P 3* 2^", (6, 5)), (b"R 2", (12, 0)), (b"P 4 6", (13, 0)), (b"P", (10, 1)), (b"", (3, 0)),
@@ -1222,7 +1222,7 @@ LAYER_RECORD = bytes.fromhex("0C7E0000004064000000700102000F")
 
 
 def example_rest():
-    """(name, what the model says, what 01 says) for the record, tables, program and the mistakes that 01 names."""
+    """(name, what the model says, what the rules say) for the record, tables, program and the mistakes that are easily made."""
     cubic = table_of_symbol(b"-P 4 2 3")
     inverse_record = bytes.fromhex("0C7E0000004064000000500102000F")
     shorter_record = bytes.fromhex("0054528001B2A300500302000D")

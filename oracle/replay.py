@@ -1,5 +1,5 @@
 #!/usr/bin/env python3
-"""Replays the recorded answers against the model of 01; needs no Rust, and shows how each file is read.
+"""Replays the recorded answers against the model of the rules; needs no Rust, and shows how each file is read.
 
     python3 oracle/replay.py
 
@@ -37,7 +37,7 @@ def record_agrees(hexed, number, place):
 
 
 def operations_agree(hexed, *answer):
-    """Where 01 accepts, the Rust has the same list, and its doubles are the twelfths'; of the triple cell it knows nothing."""
+    """Where the rules accept, the Rust has the same list, and its doubles are the twelfths'; of the triple cell it knows nothing."""
     text = model.text_of_hex(hexed)
     said = model.outcome(model.group_of_symbol, text)
     if answer == ("none",):
@@ -46,7 +46,7 @@ def operations_agree(hexed, *answer):
 
 
 def generators_agree(hexed, *answer):
-    """Where 01 reads the text, the Rust has the same generators, rounded to twelfths; of the triple cell it knows nothing."""
+    """Where the rules read the text, the Rust has the same generators, rounded to twelfths; of the triple cell it knows nothing."""
     text = model.text_of_hex(hexed)
     said = model.outcome(model.read_symbol, text)
     if isinstance(said[0], int):

@@ -6,12 +6,12 @@
 PROGRAM is made from tests/entries.c, HARNESS by oracle/build.sh; tests/compare_rust.sh makes both and runs this.
 
 - Symbols: the database, the picked ones, every sign and matrix under every shift, and random and damaged ones. An accepted symbol has
-  the Rust's operations in the Rust's order, each double the bits of its twelfth; refusals, letters and records are the model's. Where 01
-  refuses, what the Rust says is nothing that docs/DIFFERENCES.md does not list.
+  the Rust's operations in the Rust's order, each double the bits of its twelfth; refusals, letters and records are the model's. Where the rules
+  refuse, what the Rust says is nothing that docs/DIFFERENCES.md does not list.
 - Records: damaged ones, by the model: the verdict, the bytes that a copy writes and those that it does not.
 - Tables: of symbols in list order and in record order, made from the Rust's own lists, and all groups of order up to 48 under fresh
   labels: subgroups, classes, conjugates, normalizers and permutations are the Rust's. Small and damaged tables, and orders at and beyond
-  the bounds: the verdict is the model's, the Rust makes a group of a table exactly where 01 sees an identity and inverses, and what is a
+  the bounds: the verdict is the model's, the Rust makes a group of a table exactly where the rules see an identity and inverses, and what is a
   group after all has the Rust's subgroups.
 - Whatever is refused leaves every lent list as it was.
 
