@@ -16,6 +16,8 @@ from collections import Counter
 import cases
 import model
 
+# The letters that the Rust knows.
+RUST_LETTERS = "PABCIRF"
 UNICODE_SPACE = re.compile("[\x85\xa0\u1680\u2000-\u200a\u2028\u2029\u202f\u205f\u3000]")
 
 

@@ -17,20 +17,20 @@ from collections import Counter
 import cases
 import compare
 import model
-from compare import ask, double_of, hex_of, read_flagged
+from compare import RUST_LETTERS, ask, double_of, hex_of, read_flagged
 
 RANDOM = 100000
 SEED = 14
 SHIFTS = 100
-LETTERS = "PABCIRF"
 
 PICKED = [
-    b"P 1a'", b"P 1'", b"P 1 1c'", b"-P 1'", b"P -1'", b"-P 4 2 3 1'", b"-F 4 2 3 1'", b"-I 4bd 2c 3 1'", b"P 3'", b"P 6'", b"P 3* 2'", b"P 31'", b"P 41'", b"P 4w'",
-    b"P 61 2' (0 0 -1)", b"-P 2ab' 2ac' (1 2 3)", b"C 1a' 1b'", b"R 3' 2='", b"-R 3 2=c'", b"H 3'", b"-H 3' 2", b"P 2 2' 3", b"P 4' 2 3'", b"P 2^'", b"P 2=x'",
-    b"P 2'a", b"P 2''", b"P 2a'b'", b"P 2'1", b"P 21''", b"P 2'q", b"P '", b"P -'", b"P ''", b"P' 1", b"-P' 1", b"P'", b"'P 1", b"P 1 '", b"P 2 (0 0 1')", b"P 2 (0 0 1)'",
-    b"P 2' (0 0 1", b"P (0 0 0)'", b"P 2'(0 0 0)", b"P 1x'", b"P 22'", b"P 2aa'", b"P 2x1'", b"P 3* 2^'", b"P 3*' 2^", b"P' 2'", b"P2'", b"p 1'",
-    b"R 2'", b"-R 2'", b"A 4'", b"R 3 2x'", b"P 4 6'", b"P 4' 6", b"P 3' 2x", b"P 1a", b"P 1a' 1b'", b"P 1' 1a'", b"P 2w'", b"P 3w'", b"P 4a' 2u",
-    b"P 1'".ljust(80), b"P 1'".ljust(81), b"P" + b" 1'" * 8, b"P" + b" 1'" * 9, b"P\xc2\xa01'", b"P 1\xc3\xa9'", b"P 1'\xff", b"",
+    b"P 1a'", b"P 1'", b"P 1 1c'", b"-P 1'", b"P -1'", b"-P 4 2 3 1'", b"-F 4 2 3 1'", b"-I 4bd 2c 3 1'", b"P 3'", b"P 6'", b"P 3* 2'", b"P 31'", b"P 41'",
+    b"P 4w'", b"P 61 2' (0 0 -1)", b"-P 2ab' 2ac' (1 2 3)", b"C 1a' 1b'", b"R 3' 2='", b"-R 3 2=c'", b"H 3'", b"-H 3' 2", b"P 2 2' 3", b"P 4' 2 3'",
+    b"P 2^'", b"P 2=x'", b"P 2'a", b"P 2''", b"P 2a'b'", b"P 2'1", b"P 21''", b"P 2'q", b"P '", b"P -'", b"P ''", b"P' 1", b"-P' 1", b"P'", b"'P 1",
+    b"P 1 '", b"P 2 (0 0 1')", b"P 2 (0 0 1)'", b"P 2' (0 0 1", b"P (0 0 0)'", b"P 2'(0 0 0)", b"P 1x'", b"P 22'", b"P 2aa'", b"P 2x1'", b"P 3* 2^'",
+    b"P 3*' 2^", b"P' 2'", b"P2'", b"p 1'", b"R 2'", b"-R 2'", b"A 4'", b"R 3 2x'", b"P 4 6'", b"P 4' 6", b"P 3' 2x", b"P 1a", b"P 1a' 1b'", b"P 1' 1a'",
+    b"P 2w'", b"P 3w'", b"P 4a' 2u", b"P 1'".ljust(80), b"P 1'".ljust(81), b"P" + b" 1'" * 8, b"P" + b" 1'" * 9, b"P\xc2\xa01'", b"P 1\xc3\xa9'",
+    b"P 1'\xff", b"",
 ]
 
 
@@ -65,7 +65,7 @@ def sort_symbol(text, said, answer, generators):
     """What the model's word and the original's two answers are: (kind, whether it is listed)."""
     words = answer.split(" ")
     refused = isinstance(said[0], int)
-    if words[0] not in LETTERS:
+    if words[0] not in RUST_LETTERS:
         return compare.sort_symbol(text, said, answer, plain_generators(generators) if words[0] == "endless" else generators)
     if not refused:
         return ("same list", True) if (words[0], read_flagged(words[1:])) == (said[0], exact(said[1])) else ("lists differ", False)

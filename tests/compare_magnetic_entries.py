@@ -58,14 +58,20 @@ def accepted(calls, text, letter, numbers, indices):
         calls.call("magnetic_operation", text, index, gives=packed(28))
 
 
-def by_model(calls, text):
+def by_model(calls, text, noise):
+    """A text as the model answers it, its record with it; answers what the model says."""
     said = model.outcome(model.group_of_magnetic, text)
     if isinstance(said[0], int):
         refused(calls, text, packed(*said))
     else:
         letter, operations = said
         accepted(calls, text, letter, [model.flagged_number(*operation) for operation in operations], range(len(operations)))
+        write_everywhere(calls, "magnetic_record", text, model.magnetic_record(letter, operations), noise)
     return said
+
+
+def own_texts():
+    return [model.text_of_hex(word) for word, *_ in recorded("magnetic.txt")]
 
 
 def own_symbols(calls, share):
@@ -76,11 +82,11 @@ def own_symbols(calls, share):
         accepted(calls, model.text_of_hex(word), letter, numbers, range(len(numbers)) if place % share == 0 else (len(numbers) - 1,))
 
 
-def unprimed(calls, share):
-    """Plain symbols through the new entries: a text without a `'` has the plain list, its flags 0, or the plain refusal; one with a `'` has a word of its own."""
+def unprimed(calls, share, noise):
+    """Plain symbols through these entries: a text without a `'` has the plain list with flags 0, or the plain refusal."""
     for word, number, place, *_ in recorded("symbols.txt")[::share]:
         text = model.text_of_hex(word)
-        said = by_model(calls, text)
+        said = by_model(calls, text, noise)
         if b"'" not in text:
             plain = model.outcome(model.group_of_symbol, text)
             same = said == plain if isinstance(plain[0], int) else said == (plain[0], [operation + (0,) for operation in plain[1]])
@@ -132,13 +138,13 @@ def judged(calls, buffer, noise):
     count = answer_of(said, lambda group: len(group[1]))
     calls.call("magnetic_record_order", buffer, gives=count)
     calls.call("magnetic_record_letter", buffer, gives=answer_of(said, lambda group: ord(group[0])))
-    start = noise.below(7)
-    lent = noise.bytes(start + MOST_RECORD)
+    start, more = noise.below(7), noise.below(7)
+    lent = noise.bytes(start + len(buffer) + more)
     left = lent if isinstance(said[0], int) else written(lent, start, model.copied_magnetic_record(buffer))
     calls.call("magnetic_record_copy", buffer, lent, start, gives=count, leaves=[left])
     no_room = answer_of(said, lambda _: packed(20))
     calls.call("magnetic_record_copy", buffer, noise.bytes(10), 0, gives=no_room)
-    calls.call("magnetic_record_copy", buffer, lent, BEYOND[noise.below(5)], gives=no_room)
+    calls.call("magnetic_record_copy", buffer, lent[:BEYOND[0]], BEYOND[noise.below(5)], gives=no_room)
     calls.call("magnetic_record_copy", buffer, None, 0, gives=no_room)
 
 
@@ -275,8 +281,7 @@ def other_flag(letter, generators, operations, shift, noise, family):
 
 
 def rewordings(calls, share, noise):
-    texts = [model.text_of_hex(word) for word, *_ in recorded("magnetic.txt")[::share]]
-    said = compare_rewordings.worded(texts, noise, MAGNETIC, compare_rewordings.OTHER + (other_flag,))
+    said = compare_rewordings.worded(own_texts()[::share], noise, MAGNETIC, compare_rewordings.OTHER + (other_flag,))
     compare_rewordings.records_say_sets(calls, "magnetic_record", bytes(MOST_RECORD), said)
 
 
@@ -292,12 +297,10 @@ def main():
     for entry, more in (("order", ()), ("letter", ()), ("copy", (None, 0))):
         calls.call("magnetic_record_" + entry, None, *more, gives=packed(30))
     own_symbols(calls, share)
-    unprimed(calls, share)
-    for text in list(BY_HAND) + cases.shifted_magnetic_symbols(SHIFTS, SEED)[::share]:
-        by_model(calls, text)
-    own = [model.text_of_hex(word) for word, *_ in recorded("magnetic.txt")]
-    for text in cases.magnetic_symbols(own, RANDOM_SYMBOLS // share, SEED):
-        by_model(calls, text)
+    unprimed(calls, share, noise)
+    shifted = cases.shifted_magnetic_symbols(SHIFTS, SEED)[::share]
+    for text in list(BY_HAND) + shifted + cases.magnetic_symbols(own_texts(), RANDOM_SYMBOLS // share, SEED):
+        by_model(calls, text, noise)
     known = own_records(calls, share, noise)
     for text in PICKED:
         record = model.magnetic_record(*model.group_of_magnetic(text))
