@@ -161,7 +161,8 @@ static void print_counts(void)
                 together += all.conjugates[layer];
                 break;
             }
-    printf("conjugates times the normalizer's order is %lu for %lu of %lu subgroups\n", (unsigned long)all.order, (unsigned long)fitting, (unsigned long)all.layers);
+    printf("conjugates times the normalizer's order is %lu for %lu of %lu subgroups\n", (unsigned long)all.order, (unsigned long)fitting,
+           (unsigned long)all.layers);
     printf("the order divides %lu for %lu of %lu subgroups\n", (unsigned long)all.order, (unsigned long)dividing, (unsigned long)all.layers);
     printf("the %lu classes hold %lu subgroups together, and %lu are listed\n", (unsigned long)all.classes, (unsigned long)together, (unsigned long)all.layers);
 }
@@ -324,14 +325,13 @@ int main(int argc, char **argv)
     enum family family = PLAIN;
     int picture = 0, at = 1, status;
 
-    if (at < argc && strcmp(argv[at], "--svg") == 0) {
-        picture = 1;
-        at++;
-    }
-    if (at < argc && strncmp(argv[at], "--", 2) == 0) {
-        family = family_of(argv[at++]);
-        if (family == PLAIN)
-            return misused("no such option, or not in this order");
+    for (; at < argc && strncmp(argv[at], "--", 2) == 0; at++) {
+        if (strcmp(argv[at], "--svg") == 0)
+            picture = 1;
+        else if (family != PLAIN)
+            return misused("one of --record, --layer and --magnetic");
+        else if ((family = family_of(argv[at])) == PLAIN)
+            return misused("no such option");
     }
     if (at + 1 != argc)
         return misused(family == RECORD ? "one record is asked for" : "one symbol is asked for");

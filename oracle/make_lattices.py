@@ -16,8 +16,8 @@ sys.path.insert(0, os.path.dirname(os.path.abspath(__file__)))
 import model
 from compare_gap import number, read_lists
 
-SYMBOLS = ["P 2 2", "P 4", "-P 4", "P 4 2", "-P 2ac 2n", "P 6 2", "-P 3 2=", "-C 2 2", "P 4 2c", "-P 4 2", "P 2 2 3", "-P 6 2", "P 4 2 3", "-I 2 2 3", "-F 4 2 3",
-           "-P 4 2 3"]
+SYMBOLS = ["P 2 2", "P 4", "-P 4", "P 4 2", "-P 2ac 2n", "P 6 2", "-P 3 2=", "-C 2 2", "P 4 2c", "-P 4 2", "P 2 2 3", "-P 6 2", "P 4 2 3",
+           "-I 2 2 3", "-F 4 2 3", "-P 4 2 3"]
 
 ASK = """
 describe := function(table, identity)

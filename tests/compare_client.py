@@ -5,8 +5,8 @@
 
 CLIENT is client/layers.c, compiled. For each lattice that GAP was asked for, the picture must be well-formed XML with a node for each subgroup and a line for
 each maximal inclusion, between the subgroups between which GAP has it; conjugate subgroups must stand side by side in one frame and one colour, no two nodes
-may meet, and no line may go over a node. Order, class, conjugates and normalizer's order of the text must be GAP's. The picture in the README is the one that
-is written.
+may meet, and no line may go over a node. Order, class, conjugates and normalizer's order of the text must be GAP's. The examples and the picture in the
+README are what is written.
 Prints 'N passed, M failed'.
 """
 
@@ -120,14 +120,17 @@ REFUSED = {
     ("P 1a",): "layers: refused 14: one rotation with two translations\n",
     ("--layer", "P 2"): "layers: refused 4: the first token is no lattice letter\n  P 2\n  ^\n  a layer symbol begins with p or c\n",
     ("--layer", "p 2aq"): "layers: refused 5: a misspelt token\n  p 2aq\n      ^\n",
-    ("--layer", "p 21"): "layers: refused 19: an operation that is none of a layer (operation 1 of its list; they count from 0, and the identity is the first)\n",
+    ("--layer", "p 21"): "layers: refused 19: an operation that is none of a layer"
+                         " (operation 1 of its list; they count from 0, and the identity is the first)\n",
     ("P 3 2'",): "layers: refused 8: an apostrophe\n  P 3 2'\n      ^\n"
                  "  the mark ' of printed lists is written ^ here; a time reversal is read by ./layers --magnetic SYMBOL\n",
     ("--magnetic", "P 1'a"): "layers: refused 8: an apostrophe\n  P 1'a\n    ^\n  a time reversal is one apostrophe at the end of a token\n",
     ("--magnetic", "P 2q'"): "layers: refused 5: a misspelt token\n  P 2q'\n     ^\n",
+    ("--record", "--svg", "00"): "layers: refused 30: a record of under 9 bytes\n",
     ("--record", "00"): "layers: refused 30: a record of under 9 bytes\n",
 }
-MISUSED = [(), ("P 1", "P 1"), ("--fast", "P 1"), ("--record", "0"), ("--record", "0G"), ("--record",), ("--layer",), ("--record", "--svg", "00"), ("--svg", "--magnetic", "P 1"), ("--magnetic",)]
+MISUSED = [(), ("P 1", "P 1"), ("--fast", "P 1"), ("--record", "0"), ("--record", "0G"), ("--record",), ("--layer",),
+           ("--record", "--layer", "00"), ("--svg", "--magnetic", "P 1"), ("--magnetic",)]
 
 
 def recorded():
@@ -143,6 +146,14 @@ def recorded():
             else:
                 inclusions.update((int(words[0]), int(low)) for low in words[1:])
     return lattices
+
+
+def examples():
+    """The calls of ./layers that the README shows, and what it shows behind each."""
+    with open(os.path.join(ROOT, "README.md")) as file:
+        shown = re.findall(r"^    \$ \./layers (.*)\n((?:    [^$\n].*\n)*)", file.read(), re.M)
+    for call, lines in shown:
+        yield tuple(shlex.split(call)), re.sub("^    ", "", lines, flags=re.M)
 
 
 def numbers(element, *names):
@@ -199,7 +210,10 @@ class Picture:
 
 
 def is_drawn(text, classes, inclusions):
-    picture = Picture(text)
+    try:
+        picture = Picture(text)
+    except tree.ParseError:
+        return False
     found = picture.classes()
     return (sorted(picture.layer_at.values()) == list(range(sum(len(layers) for _, _, layers in classes))) and set(picture.layer_at) == set(picture.circles)
             and sorted(picture.inclusions()) == sorted(inclusions) and picture.is_clear()
@@ -245,6 +259,9 @@ def main():
     # Bytes that are good in a symbol and not in XML.
     holds("white space in a picture", tree.fromstring(ask("--svg", "P\v4\f2").stdout) is not None)
     holds("a layer symbol's picture", Picture(ask("--svg", "--layer", "p 4 2").stdout).is_clear())
+    for words, shown in examples():
+        said = ask(*words)
+        holds("%r in the README" % (words,), said.stdout + said.stderr == shown)
     with open(os.path.join(ROOT, "docs", "layers_of_P_4_2.svg")) as file:
         holds("the picture in the README", ask("--svg", "P 4 2").stdout == file.read())
     print("%d passed, %d failed" % (tally[True], tally[False]))
