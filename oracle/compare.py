@@ -16,6 +16,8 @@ from collections import Counter
 import cases
 import model
 
+# The letters that the Rust knows.
+RUST_LETTERS = "PABCIRF"
 UNICODE_SPACE = re.compile("[\x85\xa0\u1680\u2000-\u200a\u2028\u2029\u202f\u205f\u3000]")
 
 
@@ -43,6 +45,14 @@ def read_list(words):
     assert len(rest) == 12 * count
     items = [rest[i:i + 12] for i in range(0, len(rest), 12)]
     return [(tuple(map(int, item[:9])), tuple(int(word, 16) for word in item[9:])) for item in items]
+
+
+def read_flagged(words):
+    """Magnetic operations as the harness writes them: rotation, the bits of three doubles, and the flag."""
+    count, rest = int(words[0]), words[1:]
+    assert len(rest) == 13 * count
+    items = [rest[i:i + 13] for i in range(0, len(rest), 13)]
+    return [(tuple(map(int, item[:9])), tuple(int(word, 16) for word in item[9:12]), int(item[12])) for item in items]
 
 
 def exact(operations):

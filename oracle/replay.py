@@ -58,6 +58,18 @@ def generators_agree(hexed, *answer):
     return (letter, rounded) == said and points == len(model.POINTS[letter])
 
 
+def layer_agrees(hexed, letter, *answer):
+    """The letter in small, and the list."""
+    said = model.group_of_layer(model.text_of_hex(hexed))
+    return (letter.lower(), read_list(answer)) == (said[0], exact(said[1]))
+
+
+def magnetic_agrees(hexed, letter, order, *numbers):
+    """The letter, the order, and the number of each operation with its flag."""
+    said = model.group_of_magnetic(model.text_of_hex(hexed))
+    return (letter, [int(number) for number in numbers]) == (said[0], [model.flagged_number(*each) for each in said[1]]) and int(order) == len(said[1])
+
+
 def type_agrees(code, character):
     said = model.outcome(model.rotation_type, model.rotation_of(code))
     return said == ((15, 0) if character == "." else TYPE_FOLDS[int(character)])
@@ -123,6 +135,8 @@ def main():
         ("records.txt", [record_agrees(*line) for line in lines_of("records.txt")]),
         ("generators.txt", [generators_agree(*line) for line in lines_of("generators.txt")]),
         ("operations.txt", [operations_agree(*line) for line in lines_of("operations.txt")]),
+        ("layers.txt", [layer_agrees(*line) for line in lines_of("layers.txt")]),
+        ("magnetic.txt", [magnetic_agrees(*line) for line in lines_of("magnetic.txt")]),
         ("rotation_types.txt", [type_agrees(*each) for each in enumerate(types)]),
         ("tables.txt", [table_agrees(*table) for table in tables_of(lines_of("tables.txt"))]),
     ]
