@@ -24,7 +24,7 @@ struct lattice {
     size_t class_of[LATTICE_MOST], conjugates[LATTICE_MOST];
 };
 
-static unsigned lattice_members(uint64_t set)
+static inline unsigned lattice_members(uint64_t set)
 {
     unsigned count = 0;
     for (; set != 0; set &= set - 1)
@@ -33,7 +33,7 @@ static unsigned lattice_members(uint64_t set)
 }
 
 /* The layer of a listed subgroup. */
-static size_t lattice_layer(const struct lattice *all, uint64_t set)
+static inline size_t lattice_layer(const struct lattice *all, uint64_t set)
 {
     size_t layer = 0;
     while (layer + 1 < all->layers && all->sets[layer] != set)
@@ -41,20 +41,20 @@ static size_t lattice_layer(const struct lattice *all, uint64_t set)
     return layer;
 }
 
-static uint64_t lattice_list(const struct lattice_source *from, int classes, uint8_t *sets, size_t length)
+static inline uint64_t lattice_list(const struct lattice_source *from, int classes, uint8_t *sets, size_t length)
 {
     if (from->is_record)
         return classes ? symmetry_record_classes(from->bytes, from->length, sets, length) : symmetry_record_subgroups(from->bytes, from->length, sets, length);
     return classes ? symmetry_symbol_classes(from->bytes, from->length, sets, length) : symmetry_symbol_subgroups(from->bytes, from->length, sets, length);
 }
 
-static uint64_t lattice_normalizer(const struct lattice_source *from, uint64_t set)
+static inline uint64_t lattice_normalizer(const struct lattice_source *from, uint64_t set)
 {
     return from->is_record ? symmetry_record_normalizer(from->bytes, from->length, set) : symmetry_symbol_normalizer(from->bytes, from->length, set);
 }
 
 /* One class: its members get its number, how many they are, and their normalizers. */
-static uint64_t lattice_class(const struct lattice_source *from, struct lattice *all, size_t number, uint64_t first)
+static inline uint64_t lattice_class(const struct lattice_source *from, struct lattice *all, size_t number, uint64_t first)
 {
     uint8_t alike[8 * SYMMETRY_MOST_ORDER], conjugators[SYMMETRY_MOST_ORDER];
     uint64_t answer, found;
@@ -77,7 +77,7 @@ static uint64_t lattice_class(const struct lattice_source *from, struct lattice 
 }
 
 /* 0, or the refused answer. */
-static uint64_t lattice_gather(const struct lattice_source *from, struct lattice *all)
+static inline uint64_t lattice_gather(const struct lattice_source *from, struct lattice *all)
 {
     uint8_t sets[8 * LATTICE_MOST];
     uint64_t answer;

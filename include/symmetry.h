@@ -1,6 +1,7 @@
 /*
  * Groups of crystal symmetry, from C or C++: what a Hall symbol, a group record or a table of products says, and the subgroups of such a group.
- * Link with libcalls.a, which `rt staticlib calls` makes for x86-64.
+ * Link with libcalls.a, which `rt staticlib calls` makes for x86-64 under target/staticlib. examples/layers.c is a small client. docs/RULES.md has all rules,
+ * among them how symbols are spelt (R1, R2), what a record is (R5) and every refusal (R8).
  *
  * Every function is a pure one: the same arguments get the same answer, on every day and every machine. Nothing is kept between calls but what the
  * caller lends, there is no heap, and calls from several threads do not meet unless they lend the same memory.
@@ -9,7 +10,8 @@
  * as many bytes as the length says; NULL with length 0 is an empty slice. A slice that is lent for writing overlaps no other slice of the call.
  *
  * Answers. Each function returns one number. Its top byte is 0 and the value stands below it; or its top byte is the number of a refusal and the rest
- * is the refusal's place. Two different answers never share a number. symmetry_number, symmetry_place and symmetry_value take an answer apart.
+ * is the refusal's place. Two different answers never share a number. symmetry_number, symmetry_place and symmetry_value take an answer apart; ask
+ * symmetry_refused first, since a refusal has no value. symmetry_reason says a refusal's number in words, and what its place is stands at the number below.
  *
  * Sources. The functions come in families that differ in what the group is given by:
  *   symmetry_symbol_...   text    the bytes of a Hall symbol, at most 80; no byte 0 ends it. Elements are numbered in list order: breadth first from
@@ -29,7 +31,8 @@
  * Sets. A set of elements is a 64-bit number: bit i is set if i is a member. A list of sets is lent as bytes, eight bytes a slot, high byte first;
  * bytes left over behind the last whole slot are no slot and are never written. symmetry_set reads a slot. In a list of conjugators or positions a
  * slot is one byte. In the order of a list of sets, the one with more members stands first; of two with as many, the one that holds the lowest
- * element in which they differ. So a subgroup has the same position in its list whenever it is asked for.
+ * element in which they differ. So a subgroup has the same position in its list whenever it is asked for: that position, from 0, is its layer number. A
+ * symbol and its record number their elements differently, so one subgroup may have two layer numbers, one by the symbol and one by the record.
  *
  * Lent memory. Where a function writes, its comment says what the lent bytes hold after it: in the first slots a list, and every other byte as it
  * was. Where the answer is a refusal nothing was written, except by refusal 26: it leaves 0 in every slot of every list lent to that call. Lists that
@@ -382,6 +385,7 @@ uint64_t symmetry_line_operation(const uint8_t *line, size_t line_length);
  * read as the same operation. 34, then 42, then 20.
  */
 uint64_t symmetry_operation_line(const uint8_t *operation, size_t operation_length, uint8_t *out, size_t out_length);
+
 /* ---- catalogues ---- */
 
 /*
@@ -435,9 +439,12 @@ uint64_t symmetry_table_conjugate(uint64_t order, const uint8_t *table, size_t t
  * that conjugates to it: the subgroup itself first with the identity, then the others in the order of lists. Answers how many there are. 27 if the
  * set is no subgroup, then 26 if either list is too short; both lists are 0 then, also one that was long enough.
  */
-uint64_t symmetry_symbol_conjugates(const uint8_t *text, size_t text_length, uint64_t set, uint8_t *sets, size_t sets_length, uint8_t *conjugators, size_t conjugators_length);
-uint64_t symmetry_record_conjugates(const uint8_t *record, size_t record_length, uint64_t set, uint8_t *sets, size_t sets_length, uint8_t *conjugators, size_t conjugators_length);
-uint64_t symmetry_table_conjugates(uint64_t order, const uint8_t *table, size_t table_length, uint64_t set, uint8_t *sets, size_t sets_length, uint8_t *conjugators, size_t conjugators_length);
+uint64_t symmetry_symbol_conjugates(const uint8_t *text, size_t text_length, uint64_t set, uint8_t *sets, size_t sets_length,
+                                    uint8_t *conjugators, size_t conjugators_length);
+uint64_t symmetry_record_conjugates(const uint8_t *record, size_t record_length, uint64_t set, uint8_t *sets, size_t sets_length,
+                                    uint8_t *conjugators, size_t conjugators_length);
+uint64_t symmetry_table_conjugates(uint64_t order, const uint8_t *table, size_t table_length, uint64_t set, uint8_t *sets, size_t sets_length,
+                                   uint8_t *conjugators, size_t conjugators_length);
 
 /* The set of the elements that conjugate a subgroup to itself. 27 if the set is no subgroup. */
 uint64_t symmetry_symbol_normalizer(const uint8_t *text, size_t text_length, uint64_t set);
@@ -451,7 +458,8 @@ uint64_t symmetry_table_normalizer(uint64_t order, const uint8_t *table, size_t 
  */
 uint64_t symmetry_symbol_permutation(const uint8_t *text, size_t text_length, uint64_t set, uint64_t element, uint8_t *positions, size_t positions_length);
 uint64_t symmetry_record_permutation(const uint8_t *record, size_t record_length, uint64_t set, uint64_t element, uint8_t *positions, size_t positions_length);
-uint64_t symmetry_table_permutation(uint64_t order, const uint8_t *table, size_t table_length, uint64_t set, uint64_t element, uint8_t *positions, size_t positions_length);
+uint64_t symmetry_table_permutation(uint64_t order, const uint8_t *table, size_t table_length, uint64_t set, uint64_t element,
+                                    uint8_t *positions, size_t positions_length);
 
 #ifdef __cplusplus
 }

@@ -1,7 +1,7 @@
 """The inputs that the recorded answers are made for: symbols, damaged symbols and tables.
 
 Everything here is fixed: the same call gives the same list on every machine. The symbols are picked by hand or run
-through by rule, so that each rule and each refusal of the scope document ("01") is met several times.
+through by rule, so that each rule and each refusal of docs/RULES.md is met several times.
 """
 
 import random
@@ -141,13 +141,16 @@ def all_letters():
     return ["%s%s %s" % each for each in product(("", "-"), LETTERS, ("1", "2", "2^", "3", "3*", "4", "6"))]
 
 
-def shifted_symbols():
-    """Every sign and matrix under every shift."""
+def signed_matrices():
+    """An N token for every sign and matrix."""
     axes = ["1"] + [fold + axis for fold in "2346" for axis in "xyz"] + ["3*"]
     axes += ["2" + mark + axis for mark in "^=" for axis in "xyz"]
-    tokens = [sign + token for token in axes for sign in ("", "-")]
-    return [b"P %s (%d %d %d)" % ((token.encode(),) + shift)
-            for token in tokens for shift in product(range(12), repeat=3)]
+    return [(sign + token).encode() for token in axes for sign in ("", "-")]
+
+
+def shifted_symbols():
+    """Every sign and matrix under every shift."""
+    return [b"P %s (%d %d %d)" % ((token,) + shift) for token in signed_matrices() for shift in product(range(12), repeat=3)]
 
 
 def signed_shifts():
@@ -239,6 +242,40 @@ def random_layer_symbol(chance):
 def layer_symbols(count, seed):
     chance = random.Random(seed)
     return (random_layer_symbol(chance) for _ in range(count))
+
+
+# Magnetic symbols -------------------------------------------------------------------------------------------------
+
+def shifted_magnetic_symbols(count, seed):
+    """Every sign and matrix with and without time reversal, under shifts that `seed` fixes."""
+    chance = random.Random(seed)
+    shifts = chance.sample(list(product(range(-11, 12), repeat=3)), count)
+    return [b"P %s%s (%d %d %d)" % ((token, reversal) + shift) for token in signed_matrices() for reversal in (b"", b"'") for shift in shifts]
+
+
+def random_magnetic_symbol(chance):
+    """A random symbol, each of its N tokens perhaps with time reversal, sometimes with a grey or an antitranslating token at its end."""
+    text, opened, shift = random_symbol(chance).partition(b" (")
+    words = text.split(b" ")
+    words[1:] = [word + b"'" if word and chance.random() < 0.4 else word for word in words[1:]]
+    if chance.random() < 0.3:
+        words.append(chance.choice((b"1'", b"1a'", b"1b'", b"1c'", b"1n'", b"1ab'", b"-1'")))
+    return b" ".join(words) + opened + shift
+
+
+def magnetic_symbols(database, count, seed):
+    """Random magnetic symbols, and random or database ones with edits, some of them with one `'` more; `seed` fixes them."""
+    chance = random.Random(seed)
+    texts = []
+    while len(texts) < count:
+        text = random_magnetic_symbol(chance) if chance.random() < 0.7 else chance.choice(database)
+        if chance.random() < 0.4:
+            text = damaged(chance, text)
+        if chance.random() < 0.2:
+            at = chance.randrange(len(text) + 1)
+            text = text[:at] + b"'" + text[at:]
+        texts.append(text)
+    return texts
 
 
 # Damaged records --------------------------------------------------------------------------------------------------
@@ -489,7 +526,7 @@ def altered(table, *changes):
 
 
 def other_tables():
-    """(name, order, entries) of what 01 refuses as a table."""
+    """(name, order, entries) of what the rules refuse as a table."""
     # A Latin square with identity and inverses that is no group's: every loop of order 5 but C5 is one.
     loop = [[0, 1, 2, 3, 4], [1, 0, 3, 4, 2], [2, 4, 0, 1, 3], [3, 2, 4, 0, 1], [4, 3, 1, 2, 0]]
     left_only = [[0, 1, 2], [0, 1, 2], [0, 1, 2]]

@@ -18,6 +18,8 @@ trap 'rm -rf "$work"' EXIT
 for program in harness harness-reversed; do
     mkdir "$work/$program"
     python3 "$here/make_recorded.py" "$work/build/$program" "$work/$program"
+    python3 "$here/compare_layers.py" "$work/build/$program" record >"$work/$program/layers.txt"
+    python3 "$here/compare_magnetic.py" "$work/build/$program" record >"$work/$program/magnetic.txt"
     for file in "$work/$program"/*; do
         cmp "$file" "$here/recorded/$(basename "$file")"
     done

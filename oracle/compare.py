@@ -1,5 +1,5 @@
 #!/usr/bin/env python3
-"""Puts the model of 01 beside the Rust original, symbol by symbol, and sorts every difference.
+"""Puts the model of the rules beside the Rust original, symbol by symbol, and sorts every difference.
 
     python3 oracle/compare.py HARNESS [COUNT [SEED]]
 
@@ -16,6 +16,8 @@ from collections import Counter
 import cases
 import model
 
+# The letters that the Rust knows.
+RUST_LETTERS = "PABCIRF"
 UNICODE_SPACE = re.compile("[\x85\xa0\u1680\u2000-\u200a\u2028\u2029\u202f\u205f\u3000]")
 
 
@@ -45,6 +47,14 @@ def read_list(words):
     return [(tuple(map(int, item[:9])), tuple(int(word, 16) for word in item[9:])) for item in items]
 
 
+def read_flagged(words):
+    """Magnetic operations as the harness writes them: rotation, the bits of three doubles, and the flag."""
+    count, rest = int(words[0]), words[1:]
+    assert len(rest) == 13 * count
+    items = [rest[i:i + 13] for i in range(0, len(rest), 13)]
+    return [(tuple(map(int, item[:9])), tuple(int(word, 16) for word in item[9:12]), int(item[12])) for item in items]
+
+
 def exact(operations):
     return [(rotation, tuple(map(model.bits, model.doubles(translation)))) for rotation, translation in operations]
 
@@ -70,7 +80,7 @@ def finite(generators):
     return True
 
 
-# Where 01 refuses and the original answers a list: what must hold of the text for the difference to be a listed one ----
+# Where the rules refuse and the original answers a list: what must hold of the text for the difference to be a listed one ----
 
 RUST_NUMBER = re.compile(r"[+-]?(inf|infinity|nan|(\d+\.?\d*|\.\d+)(e[+-]?\d+)?)", re.IGNORECASE)
 
@@ -101,7 +111,7 @@ def lone_mark_after_diagonal(text):
 
 
 def unchecked_list(text, found):
-    """The breadth-first list of the generators as 01 reads them, without the checks behind 12 to 14."""
+    """The breadth-first list of the generators as the rules read them, without the checks behind 12 to 14."""
     return found == exact(model.listed_operations(model.read_symbol(text)[1]))
 
 
@@ -162,7 +172,7 @@ def sort_symbol(text, said, answer, generators):
 
 
 def sort_generators(text, answer):
-    """For a symbol that 01 reads: what `new` answers beside the model's generators."""
+    """For a symbol that the rules read: what `new` answers beside the model's generators."""
     said = model.outcome(model.read_symbol, text)
     if isinstance(said[0], int):
         return None
@@ -200,7 +210,7 @@ def pure_translations(generators):
 
 
 def sort_translations(text, said):
-    """For a symbol that is accepted or refused 14: whether 01's own words give the same decision."""
+    """For a symbol that is accepted or refused 14: whether the words of R3.5 give the same decision."""
     if isinstance(said[0], int) and said[0] != 14:
         return None
     letter, generators = model.read_symbol(text)

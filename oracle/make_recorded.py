@@ -1,5 +1,5 @@
 #!/usr/bin/env python3
-"""Writes the recorded answers: what the Rust original says, and what the model of 01 says, in plain lines.
+"""Writes the recorded answers: what the Rust original says, and what the model of the rules says, in plain lines.
 
     python3 oracle/make_recorded.py HARNESS OUT_FOLDER
 

@@ -1,15 +1,15 @@
 #!/usr/bin/env python3
-"""The rules of the scope document ("01") as a plain program, with those of the requests ("02") that have landed.
+"""The rules of docs/RULES.md as a plain program.
 
-It is written from these two alone: it shares no line with the Rust original and none with the port, and it is kept as the
+It is written from their text alone: it shares no line with the Rust original and none with the port, and it is kept as the
 independent judge of what is accepted, what is refused with which number and place, and what each answer holds.
 All arithmetic is in whole numbers; a translation is a triple of twelfths. Speed is no aim.
 
-    python3 oracle/model.py test        run the examples of 01
+    python3 oracle/model.py test        run the examples of the rules
     python3 oracle/model.py answers     one answer line for each input line (see `answer_line`)
     python3 oracle/model.py program     what the port's program writes for the bytes on standard input
 
-A section below has the name of the section of 01 that it states.
+A section below says which section of the rules it states, by its name.
 """
 
 import re
@@ -94,7 +94,14 @@ def tokens_of(text):
 
 
 def read_symbol(text, letters=LETTERS):
-    """Letter and generators of a symbol's bytes; refusals 1 to 11."""
+    """Letter and generators of a symbol's bytes; refusals 1 to 11 and 17."""
+    letter, inverted, read, shift = read_parts(text, letters, read_n_token)
+    inversion = [(INVERSION, NO_TRANSLATION)] if inverted else []
+    return letter, [shifted(*operation, shift) for operation in inversion + [token[:2] for token in read]]
+
+
+def read_parts(text, letters, read_token):
+    """The letter, whether the inversion is there, what `read_token` says of each N token, and the shift; refusals 1 to 11 and 17."""
     if len(text) > MOST_BYTES:
         raise Refusal(1, MOST_BYTES)
     for place, byte in enumerate(text):
@@ -119,15 +126,16 @@ def read_symbol(text, letters=LETTERS):
             break
         if len(read) == MOST_N_TOKENS:
             raise Refusal(11, place)
-        read.append(read_n_token(token, place, read))
+        read.append(read_token(token, place, read))
     if not read:
         raise Refusal(10, len(text))
+    return letter, inverted, read, shift
 
-    generators = [(INVERSION, mod_cell(plus(shift, shift)))] if inverted else []
-    for rotation, translation, _, _ in read:
-        moved = plus(plus(translation, shift), tuple(-part for part in apply(rotation, shift)))
-        generators.append((rotation, mod_cell(moved)))
-    return letter, generators
+
+def shifted(rotation, translation, shift):
+    """The operation moved by a shift v of the origin: t becomes t + v - Rv, so that the inversion's becomes 2v."""
+    moved = plus(plus(translation, shift), tuple(-part for part in apply(rotation, shift)))
+    return rotation, mod_cell(moved)
 
 
 def read_shift(text, place):
@@ -141,16 +149,22 @@ def read_shift(text, place):
     return tuple(int(number) for number in numbers)
 
 
-def read_n_token(token, place, before):
-    """Rotation, translation, fold and axis of one N token, given those before it; refusals 5, 8, 6, 7 and 17.
-
-    By 02 (v) the place of 5 is the first byte that no N token has after the bytes before it, or the token's end where it
-    breaks off, and the place of 7 is the digit's; 6 and 8 are told of the token's start.
-    By 02 (viii) a letter that occurs twice is refused 17, after 7, at the first byte that repeats an earlier one."""
+def spelt_token(token, place):
+    """The parts of an N token; refusal 5."""
     spelt = N_TOKEN.fullmatch(token)
     if spelt is None:
         good = [length for length in range(len(token) + 1) if N_TOKEN_START.fullmatch(token[:length])]
         raise Refusal(5, place + max(good))
+    return spelt
+
+
+def read_n_token(token, place, before):
+    """Rotation, translation, fold and axis of one N token, given those before it; refusals 5, 8, 6, 7 and 17.
+
+    By R8.8 the place of 5 is the first byte that no N token has after the bytes before it, or the token's end where it
+    breaks off, and the place of 7 is the digit's; 6 and 8 are told of the token's start.
+    By R2.7 a letter that occurs twice is refused 17, after 7, at the first byte that repeats an earlier one."""
+    spelt = spelt_token(token, place)
     minus, fold, mark, letter, run = (part.decode() for part in spelt.groups())
     if "'" in run:
         raise Refusal(8, place)
@@ -215,7 +229,7 @@ POINTS = {
     "F": [(0, 0, 0), (0, 6, 6), (6, 0, 6), (6, 6, 0)],
     "H": [(0, 0, 0), (8, 4, 0), (4, 8, 0)],
 }
-# The letters of layers, (vi) of 02, have the lattices of their capitals.
+# The letters of layers, R14.1, have the lattices of their capitals.
 LAYER_LETTERS = "pc"
 POINTS.update((letter, POINTS[letter.upper()]) for letter in LAYER_LETTERS)
 MOST_OPERATIONS = 48
@@ -297,7 +311,7 @@ def group_of_symbol(text):
     return letter, group_of_generators(letter, generators)
 
 
-# Layer groups, (vi) of 02 -------------------------------------------------------------------------------------------
+# Layer groups, R14 -------------------------------------------------------------------------------------------
 
 def of_layer(operation):
     """Whether the entries xz, yz, zx and zy are 0, and z does not move where the entry zz is 1."""
@@ -313,6 +327,93 @@ def group_of_layer(text):
         if not of_layer(operation):
             raise Refusal(19, index)
     return letter, operations
+
+
+# Magnetic symbols, R15 ----------------------------------------------------------------------------------------------
+
+# A flagged operation is a rotation, a translation and a flag: 1 with time reversal, 0 without.
+MOST_FLAGGED = 96
+FLAGGED_IDENTITY = (IDENTITY, NO_TRANSLATION, 0)
+
+
+def read_magnetic_token(token, place, before):
+    """As `read_n_token`, and the flag last: 1 if the token ends with its only `'`. 8 is more than one, or one that is not last."""
+    spelt_token(token, place)
+    if token.count(b"'") > 1 or b"'" in token[:-1]:
+        raise Refusal(8, place)
+    return read_n_token(token.rstrip(b"'"), place, before) + (token.count(b"'"),)
+
+
+def read_magnetic(text):
+    """Letter and flagged generators of a symbol's bytes, the inversion without a flag; refusals 1 to 11 and 17."""
+    letter, inverted, read, shift = read_parts(text, LETTERS, read_magnetic_token)
+    inversion = [(INVERSION, NO_TRANSLATION, 0)] if inverted else []
+    tokens = [(rotation, translation, flag) for rotation, translation, _, _, flag in read]
+    return letter, [shifted(rotation, translation, shift) + (flag,) for rotation, translation, flag in inversion + tokens]
+
+
+def flagged_product(left, right):
+    """Flags combine by exclusive or."""
+    return product(left[:2], right[:2]) + (left[2] ^ right[2],)
+
+
+def generated_pairs(generators):
+    """All generated pairs of rotation and flag; refusal 13."""
+    found, waiting = {(IDENTITY, 0)}, [(IDENTITY, 0)]
+    for rotation, flag in waiting:
+        for generator, _, other in generators:
+            pair = rotation_product(rotation, generator), flag ^ other
+            if pair not in found:
+                if len(found) == MOST_FLAGGED or any(abs(entry) > 1 for entry in pair[0]):
+                    raise Refusal(13, 0)
+                found.add(pair)
+                waiting.append(pair)
+    return found
+
+
+def check_flagged_translations(letter, generators):
+    """No generated pair of rotation and flag has two translations modulo L; refusal 14."""
+    of_pair = {(IDENTITY, 0): NO_TRANSLATION}
+    waiting = [FLAGGED_IDENTITY]
+    for motion in waiting:
+        for generator in generators:
+            rotation, translation, flag = flagged_product(motion, generator)
+            translation = smallest(letter, translation)
+            if (rotation, flag) not in of_pair:
+                of_pair[rotation, flag] = translation
+                waiting.append((rotation, translation, flag))
+            elif of_pair[rotation, flag] != translation:
+                raise Refusal(14, 0)
+
+
+def listed_flagged(generators):
+    """Breadth first from the identity; the first translation reached stays, one for each pair of rotation and flag."""
+    found = {(IDENTITY, 0): NO_TRANSLATION}
+    waiting = [FLAGGED_IDENTITY]
+    for operation in waiting:
+        for generator in generators:
+            rotation, translation, flag = flagged_product(operation, generator)
+            if (rotation, flag) not in found:
+                found[rotation, flag] = mod_cell(translation)
+                waiting.append((rotation, mod_cell(translation), flag))
+    return waiting
+
+
+def flagged_number(rotation, translation, flag):
+    """A flagged operation as one number: the flag before the code, the code before x, y and z."""
+    x, y, z = translation
+    return (flag * 3 ** 9 + code(rotation)) * 1728 + x * 144 + y * 12 + z
+
+
+def group_of_magnetic(text):
+    """Letter and flagged operations in list order; refusals 1 to 14 and 17."""
+    letter, generators = read_magnetic(text)
+    for index, (rotation, _, _) in enumerate(generators):
+        if not keeps_lattice(letter, rotation):
+            raise Refusal(12, index)
+    generated_pairs(generators)
+    check_flagged_translations(letter, generators)
+    return letter, listed_flagged(generators)
 
 
 TYPES = {
@@ -472,6 +573,75 @@ def allowed(letter, operations):
 def class_of(letter, operation):
     rotation, translation = operation
     return rotation, smallest(letter, translation)
+
+
+# Magnetic records, R15.7 to R15.11 ----------------------------------------------------------------------------------
+
+MAGNETIC_EDITION = 2
+MAGNETIC_ITEM = 6
+LEAST_MAGNETIC = 10
+
+
+def magnetic_record(letter, operations):
+    """Six bytes an operation, the flag last, by code and then by flag; each triple is the smallest of its class."""
+    items = sorted((code(rotation), flag, smallest(letter, translation)) for rotation, translation, flag in operations)
+    body = b"".join(number.to_bytes(2, "big") + bytes(triple) + bytes([flag]) for number, flag, triple in items)
+    length = MAGNETIC_ITEM * len(items) + TRAILER
+    return body + letter.encode() + bytes([MAGNETIC_EDITION, len(items)]) + length.to_bytes(2, "big")
+
+
+def write_magnetic_record(letter, operations, buffer, start):
+    """Puts the record into a lent bytearray and answers the count; refusal 20."""
+    written = magnetic_record(letter, operations)
+    if start > len(buffer) or len(buffer) - start < len(written):
+        raise Refusal(20, 0)
+    buffer[start:start + len(written)] = written
+    return len(operations)
+
+
+def read_magnetic_record(buffer):
+    """Letter and flagged operations of the record of edition 2 that ends where the buffer ends; refusals 30 to 35."""
+    if len(buffer) < LEAST_MAGNETIC:
+        raise Refusal(30, 0)
+    letter, edition, count, length = struct.unpack(">BBBH", buffer[-TRAILER:])
+    if edition != MAGNETIC_EDITION:
+        raise Refusal(31, 0)
+    letter = chr(letter)
+    if letter not in LETTERS:
+        raise Refusal(32, 0)
+    if not 1 <= count <= MOST_FLAGGED or length != MAGNETIC_ITEM * count + TRAILER or length > len(buffer):
+        raise Refusal(33, 0)
+    body = buffer[len(buffer) - length:len(buffer) - TRAILER]
+    items = list(struct.iter_unpack(">HBBBB", body))
+    for number, x, y, z, flag in items:
+        if number > MOST_CODE or max(x, y, z) > 11 or (x, y, z) != smallest(letter, (x, y, z)) or flag > 1:
+            raise Refusal(34, 0)
+    order = [(number, flag) for number, _, _, _, flag in items]
+    if any(this >= following for this, following in zip(order, order[1:])):
+        raise Refusal(34, 0)
+    operations = [(rotation_of(number), (x, y, z), flag) for number, x, y, z, flag in items]
+    if not flagged_allowed(letter, operations):
+        raise Refusal(35, 0)
+    return letter, operations
+
+
+def flagged_allowed(letter, operations):
+    """Determinants of 1 or -1, L kept, the identity with (0,0,0) and without a flag, every product there modulo L with its flag."""
+    held = set(operations)
+    if not all(determinant(rotation) in (1, -1) and keeps_lattice(letter, rotation) for rotation, _, _ in operations):
+        return False
+    if FLAGGED_IDENTITY not in held:
+        return False
+    for left, right in pairs(operations, repeat=2):
+        rotation, translation, flag = flagged_product(left, right)
+        if (rotation, smallest(letter, translation), flag) not in held:
+            return False
+    return True
+
+
+def copied_magnetic_record(buffer):
+    """The record that a buffer ends with."""
+    return magnetic_record(*read_magnetic_record(buffer))
 
 
 # Lines from structure files, R10 ------------------------------------------------------------------------------------
@@ -962,7 +1132,7 @@ def answer_line(line):
     return "what"
 
 
-# The examples of 01 -----------------------------------------------------------------------------------------------
+# The examples of the rules -----------------------------------------------------------------------------------------------
 
 def outcome(action, *arguments):
     """What an action answers, or its refusal as a pair of number and place."""
@@ -982,7 +1152,7 @@ def z_translations(text):
 
 
 def example_symbols():
-    """(name, what the model says, what 01 says) for the symbols of "Symbols to try"."""
+    """(name, what the model says, what the rules say) for symbols that reach every rule."""
     cases = [
         (b"P 1", 1), (b"-P 1", 2), (b"P 1a", (14, 0)), (b"P 2w", (14, 0)), (b"P 2a1", (7, 4)), (b"P 2aa", (17, 4)), (b"P 2ab", 2), (b"P 1x", (6, 2)),
         (b"P 3* 2^", (6, 5)), (b"R 2", (12, 0)), (b"P 4 6", (13, 0)), (b"P", (10, 1)), (b"", (3, 0)),
@@ -997,12 +1167,63 @@ def example_symbols():
     return found
 
 
+# The record of P 1a'.
+MAGNETIC_RECORD = bytes.fromhex("4064000000004064060000015002020011")
+
+
+def magnetic_count(text):
+    answer = outcome(group_of_magnetic, text)
+    return answer if isinstance(answer[0], int) else len(answer[1])
+
+
+def example_magnetics():
+    """(name, what the model says, what R15 says) for magnetic symbols and records."""
+    cases = [
+        (b"P 1a'", 2), (b"P 1'", 2), (b"P 1 1c'", 2), (b"P 1", 1), (b"-P 1", 2), (b"P 1a", (14, 0)), (b"-P 4 2 3 1'", 96), (b"H 3'", 6), (b"-P 4 2 3", 48),
+        (b"P 2'a", (8, 2)), (b"P 2''", (8, 2)), (b"P 2'q", (5, 4)), (b"P '", (5, 2)), (b"P -'", (5, 3)), (b"P' 1", (4, 0)), (b"p 1'", (4, 0)),
+        (b"c 1", (4, 0)), (b"P 2aa'", (17, 4)), (b"P 1x'", (6, 2)), (b"P 22'", (7, 3)), (b"P 2 (0 0 1')", (9, 4)), (b"P (0 0 0)'", (10, 2)),
+        (b"R 2'", (12, 0)), (b"-R 2'", (12, 1)), (b"P 4' 6", (13, 0)), (b"P 1a' 1b'", (14, 0)), (b"P 1' 1a'", (14, 0)), (b"P 3w'", (14, 0)),
+        (b"P 2w'", (14, 0)), (b"C 1a' 1b'", 2), (b"P" + b" 1'" * 8, 2), (b"P" + b" 1'" * 9, (11, 26)), (b"P 1'".ljust(81), (1, 80)), (b"", (3, 0)),
+        (b"P 1\xff'", (2, 3)),
+    ]
+    lent = bytearray(range(22))
+    group = group_of_magnetic(b"P 1a'")
+    first, second = MAGNETIC_RECORD[:6], MAGNETIC_RECORD[6:12]
+    trailer = MAGNETIC_RECORD[12:]
+    short = b"P\x02\x01\x00\x0b"
+    refused = [
+        ("nine bytes", MAGNETIC_RECORD[-9:], 30), ("ten bytes", MAGNETIC_RECORD[-10:], 33),
+        ("edition 1", bytes.fromhex("4064000000500101000A"), 31), ("edition 3", b"0" + bytes.fromhex("01B2A3005003010009"), 31),
+        ("the letter p", first + b"p" + short[1:], 32), ("a count of 0", first + b"P\x02\x00\x00\x05", 33), ("5n+5", first + b"P\x02\x01\x00\x0a", 33),
+        ("a flag of 2", first[:5] + b"\x02" + short, 34), ("flags that descend", second + first + trailer, 34), ("a pair twice", first + first + trailer, 34),
+        ("a triple not the smallest", b"\x40\x64\x0b\x0b\x0b\x00" + b"I" + short[1:], 34),
+        ("the identity with the flag alone", first[:5] + b"\x01" + short, 35),
+        ("a product's flag", bytes.fromhex("0C7E00000001") + first + bytes.fromhex("406400000001") + b"P\x02\x03\x00\x17", 35),
+    ]
+    return [("magnetic " + text.decode("latin-1"), magnetic_count(text), expected) for text, expected in cases] + [
+        ("magnetic record, " + name, outcome(read_magnetic_record, buffer), (number, 0)) for name, buffer, number in refused] + [
+        ("P 1a', list", group, ("P", [(IDENTITY, (0, 0, 0), 0), (IDENTITY, (6, 0, 0), 1)])),
+        ("the inversion has no flag", group_of_magnetic(b"-P 2'")[1][1], (INVERSION, NO_TRANSLATION, 0)),
+        ("H 3', flags", [flag for _, _, flag in group_of_magnetic(b"H 3'")[1]], [0, 1, 0, 1, 0, 1]),
+        ("P 1a', numbers", [flagged_number(*operation) for operation in group[1]], [28484352, 34012224 + 28485216]),
+        ("P 1a', record", magnetic_record(*group), MAGNETIC_RECORD),
+        ("P 1a', record at 3", (write_magnetic_record(*group, lent, 3), bytes(lent)), (2, bytes(range(3)) + MAGNETIC_RECORD + bytes(range(20, 22)))),
+        ("P 1a', no room", outcome(write_magnetic_record, *group, bytearray(19), 3), (20, 0)),
+        ("P 1a', start beyond", outcome(write_magnetic_record, *group, bytearray(19), 20), (20, 0)),
+        ("P 1a', read back", read_magnetic_record(b"any" + MAGNETIC_RECORD), group),
+        ("P 1a', copied", copied_magnetic_record(b"any" + MAGNETIC_RECORD), MAGNETIC_RECORD),
+        ("edition 2, read by plain entries", outcome(read_record, MAGNETIC_RECORD), (31, 0)),
+        ("edition 2, read by old software", outcome(read_old_record, MAGNETIC_RECORD), (31, 0)),
+        ("96 operations, read back", len(read_magnetic_record(magnetic_record(*group_of_magnetic(b"-P 4 2 3 1'")))[1]), 96),
+    ]
+
+
 # The record of -p 1: that of -P 1 under the small letter.
 LAYER_RECORD = bytes.fromhex("0C7E0000004064000000700102000F")
 
 
 def example_rest():
-    """(name, what the model says, what 01 says) for the record, tables, program and the mistakes that 01 names."""
+    """(name, what the model says, what the rules say) for the record, tables, program and the mistakes that are easily made."""
     cubic = table_of_symbol(b"-P 4 2 3")
     inverse_record = bytes.fromhex("0C7E0000004064000000500102000F")
     shorter_record = bytes.fromhex("0054528001B2A300500302000D")
@@ -1128,7 +1349,7 @@ def outside_normalizer(table):
 
 
 def run_examples():
-    examples = example_symbols() + example_rest() + example_lines()
+    examples = example_symbols() + example_rest() + example_lines() + example_magnetics()
     failed = [each for each in examples if each[1] != each[2]]
     for name, said, expected in failed:
         print("failed: %s: %s, not %s" % (name, said, expected))

@@ -1,5 +1,5 @@
 #!/usr/bin/env python3
-"""Replays the recorded answers against the model of 01; needs no Rust, and shows how each file is read.
+"""Replays the recorded answers against the model of the rules; needs no Rust, and shows how each file is read.
 
     python3 oracle/replay.py
 
@@ -37,7 +37,7 @@ def record_agrees(hexed, number, place):
 
 
 def operations_agree(hexed, *answer):
-    """Where 01 accepts, the Rust has the same list, and its doubles are the twelfths'; of the triple cell it knows nothing."""
+    """Where the rules accept, the Rust has the same list, and its doubles are the twelfths'; of the triple cell it knows nothing."""
     text = model.text_of_hex(hexed)
     said = model.outcome(model.group_of_symbol, text)
     if answer == ("none",):
@@ -46,7 +46,7 @@ def operations_agree(hexed, *answer):
 
 
 def generators_agree(hexed, *answer):
-    """Where 01 reads the text, the Rust has the same generators, rounded to twelfths; of the triple cell it knows nothing."""
+    """Where the rules read the text, the Rust has the same generators, rounded to twelfths; of the triple cell it knows nothing."""
     text = model.text_of_hex(hexed)
     said = model.outcome(model.read_symbol, text)
     if isinstance(said[0], int):
@@ -56,6 +56,18 @@ def generators_agree(hexed, *answer):
     letter, points, found = read_generators(" ".join(answer))
     rounded = [(rotation, tuple(round(12 * double_of(part)) % 12 for part in parts)) for rotation, parts in found]
     return (letter, rounded) == said and points == len(model.POINTS[letter])
+
+
+def layer_agrees(hexed, letter, *answer):
+    """The letter in small, and the list."""
+    said = model.group_of_layer(model.text_of_hex(hexed))
+    return (letter.lower(), read_list(answer)) == (said[0], exact(said[1]))
+
+
+def magnetic_agrees(hexed, letter, order, *numbers):
+    """The letter, the order, and the number of each operation with its flag."""
+    said = model.group_of_magnetic(model.text_of_hex(hexed))
+    return (letter, [int(number) for number in numbers]) == (said[0], [model.flagged_number(*each) for each in said[1]]) and int(order) == len(said[1])
 
 
 def type_agrees(code, character):
@@ -123,6 +135,8 @@ def main():
         ("records.txt", [record_agrees(*line) for line in lines_of("records.txt")]),
         ("generators.txt", [generators_agree(*line) for line in lines_of("generators.txt")]),
         ("operations.txt", [operations_agree(*line) for line in lines_of("operations.txt")]),
+        ("layers.txt", [layer_agrees(*line) for line in lines_of("layers.txt")]),
+        ("magnetic.txt", [magnetic_agrees(*line) for line in lines_of("magnetic.txt")]),
         ("rotation_types.txt", [type_agrees(*each) for each in enumerate(types)]),
         ("tables.txt", [table_agrees(*table) for table in tables_of(lines_of("tables.txt"))]),
     ]

@@ -4,7 +4,7 @@
     python3 tests/compare_gap.py PROGRAM [--emulator COMMAND] [--all]
 
 PROGRAM is made from tests/entries.c, oracle/recorded/gap_groups.txt by oracle/make_gap_groups.py. GAP gives the sets; only their order in
-a list is 01's. Its counts must fit: conjugates times normalizer is the group's order, for every subgroup. Conjugates and normalizers are
+a list is that of R7.2. Its counts must fit: conjugates times normalizer is the group's order, for every subgroup. Conjugates and normalizers are
 asked for a sample of the subgroups, with --all for each. For every representative of a class conjugations are composed: what C answers
 goes into the next call. Prints 'N passed, M failed'.
 """

@@ -4,7 +4,7 @@
     python3 tests/compare_magnetic.py PORT [--all] [--emulator COMMAND]
 
 PORT is the program made from tests/magnetic.c. An N token whose only `'` is its last byte, behind other bytes, has time reversal, and is
-read as the token without it; nothing else changes. Here that is said token by token, and no copy of the text is made. Without --all a
+read as the token without it; nothing else changes. The model says that token by token, and makes no copy of the text. Without --all a
 sample of the texts is taken that the gate has time for. Prints 'N passed, M failed'.
 """
 
@@ -12,7 +12,6 @@ import argparse
 import itertools
 import os
 import random
-import re
 import subprocess
 import sys
 
@@ -52,48 +51,13 @@ def good_text(chosen):
     return chosen.choice([b" ", b"\t  "]).join(words) + shift
 
 
-def read_magnetic(text):
-    """Letter, and each generator with its flag; refusals 1 to 11 and 17."""
-    letter, _ = plain_front(text)
-    flags, read, shift = [], [], model.NO_TRANSLATION
-    inverted = model.tokens_of(text)[0][1].startswith(b"-")
-    for place, token in model.tokens_of(text)[1:]:
-        if token.startswith(b"("):
-            if not read:
-                raise model.Refusal(10, place)
-            shift = model.read_shift(text, place)
-            break
-        if len(read) == model.MOST_N_TOKENS:
-            raise model.Refusal(11, place)
-        reversal = re.fullmatch(rb"([^']+)'", token)
-        read.append(model.read_n_token(reversal.group(1) if reversal else token, place, read))
-        flags.append(1 if reversal else 0)
-    if not read:
-        raise model.Refusal(10, len(text))
-    generators = [(0, model.INVERSION, model.mod_cell(model.plus(shift, shift)))] if inverted else []
-    for flag, (rotation, translation, _, _) in zip(flags, read, strict=True):
-        moved = model.plus(model.plus(translation, shift), tuple(-part for part in model.apply(rotation, shift)))
-        generators.append((flag, rotation, model.mod_cell(moved)))
-    return letter, generators
-
-
-def plain_front(text):
-    """What the plain reading says of the text up to its first token; refusals 1 to 4."""
-    try:
-        return model.read_symbol(text)
-    except model.Refusal as refusal:
-        if refusal.number <= 4:
-            raise
-        return model.tokens_of(text)[0][1].decode()[-1], None
-
-
 def said_by_rules(text):
-    found = model.outcome(read_magnetic, text)
+    found = model.outcome(model.read_magnetic, text)
     if isinstance(found[0], int):
         return "%d %d" % found
     letter, generators = found
     words = ["0", letter, str(len(generators))]
-    for flag, rotation, translation in generators:
+    for rotation, translation, flag in generators:
         words += [str(flag), str(model.code(rotation))] + [str(k) for k in translation]
     return " ".join(words)
 

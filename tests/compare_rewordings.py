@@ -10,6 +10,7 @@ generated motions modulo whole cells. What is random has a fixed seed. Prints 'N
 """
 
 import sys
+from collections import namedtuple
 
 from entries import Noise, ask, comparison, recorded
 
@@ -22,14 +23,20 @@ EACH_WAY = 2
 TRANSLATION_LETTERS = "abcnuvwd"
 
 
-def motions(text):
+# A family of symbols: letter and generators of a text, letter and operations, and what generators must make as many of as there are operations. An operation
+# is a rotation and a translation, in a magnetic symbol with a flag behind them.
+Family = namedtuple("Family", "read group generated")
+PLAIN = Family(model.read_symbol, model.group_of_symbol, model.generated_rotations)
+
+
+def motions(text, family):
     """The set of motions of a symbol, each modulo whole cells; None if the symbol is refused."""
-    said = model.outcome(model.group_of_symbol, text)
+    said = model.outcome(family.group, text)
     if isinstance(said[0], int):
         return None
     letter, operations = said
-    return frozenset((rotation, model.mod_cell(model.plus(translation, point)))
-                     for rotation, translation in operations for point in model.POINTS[letter])
+    return frozenset((rotation, model.mod_cell(model.plus(translation, point)), *flag)
+                     for rotation, translation, *flag in operations for point in model.POINTS[letter])
 
 
 # Operations as tokens -----------------------------------------------------------------------------------------------
@@ -65,7 +72,7 @@ def digit_for(token, triple, noise):
 
 def token_for(operation, shift, letter, noise):
     """An operation as an N token under a shift, its translation moved by a vector of the lattice; None if it cannot be written."""
-    rotation, translation = operation
+    rotation, translation, *flag = operation
     if rotation not in TOKENS:
         return None
     back = model.plus(model.apply(rotation, shift), tuple(-part for part in shift))
@@ -75,7 +82,7 @@ def token_for(operation, shift, letter, noise):
         digit, rest = digit_for(TOKENS[rotation], triple, noise)
         letters = letters_for(rest, noise)
         if letters is not None:
-            return TOKENS[rotation] + digit + letters
+            return TOKENS[rotation] + digit + letters + ("'" if flag == [1] else "")
     return None
 
 
@@ -95,47 +102,48 @@ def shift_of(text):
     return tuple(map(int, found.rstrip(b") ").split())) if found else (0, 0, 0)
 
 
-def reordered(letter, generators, operations, shift, noise):
+def reordered(letter, generators, operations, shift, noise, family):
     return symbol_of(letter, noise.chance.sample(generators, len(generators)), shift, noise)
 
 
-def with_products(letter, generators, operations, shift, noise):
+def with_products(letter, generators, operations, shift, noise, family):
     more = [noise.chance.choice(operations) for _ in range(noise.below(model.MOST_N_TOKENS + 1 - len(generators)))]
     return symbol_of(letter, noise.chance.sample(generators + more, len(generators + more)), shift, noise)
 
 
-def other_generators(letter, generators, operations, shift, noise):
-    """Operations of the group drawn until they generate as many rotations."""
+def other_generators(letter, generators, operations, shift, noise, family):
+    """Operations of the group drawn until they generate as many."""
     drawn = []
     writable = [operation for operation in operations if operation[0] in TOKENS]
     while len(drawn) < model.MOST_N_TOKENS:
         drawn.append(noise.chance.choice(writable))
-        if len(model.generated_rotations(drawn)) == len(operations):
+        if len(family.generated(drawn)) == len(operations):
             return symbol_of(letter, drawn, shift, noise)
     return None
 
 
-def shifted_by_lattice(letter, generators, operations, shift, noise):
+def shifted_by_lattice(letter, generators, operations, shift, noise, family):
     point = noise.chance.choice(model.POINTS[letter])
     moved = model.mod_cell(model.plus(shift, point))
     return symbol_of(letter, generators, moved, noise)
 
 
-def shifted_at_random(letter, generators, operations, shift, noise):
+def shifted_at_random(letter, generators, operations, shift, noise, family):
     """The same tokens under another shift: often another set of motions, sometimes not."""
     other = tuple(noise.chance.choice((0, 0, 3, 6, 6, 9, 4)) for _ in range(3))
     text = symbol_of(letter, generators, shift, noise)
     return text and text.partition(b" (")[0] + b" (%d %d %d)" % other
 
 
-def changed(letter, generators, operations, shift, noise):
+def changed(letter, generators, operations, shift, noise, family):
     """One translation letter more: often refused, often another set of motions."""
     text = symbol_of(letter, generators, shift, noise)
     if text is None:
         return None
     words = text.split(b" ")
     place = 1 + noise.below(len(generators))
-    words[place] += noise.chance.choice(TRANSLATION_LETTERS).encode()
+    token = words[place].rstrip(b"'")
+    words[place] = token + noise.chance.choice(TRANSLATION_LETTERS).encode() + words[place][len(token):]
     return b" ".join(words)
 
 
@@ -143,34 +151,36 @@ SAME = (reordered, with_products, other_generators, shifted_by_lattice)
 OTHER = (shifted_at_random, changed)
 
 
-def worded(texts, noise):
-    """The symbols and their rewordings that are accepted, each with its set of motions; those of `SAME` must not change it."""
+def worded(texts, noise, family, other):
+    """The symbols and their rewordings that are accepted, each with its set of motions; those of `SAME` must not change it, those of `other` may."""
     found = {}
     for text in texts:
-        letter, generators = model.read_symbol(text)
-        operations = model.group_of_symbol(text)[1]
-        found[text] = motions(text)
-        for way in (SAME + OTHER) * EACH_WAY:
-            again = way(letter, generators, operations, shift_of(text), noise)
+        letter, generators = family.read(text)
+        operations = family.group(text)[1]
+        found[text] = motions(text, family)
+        for way in (SAME + other) * EACH_WAY:
+            again = way(letter, generators, operations, shift_of(text), noise, family)
             if again is not None and again not in found:
-                found[again] = motions(again)
-                assert way in OTHER or found[again] == found[text], (text, again)
+                found[again] = motions(again, family)
+                assert way in other or found[again] == found[text], (text, again)
     return {text: each for text, each in found.items() if each is not None}
 
 
-def main():
-    calls, _ = comparison(__doc__)
-    noise = Noise(SEED)
-    texts = [model.text_of_hex(word) for word, *_ in recorded("symbols.txt")[:DATABASE]]
-    said = worded(texts, noise)
-    lent = bytes(RECORD_BYTES)
-    answers = dict(zip(said, ask(calls.command, [("symbol_record", (text, lent, 0)) for text in said])))
+def records_say_sets(calls, entry, lent, said):
+    """By an entry that writes a record into what is lent: one set of motions has one answer, and two sets have two."""
+    answers = dict(zip(said, ask(calls.command, [(entry, (text, lent, 0)) for text in said])))
     by_motions, by_answer = {}, {}
     for text, each in said.items():
         first, same = by_motions.setdefault(each, text), by_answer.setdefault(answers[text], text)
         calls.judge(answers[text] == answers[first], lambda: (repr(text), answers[text], "that of %r" % first))
         calls.judge(said[same] == each, lambda: (repr(text), "the answer of %r" % same, "another"))
     print("%d symbols, %d sets of motions" % (len(said), len(by_motions)))
+
+
+def main():
+    calls, _ = comparison(__doc__)
+    texts = [model.text_of_hex(word) for word, *_ in recorded("symbols.txt")[:DATABASE]]
+    records_say_sets(calls, "symbol_record", bytes(RECORD_BYTES), worded(texts, Noise(SEED), PLAIN, OTHER))
     return calls.end()
 
 

@@ -6,12 +6,14 @@
 PROGRAM is made from tests/entries.c, HARNESS by oracle/build.sh; tests/compare_rust.sh makes both and runs this.
 
 - Symbols: the database, the picked ones, every sign and matrix under every shift, and random and damaged ones. An accepted symbol has
-  the Rust's operations in the Rust's order, each double the bits of its twelfth; refusals, letters and records are the model's. Where 01
-  refuses, what the Rust says is nothing that docs/DIFFERENCES.md does not list.
+  the Rust's operations in the Rust's order, each double the bits of its twelfth; refusals, letters and records are the model's. Where the rules
+  refuse, what the Rust says is nothing that docs/DIFFERENCES.md does not list.
+- Magnetic symbols: the database, every sign and matrix with and without time reversal under shifts, and random and damaged ones. An accepted symbol has
+  the Rust's operations with the Rust's flags in its order; refusals and records are the model's. Damaged magnetic records have the model's verdict.
 - Records: damaged ones, by the model: the verdict, the bytes that a copy writes and those that it does not.
 - Tables: of symbols in list order and in record order, made from the Rust's own lists, and all groups of order up to 48 under fresh
   labels: subgroups, classes, conjugates, normalizers and permutations are the Rust's. Small and damaged tables, and orders at and beyond
-  the bounds: the verdict is the model's, the Rust makes a group of a table exactly where 01 sees an identity and inverses, and what is a
+  the bounds: the verdict is the model's, the Rust makes a group of a table exactly where the rules see an identity and inverses, and what is a
   group after all has the Rust's subgroups.
 - Whatever is refused leaves every lent list as it was.
 
@@ -22,6 +24,7 @@ import argparse
 import itertools
 import sys
 
+import compare_magnetic_entries
 import compare_records
 import compare_symbols
 import compare_tables
@@ -37,6 +40,7 @@ import model
 SEED = 31
 RANDOM_SYMBOLS = 60000
 DAMAGED_RECORDS = 30000
+MAGNETIC_SHIFTS = 100
 RELABELLINGS = 2
 BATCH = 5000
 MOST_RECORD = 245
@@ -121,6 +125,37 @@ def records(calls, known, noise):
     return len(buffers)
 
 
+# Magnetic symbols and records -----------------------------------------------------------------------------------------
+
+def rust_flagged(answer):
+    """The Rust's letter and its list in twelfths, or None where it has no list."""
+    letter, *words = answer.split(" ")
+    if letter not in compare.RUST_LETTERS:
+        return None
+    return letter, [(rotation, model.twelfths([compare.double_of(part) for part in parts]), flag) for rotation, parts, flag in compare.read_flagged(words)]
+
+
+def magnetic_symbols(calls, harness, noise):
+    """Answers how many symbols were asked, and the records of those that are accepted."""
+    own = compare_magnetic_entries.own_texts()
+    asked, records = 0, {}
+    for texts in batches(itertools.chain(own, cases.shifted_magnetic_symbols(MAGNETIC_SHIFTS, SEED), cases.magnetic_symbols(own, RANDOM_SYMBOLS, SEED))):
+        for text, answer in zip(texts, compare.ask(harness, ["magnetic " + compare.hex_of(text) for text in texts])):
+            said = compare_magnetic_entries.by_model(calls, text, noise)
+            if not isinstance(said[0], int):
+                records.setdefault(model.magnetic_record(*said))
+                calls.judge(compare.triple_cell(text) or rust_flagged(answer) == said, lambda: (repr(text), "the Rust: " + answer[:80], str(said)[:80]))
+        asked += len(texts)
+    return asked, list(records)
+
+
+def magnetic_records(calls, known, noise):
+    for _ in range(DAMAGED_RECORDS):
+        buffer = compare_magnetic_entries.damaged(noise, noise.chance.choice(known), noise.chance.choice(known))
+        compare_magnetic_entries.judged(calls, buffer, noise)
+    return DAMAGED_RECORDS
+
+
 # Tables -------------------------------------------------------------------------------------------------------------
 
 def rust_tables(harness, name, order, entries):
@@ -187,6 +222,9 @@ def main():
     asked, known = symbols(calls, options.harness, noise)
     print("%d symbols" % asked, flush=True)
     print("%d damaged records" % records(calls, known, noise), flush=True)
+    asked, known = magnetic_symbols(calls, options.harness, noise)
+    print("%d magnetic symbols" % asked, flush=True)
+    print("%d damaged magnetic records" % magnetic_records(calls, known, noise), flush=True)
     print("%d tables of symbols and records" % symbol_tables(calls, options.harness, noise), flush=True)
     print("%d tables of groups of order up to 48" % relabelled_tables(calls, options.harness, noise), flush=True)
     print("%d small and damaged tables" % damaged_tables(calls, options.harness, noise), flush=True)

@@ -248,7 +248,7 @@ def judged(calls, order, entries):
 
 
 def by_hand(calls, tables, noise):
-    """The figures that 01 itself gives."""
+    """Figures that are known without a program."""
     calls.call("table_order", 3, NOT_ASSOCIATIVE, gives=packed(25))
     cubic = next(found for found in tables if found["name"] == "symbol " + CUBIC.decode())
     subgroups, representatives = numbers(cubic["S"][1:]), [each["H"] for each in cubic["classes"]]

@@ -1,6 +1,6 @@
 """Questions about a group whose subgroups are known, asked of C by a symbol, a record or a table.
 
-Each list is lent exactly as long as needed, longer, with left-over bytes, one slot short, and not at all; each refusal of 01's order
+Each list is lent exactly as long as needed, longer, with left-over bytes, one slot short, and not at all; each refusal of R8, in its order,
 is asked for together with those that it goes before.
 """
 

@@ -41,10 +41,11 @@ ln -s "$root/layers" layers-link
 first_layers() { ./layers-link 'P 2' | head -n 2; }
 layers_help() { "$root/layers" --help | head -n 1; }
 layers_to_full() { "$root/layers" 'P 2' >/dev/full; }
-holds "layers, through a symbolic link" 0 $'P 2: order 2, 2 subgroups in 2 classes\nlayer 0: order 2, class 0, conjugates 1, normalizer\'s order 2, generators -x,-y,z' "" first_layers
+layers_of_2=$'P 2: letter P, order 2, 2 subgroups in 2 classes\nlayer 0: order 2, class 0, conjugates 1, normalizer\'s order 2, generators -x,-y,z'
+holds "layers, through a symbolic link" 0 "$layers_of_2" "" first_layers
 holds "layers: --help" 0 "usage: ./layers [--svg] SYMBOL" "" layers_help
 holds "layers: a refused symbol" 1 "" "refused 5" "$root/layers" 'P 2aq'
 holds "layers: no symbol" 2 "" "one symbol" "$root/layers"
-holds "layers: a full disk" 1 "" "" layers_to_full
+holds "layers: a full disk" 1 "" "could not be written" layers_to_full
 echo "$passed passed, $failed failed"
 [ "$failed" = 0 ]

@@ -143,6 +143,8 @@ fn answer(line: &str) -> Option<String> {
     match command {
         "operations" => symbols::answer(arguments, symbols::operations),
         "layer" => symbols::answer(arguments, symbols::layer_operations),
+        "magnetic" => symbols::answer(arguments, symbols::magnetic_operations),
+        "magnetic_generators" => symbols::answer(arguments, symbols::magnetic_generators),
         "generators" => symbols::answer(arguments, symbols::generators),
         "from_operations" => {
             let (hex, epsilon) = arguments.split_once(' ')?;
@@ -188,11 +190,11 @@ fn guarded(line: &str) -> String {
 }
 
 fn main() {
-    if std::env::args().nth(1).as_deref() == Some("database") {
-        return symbols::print_database();
-    }
-    if std::env::args().nth(1).as_deref() == Some("layers") {
-        return symbols::print_layer_database();
+    match std::env::args().nth(1).as_deref() {
+        Some("database") => return symbols::print_database(),
+        Some("layers") => return symbols::print_layer_database(),
+        Some("magnetics") => return symbols::print_magnetic_database(),
+        _ => {}
     }
     set_hook(Box::new(|panic| {
         if let Some(place) = panic.location() {

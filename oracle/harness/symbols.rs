@@ -1,18 +1,19 @@
 //! The commands that start from a symbol's text.
-//!
-//! Magnetic symbols are compiled with the rest: a command for them is one more function of the kind of
-//! `operations`.
 
 use std::fmt::Write;
 
-use crate::base::Operations;
-use crate::data::hall_symbol::{HallSymbol, LayerHallSymbol};
+use crate::base::{MagneticOperations, Operation, Operations};
+use crate::data::hall_symbol::{HallSymbol, LayerHallSymbol, MagneticHallSymbol};
 use crate::data::hall_symbol_database::hall_symbol_entry;
 use crate::data::layer::layer_hall_symbol_database::iter_layer_hall_symbol_entry;
+use crate::data::magnetic::magnetic_hall_symbol_database::magnetic_hall_symbol_entry;
 use crate::subgroup::tables;
 
 /// A finite group of whole 3x3 matrices has at most this many members.
 const MOST_ROTATIONS: u64 = 48;
+
+/// Each of them once with time reversal and once without.
+const MOST_FLAGGED: u64 = 2 * MOST_ROTATIONS;
 
 /// Decodes the text and hands it to a command: `utf8` if it is not UTF-8, `none` where the original
 /// answers `None`.
@@ -52,6 +53,28 @@ pub fn layer_operations(text: &str) -> Option<String> {
     })
 }
 
+/// The operations of a magnetic symbol with their time reversals, after its letter.
+pub fn magnetic_operations(text: &str) -> Option<String> {
+    MagneticHallSymbol::new(text).map(|symbol| {
+        nalgebra::products::allow(Some(MOST_FLAGGED * symbol.generators.len() as u64));
+        let list = symbol.traverse();
+        nalgebra::products::allow(None);
+        format!("{:?} {}", symbol.centering, listed_with_flags(&list))
+    })
+}
+
+pub fn magnetic_generators(text: &str) -> Option<String> {
+    MagneticHallSymbol::new(text).map(|symbol| {
+        let points = symbol.centering_translations.len() + 1;
+        format!(
+            "{:?} {} {}",
+            symbol.centering,
+            points,
+            listed_with_flags(&symbol.generators)
+        )
+    })
+}
+
 pub fn generators(text: &str) -> Option<String> {
     HallSymbol::new(text).map(|symbol| {
         let points = symbol.centering_translations.len() + 1;
@@ -84,19 +107,33 @@ fn traverse(symbol: &HallSymbol) -> Operations {
 fn listed(list: &Operations) -> String {
     let mut line = list.len().to_string();
     for operation in list {
-        for entry in operation.rotation_as_array().as_flattened() {
-            write!(line, " {entry}").unwrap();
-        }
-        for part in operation.translation_as_array() {
-            let shown = if part.is_nan() {
-                f64::from_bits(0x7ff8 << 48)
-            } else {
-                part
-            };
-            write!(line, " {:016x}", shown.to_bits()).unwrap();
-        }
+        show(&mut line, operation);
     }
     line
+}
+
+/// As `listed`, and 0 or 1 for the time reversal behind each operation.
+fn listed_with_flags(list: &MagneticOperations) -> String {
+    let mut line = list.len().to_string();
+    for flagged in list {
+        show(&mut line, &flagged.operation);
+        write!(line, " {}", flagged.time_reversal as u8).unwrap();
+    }
+    line
+}
+
+fn show(line: &mut String, operation: &Operation) {
+    for entry in operation.rotation_as_array().as_flattened() {
+        write!(line, " {entry}").unwrap();
+    }
+    for part in operation.translation_as_array() {
+        let shown = if part.is_nan() {
+            f64::from_bits(0x7ff8 << 48)
+        } else {
+            part
+        };
+        write!(line, " {:016x}", shown.to_bits()).unwrap();
+    }
 }
 
 /// The original's own symbols, each in hex on a line.
@@ -110,6 +147,13 @@ pub fn print_database() {
 pub fn print_layer_database() {
     for entry in iter_layer_hall_symbol_entry() {
         print_hex(entry.hall_symbol);
+    }
+}
+
+/// The original's own magnetic symbols, by UNI number.
+pub fn print_magnetic_database() {
+    for entry in (1..).map_while(magnetic_hall_symbol_entry) {
+        print_hex(entry.magnetic_hall_symbol);
     }
 }
 
