@@ -9,6 +9,7 @@ copied; symbols said in other words have one record exactly if they have one set
 a share is taken that the gate has time for. What is random has a fixed seed. Prints 'N passed, M failed'.
 """
 
+import itertools
 import sys
 
 import compare_rewordings
@@ -29,11 +30,14 @@ FIRST = bytes.fromhex("4064000000004064060000015002020011")
 IDENTITY = bytes.fromhex("406400000000")
 EDITION = 2
 ITEM = 6
+# Groups of at most this order are changed in every item; a triple is moved by each of these.
+SMALL = 8
+MOVES = ((6, 0, 0), (6, 6, 0), (0, 0, 6), (8, 4, 4))
 MAGNETIC = compare_rewordings.Family(model.read_magnetic, model.group_of_magnetic, model.generated_pairs)
 # Symbols whose records are written at every start, and damaged byte by byte: every letter, with grey groups, antitranslations and neither.
 PICKED = [
     b"P 1'", b"P 1a'", b"-P 1 1c'", b"-P 2'", b"A 2 -2 1'", b"B 2y'", b"-C 2yc 1c'", b"I 4bw'", b"R 3' 2=", b"-R 3 2=c 1'", b"F 2 -2d'", b"H 3'",
-    b"P 4nw 2abw'", b"-I 4bd 2c'", b"-P 4 2 3 1'",
+    b"P 4nw 2abw'", b"-I 4bd 2c'", b"-P 4 2 3 1'", b"P 31", b"P 4'", b"P 2 2'", b"P 2a 2n'",
 ]
 
 
@@ -263,10 +267,26 @@ def changed(record, noise):
             yield record[:place] + bytes([other]) + record[place + 1:]
 
 
+def one_item_changed(record):
+    """Each item of a record with the other flag, with its triple moved, left out; and the letters of other lattices."""
+    items, letter = items_of(record), record[-5]
+    for other in b"PABCIRFH":
+        yield put_together(other, items)
+    for place, item in enumerate(items):
+        rest = items[:place] + items[place + 1:]
+        triples = [item[2:5]] + [bytes(model.mod_cell(model.plus(item[2:5], point))) for point in MOVES]
+        for triple, flag in itertools.product(triples, (0, 1)):
+            yield put_together(letter, sorted(rest + [item[:2] + triple + bytes([flag])], key=by_pair))
+        yield put_together(letter, rest)
+
+
 def damaged_buffers(known, share, noise):
     yield from strangers()
     for text in PICKED:
-        yield from list(changed(model.magnetic_record(*model.group_of_magnetic(text)), noise))[::share]
+        record = model.magnetic_record(*model.group_of_magnetic(text))
+        yield from list(changed(record, noise))[::share]
+        if record[-3] <= SMALL:
+            yield from one_item_changed(record)
     for _ in range(DAMAGED_RECORDS // share):
         yield damaged(noise, known[noise.below(len(known))], known[noise.below(len(known))])
 
