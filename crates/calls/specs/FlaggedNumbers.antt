@@ -7,6 +7,9 @@ use native.Mathlib.Omega.{arith}
 use Rattle.operation.specs.Code.{codeOf, rotationOf, code-lt, rotation-code}
 use Rattle.operation.specs.Meaning.{rotation≡}
 use Rattle.operation.specs.declared.Operation.{Operation}
+use Rattle.operation.specs.declared.Rotation.{Rotation}
+use Rattle.packed_operation.specs.Number.{rotationSaid, saidBy}
+use Rattle.packed_operation.specs.Rows.{Narrow, said-narrow}
 use Rattle.hall_token.specs.Answers.{Reduced}
 use Rattle.magnetic_group.specs.declared.FlaggedOperation.{FlaggedOperation}
 use Rattle.calls.specs.Packing.{operationNumber, Low, Numbers, operations}
@@ -49,7 +52,7 @@ flag-low true = omega arith
 flag-low false = omega arith
 
 -- and the plain number leaves it free.
-pub plain-low : (o : Operation) → Reduced o → operationNumber o < 34012224
+plain-low : (o : Operation) → Reduced o → operationNumber o < 34012224
 plain-low o r = omega (arith, code-lt (o .rotation) (r .digits))
 
 number-low : (f : FlaggedOperation) → ReducedFlagged f → Low (flaggedNumber f)
@@ -63,6 +66,22 @@ number-once f g r s e =
     let flags = flag-once (f .flag) (g .flag) (omega arith) in
     let plain = operations .once (f .operation) (g .operation) r s (omega arith) in
     λ i. record { operation = plain i; flag = flags i }
+
+-- What a number of a list says is far below 64 bits, whatever its bits are.
+code-narrow : (r : Rotation) → Narrow r → codeOf r ≤ 29523
+unfolding codeOf
+code-narrow r h = omega arith
+
+below-sixteen : (n : ℕ) → n % 16 < 16
+below-sixteen n = omega arith
+
+parts-low : (a x y z : ℕ) → a ≤ 29523 → x < 16 → y < 16 → z < 16 → a * 1728 + x * 144 + y * 12 + z < 68719476736
+parts-low a x y z ha hx hy hz = omega arith
+
+pub said-low : (n : ℕ) → operationNumber (saidBy n) < 68719476736
+said-low n =
+    parts-low _ _ _ _ (code-narrow (rotationSaid n) (said-narrow n)) (below-sixteen (n / 32768)) (below-sixteen (n / 32768 / 2097152))
+    (below-sixteen (n / 32768 / 4398046511104))
 
 -- So flagged operations are told by their numbers.
 pub flaggedOperations : Numbers ReducedFlagged flaggedNumber

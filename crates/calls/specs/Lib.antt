@@ -11,6 +11,8 @@ pub mod MotionBounds
 pub mod LineBounds
 pub mod FlaggedNumbers
 pub mod MagneticBounds
+pub mod MagneticQuestions
+pub mod MagneticRecordBounds
 pub mod Catalogues
 pub mod CatalogueState
 pub mod CatalogueBounds

@@ -56,10 +56,10 @@ module _ (text : List ℕ) where
   refused-close c Translations e = record { some = omega arith; one-byte = omega arith; at-most = omega arith }
 
   -- So they can be told.
-  misread-told : (r : text-refusal.Refusal) → magneticOutcome text ≡ misread r → Told (numberOf (Text r)) (placeOf (Text r))
+  pub misread-told : (r : text-refusal.Refusal) → magneticOutcome text ≡ misread r → Told (numberOf (Text r)) (placeOf (Text r))
   misread-told r e = let h = misread-close r e in near (h .some) (h .one-byte) (h .at-most)
 
-  refused-told : (c : Centering) (r : generators.Refusal) → magneticOutcome text ≡ made c (refused r)
+  pub refused-told : (c : Centering) (r : generators.Refusal) → magneticOutcome text ≡ made c (refused r)
       → Told (numberOf (NoGroup r)) (placeOf (NoGroup r))
   refused-told c r e = let h = refused-close c r e in near (h .some) (h .one-byte) (h .at-most)
 

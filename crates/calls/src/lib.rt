@@ -6,6 +6,7 @@ pub mod layer;
 pub mod line;
 pub mod list;
 pub mod magnetic;
+pub mod magnetic_records;
 mod motion;
 mod packing;
 pub mod record;

@@ -1,17 +1,28 @@
-// What is asked of a magnetic symbol's text. An operation's number has the flag before the rotation's code.
+// What is asked of a magnetic symbol's text. An operation's number has the flag before the rotation's code. One function answers each question, so that
+// the packing of a refusal stands once.
 ghost use mathlib.Core.Path.{_≡_};
+ghost use Prim.Native.Nat.{_≤_};
 ghost use Rattle.centering.specs.Letters.{byteOf};
+ghost use Rattle.space_group.specs.NumberGrowth.{flaggedSaid};
 ghost use Rattle.magnetic_group.specs.Symbols.{magneticOutcome};
-ghost use Rattle.magnetic_group.specs.Answers.{orderBy, orderAnswer, letterBy, letterAnswer, operationBy, operationAnswer};
+ghost use Rattle.magnetic_group.specs.Answers.{orderBy, orderAnswer, letterBy, letterAnswer, besideFlag, operationBy, operationAnswer};
 ghost use Rattle.calls.specs.Packing.{packed, mapped};
-ghost use Rattle.calls.specs.FlaggedNumbers.{flaggedNumber, ReducedFlagged};
+ghost use Rattle.calls.specs.FlaggedNumbers.{flaggedNumber};
+ghost use Rattle.calls.specs.MagneticQuestions.{answerTo, listAnswer};
 use super::packing::operation_number;
 use super::packing::refused;
 use super::symbol::refused_symbol;
-use magnetic_group::FlaggedOperation;
-use magnetic_group::MagneticLetter;
-use magnetic_group::MagneticOperation;
-use magnetic_group::MagneticOrder;
+use centering::Centering;
+use magnetic_group::Answer;
+use magnetic_group::list;
+use packed_operation::flag;
+use packed_operation::said;
+
+enum Question {
+    Order,
+    Letter,
+    Operation(u64),
+}
 
 // 3⁹ · 1728: a flag before the nine digits of a code and the twelfths.
 const FLAG: u64 = 34012224;
@@ -20,38 +31,62 @@ const FLAG: u64 = 34012224;
 pub extern "C" fn symmetry_magnetic_order(text: &[u8]) -> u64
     ensures { λ r. ⌜ r ≡ packed (orderAnswer (orderBy (magneticOutcome (now (text .entry))))) ⌝ }
 {
-    match magnetic_group::order(text) {
-        MagneticOrder::Is(n) => n as u64,
-        MagneticOrder::Refused(refusal) => refused_symbol(refusal),
-    }
+    asked(text, Question::Order)
 }
 
 #[no_mangle]
 pub extern "C" fn symmetry_magnetic_letter(text: &[u8]) -> u64
     ensures { λ r. ⌜ r ≡ packed (mapped byteOf (letterAnswer (letterBy (magneticOutcome (now (text .entry)))))) ⌝ }
 {
-    match magnetic_group::letter(text) {
-        MagneticLetter::Is(centering) => centering.byte() as u64,
-        MagneticLetter::Refused(refusal) => refused_symbol(refusal),
-    }
+    asked(text, Question::Letter)
 }
 
 #[no_mangle]
 pub extern "C" fn symmetry_magnetic_operation(text: &[u8], index: u64) -> u64
     ensures { λ r. ⌜ r ≡ packed (mapped flaggedNumber (operationAnswer (operationBy (magneticOutcome (now (text .entry))) index))) ⌝ }
 {
-    match magnetic_group::operation_at(text, index as usize) {
-        MagneticOperation::Operation(f) => flagged_number(f),
-        MagneticOperation::PastEnd => refused(28, 0),
-        MagneticOperation::Refused(refusal) => refused_symbol(refusal),
+    asked(text, Question::Operation(index))
+}
+
+fn asked(text: &[u8], question: Question) -> u64
+    ensures { λ r. ⌜ r ≡ packed (answerTo question (magneticOutcome (now (text .entry)))) ⌝ }
+{
+    let mut numbers = [0u64; 96];
+    let g = list(text, &mut numbers);
+    let answer = g.answer;
+    match answer {
+        Answer::Refused(refusal) => refused_symbol(refusal),
+        Answer::Group => {
+            let c = g.centering;
+            answered(question, g.count, c, &numbers)
+        }
     }
 }
 
-fn flagged_number(f: FlaggedOperation) -> u64
-    requires { ⌜ ReducedFlagged f ⌝ }
-    ensures { λ r. ⌜ r ≡ flaggedNumber f ⌝ }
+// What a list of numbers answers.
+fn answered(question: Question, count: usize, c: Centering, numbers: &[u64; 96]) -> u64
+    requires { ⌜ count ≤ 96 ⌝ }
+    ensures { λ r. ⌜ r ≡ packed (listAnswer question count c (now (numbers .entry))) ⌝ }
 {
-    let o = f.operation;
-    let number = operation_number(o);
-    if f.flag { FLAG + number } else { number }
+    match question {
+        Question::Order => count as u64,
+        Question::Letter => c.byte() as u64,
+        Question::Operation(index) => {
+            let i = index as usize;
+            if count <= i {
+                return refused(28, 0);
+            }
+            flagged_number(numbers[i])
+        }
+    }
+}
+
+fn flagged_number(n: u64) -> u64
+    ensures { λ r. ⌜ r ≡ flaggedNumber (besideFlag (flaggedSaid n)) ⌝ }
+{
+    let number = operation_number(said(n));
+    if flag(n) == 1 {
+        return FLAG + number;
+    }
+    number
 }

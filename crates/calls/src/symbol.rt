@@ -6,7 +6,7 @@ ghost use Rattle.symbol_group.specs.Answers.{symbolAnswer, orderOf, orderAnswer
 ghost use Rattle.symbol_group.specs.Refusals.{numberOf, placeOf};
 ghost use Rattle.group_record.specs.SymbolRecords.{symbolRecordAnswer, symbolRecordOf, symbolBufferOf};
 ghost use Rattle.calls.specs.Answers.{letterAnswer};
-ghost use Rattle.calls.specs.Packing.{topByte, packed, mapped, operationNumber, Told};
+ghost use Rattle.calls.specs.Packing.{topByte, packed, mapped, operationNumber, Told, Within, Low};
 use super::packing::operation_number;
 use super::packing::refused;
 use group_record::SymbolRecord;
@@ -56,7 +56,15 @@ pub extern "C" fn symmetry_symbol_record(text: &[u8], out: &mut [u8], start: u64
     ensures { λ r. ⌜ (r ≡ packed (symbolRecordAnswer (symbolRecordOf (now (text .entry)) (now (out .entry)) start)))
         × (now (out .exit) ≡ symbolBufferOf (now (text .entry)) (now (out .entry)) start) ⌝ }
 {
-    match write_record(text, out, start as usize) {
+    written(write_record(text, out, start as usize))
+}
+
+// What was written of a plain or a magnetic symbol, or why not.
+pub(crate) fn written(answer: SymbolRecord) -> u64
+    requires { ⌜ Within Low (symbolRecordAnswer answer) ⌝ }
+    ensures { λ r. ⌜ r ≡ packed (symbolRecordAnswer answer) ⌝ }
+{
+    match answer {
         SymbolRecord::Written(n) => n as u64,
         SymbolRecord::NoRoom => refused(20, 0),
         SymbolRecord::Refused(refusal) => refused_symbol(refusal),

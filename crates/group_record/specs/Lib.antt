@@ -39,5 +39,6 @@ pub mod Example
 pub mod Search
 pub mod Found
 pub mod Parts
+pub mod WrittenItems
 pub mod Selection
 pub mod Writing

@@ -11,3 +11,11 @@ pub mod OneRecord
 pub mod SymbolRecords
 pub mod OtherEditions
 pub mod Example
+pub mod Answers
+pub mod TextRecords
+pub mod Writing
+pub mod Walk
+pub mod Search
+pub mod Numbers
+pub mod Trailer
+pub mod Copying

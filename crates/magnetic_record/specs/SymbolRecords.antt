@@ -13,15 +13,17 @@ use Rattle.operation.specs.Composed.{identity-motion}
 use Rattle.operation.specs.Meaning.{motionOf}
 use Rattle.operation.specs.Product.{identityOperation}
 use Rattle.operation.specs.declared.Operation.{Operation}
-use Rattle.centering.specs.Letters.{pointsOf}
+use Rattle.centering.specs.Letters.{byteOf, pointsOf}
 use Rattle.centering.specs.Lattices.{points}
 use Rattle.centering.specs.declared.Centering.{Centering}
+use Rattle.group_record.specs.Editions.{totalLength, framed-length}
 use Rattle.group_record.specs.Rules.{holds, toldBy}
 use Rattle.group_record.specs.ListedForm.{alike-symmetric}
 use Rattle.group_record.specs.GroupLaws.{compose-alike}
 use Rattle.magnetic_group.specs.Acceptance.{MagneticAccepted}
 use Rattle.magnetic_group.specs.Members.{identity-first, at-most-96, ownPair, pair-generated, pairs-once, product-member, member-keeps}
 use Rattle.magnetic_group.specs.SetOfMotions.{InSet, set-exactly}
+use Rattle.magnetic_record.specs.SecondEdition.{secondEdition}
 use Rattle.magnetic_record.specs.Reading.{magneticRules}
 use Rattle.magnetic_record.specs.Groups.{FlaggedMotion, composeFlagged, Near, InMagneticSet, MagneticAllowed, flaggedMotion, motionsOf}
 use Rattle.magnetic_record.specs.Record.{smallestItem, keyBefore, magneticForm, magneticRecord}
@@ -29,9 +31,14 @@ use Rattle.magnetic_record.specs.RoundTrips.{magnetic-reads-back}
 use Rattle.magnetic_record.specs.OneRecord.{MagneticListing, in-form, to-form, item-near, near-transitive, form-identity, form-good, magnetic-records-say-sets}
 
 -- ---- allowed operations stay allowed in the listed form
-form-length : (c : Centering) (l : List (Flagged Operation)) → length (magneticForm c l) ≡ length l
+pub form-length : (c : Centering) (l : List (Flagged Operation)) → length (magneticForm c l) ≡ length l
 unfolding magneticForm
 form-length c l = sort-length keyBefore (map (smallestItem c) l) ∙ length-map l (smallestItem c)
+
+-- How long a record is.
+pub record-size : (c : Centering) (l : List (Flagged Operation)) → length (magneticRecord c l) ≡ totalLength 6 (length l)
+unfolding magneticRecord
+record-size c l = framed-length secondEdition (byteOf c) (magneticForm c l) ∙ ap (totalLength 6) (form-length c l)
 
 module _ (c : Centering) (l : List (Flagged Operation)) (L : MagneticListing l) (one : Mem (held identityOperation) l)
     (A : MagneticAllowed c (map (imageFlagged motionOf) l)) where

@@ -1,0 +1,27 @@
+-- The answer, packed, and the lent buffer as it was left.
+use mathlib.Core.Path.{sym, _∙_, ap, subst}
+use Rattle.group_record.specs.SymbolRecords.{symbolRecordAnswer}
+use Rattle.group_record.specs.declared.SymbolRecord.{SymbolRecord}
+use Rattle.calls.specs.Packing.{packed, Within, Low}
+use Rattle.calls.specs.MagneticRecordBounds.{record-within}
+use borrow.Author.Needs.{needs}
+use Rattle.calls.proofs.magnetic_records.symmetry_magnetic_record.Statement.{statement}
+use Rattle.calls.proofs.magnetic_records.symmetry_magnetic_record.Tie as tie
+
+write-record-requires : tie.Need-write-record-requires
+write-record-requires c κs = search needs
+
+written-requires : tie.Need-written-requires
+written-requires c κs =
+    subst (λ (a : SymbolRecord). Within Low (symbolRecordAnswer a)) (sym (c .before .before .write-record .ensures .0)) (record-within _ _ _)
+
+same-length : tie.Need-same-length
+same-length c = search needs
+
+returns : tie.Need-returns
+returns c =
+    let out = c .before .before .before .write-record .ensures in
+    (c .written .ensures ∙ ap (λ (a : SymbolRecord). packed (symbolRecordAnswer a)) (out .0), out .1)
+
+pub symmetry-magnetic-record-spec : {M : Type 1} → statement M
+symmetry-magnetic-record-spec = tie.close (tie.spec write-record-requires written-requires same-length returns)

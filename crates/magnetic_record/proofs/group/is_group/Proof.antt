@@ -1,0 +1,60 @@
+-- A conjunction: the identity is listed without the flag, and then the members decide.
+use mathlib.Core.Path.{_≡_, sym, _∙_, ap}
+use borrow.Author.Tests.{not-true, not-false}
+use Rattle.laws.specs.Distinct.{has}
+use Rattle.operation.specs.Product.{identityOperation}
+use Rattle.operation.specs.declared.Operation.{Operation}
+use Rattle.group_record.specs.OperationItems.{itemOf}
+use Rattle.group_record.specs.Reading.{alikeItems}
+use Rattle.magnetic_record.specs.Reading.{half, isMagneticGroup}
+use Rattle.magnetic_record.specs.Search.{itemsOf}
+use borrow.Author.Needs.{needs}
+use Rattle.magnetic_record.proofs.group.is_group.Statement.{statement}
+use Rattle.magnetic_record.proofs.group.is_group.Tie as tie
+use Rattle.magnetic_record.proofs.group.is_group.Reads as reads
+use Rattle.magnetic_record.proofs.group.is_group.Lts as lts
+use Rattle.magnetic_record.proofs.group.all_members.Reads as all-members-reads
+use Rattle.magnetic_record.proofs.group.is_listed.Reads as is-listed-reads
+use Rattle.magnetic_record.proofs.group.pack.Reads as pack-reads
+use Rattle.operation.proofs.product.identity.Reads as identity-reads
+
+identity-requires : tie.Need-identity-requires
+identity-requires c κs = search needs
+
+is-listed-requires : tie.Need-is-listed-requires
+is-listed-requires c κs = search needs
+
+returns : tie.Need-returns
+unfolding isMagneticGroup
+returns c =
+    let a = c .before .before .before .before .args in
+    let items = itemsOf (a .n) (a .bytes .now) in
+    let unit : c .before .is-listed .result ≡ has (alikeItems (a .c)) (itemOf identityOperation) (half 0 items) =
+    c .before .is-listed .ensures ∙ ap (λ (o : Operation). has (alikeItems (a .c)) (itemOf o) (half 0 items)) (c .before .before .identity .ensures) in
+    rw (sym unit ∙ not-true (c .before .is-listed .result) (c .if1 .taken))
+
+pack-requires : tie.Need-pack-requires
+pack-requires c κs = search needs
+
+all-members-requires : tie.Need-all-members-requires
+all-members-requires c κs = search needs
+
+returns-2 : tie.Need-returns-2
+unfolding isMagneticGroup
+returns-2 c =
+    let a = c .before .before .before .before .before .before .before .before .args in
+    let items = itemsOf (a .n) (a .bytes .now) in
+    let unit : c .before .before .before .before .before .is-listed .result ≡ has (alikeItems (a .c)) (itemOf identityOperation) (half 0 items) =
+    c .before .before .before .before .before .is-listed .ensures ∙ ap (λ (o : Operation). has (alikeItems (a .c)) (itemOf o) (half 0 items)) (c .before .before .before .before .before .before .identity .ensures) in
+    rw (sym unit ∙ not-false (c .before .before .before .before .before .is-listed .result) (c .before .before .before .before .if1 .left)) (c .all-members .ensures)
+
+pub is-group-spec : {M : Type 1} → statement M
+is-group-spec =
+    tie.close
+    (tie.spec
+    identity-requires
+    is-listed-requires
+    returns
+    pack-requires
+    all-members-requires
+    returns-2)

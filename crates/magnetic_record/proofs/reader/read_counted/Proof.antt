@@ -1,0 +1,145 @@
+-- Where the length fits, the items are tried on the rest of the buffer from the record's start.
+use mathlib.Core.Path.{_≡_, sym, _∙_}
+use Prim.Native.Nat.{_+_, _*_, _-_}
+use native.Mathlib.Omega.{arith}
+use lib.ListN.{length, length-drop}
+use borrow.Author.Tests.{not-true, not-false}
+use Rattle.group_record.specs.Outcomes.{length-test}
+use Rattle.group_record.specs.Parts.{tail-part}
+use Rattle.magnetic_record.specs.Search.{good-places}
+use Rattle.magnetic_record.specs.Trailer.{counted-fails, items-wrong, items-barred, items-right}
+use borrow.Author.Needs.{needs}
+use Rattle.magnetic_record.proofs.reader.read_counted.Statement.{statement}
+use Rattle.magnetic_record.proofs.reader.read_counted.Tie as tie
+use Rattle.magnetic_record.proofs.reader.read_counted.Reads as reads
+use Rattle.magnetic_record.proofs.reader.read_counted.Lts as lts
+use Rattle.magnetic_record.proofs.group.is_group.Reads as is-group-reads
+use Rattle.magnetic_record.proofs.reader.are_items.Reads as are-items-reads
+use Rattle.magnetic_record.proofs.reader.from_end.Reads as from-end-reads
+use Rattle.magnetic_record.proofs.reader.length_fits.Reads as length-fits-reads
+
+from-end-requires : tie.Need-from-end-requires
+from-end-requires c κs = search needs
+
+cast-n : tie.Need-cast-n
+cast-n c = search needs
+
+from-end-requires-2 : tie.Need-from-end-requires-2
+from-end-requires-2 c κs = search needs
+
+cast-stated : tie.Need-cast-stated
+cast-stated c = search needs
+
+mul-stated : tie.Need-mul-stated
+mul-stated c = search needs
+
+from-end-requires-3 : tie.Need-from-end-requires-3
+from-end-requires-3 c κs = search needs
+
+cast-stated-2 : tie.Need-cast-stated-2
+cast-stated-2 c = search needs
+
+add-stated : tie.Need-add-stated
+add-stated c = search needs
+
+length-fits-requires : tie.Need-length-fits-requires
+length-fits-requires c κs = search needs
+
+returns : tie.Need-returns
+returns c =
+    let a = c .before .before .before .before .before .before .args in
+    let fails = sym (c .before .length-fits .ensures) ∙ not-true (c .before .length-fits .result) (c .if1 .taken) in
+    sym (counted-fails (a .c) (a .bytes .now) (c .before .before .before .before .from-end .result) (c .before .before .before .from-end2 .result) (c .before .before .from-end3 .result) (c .before .before .before .before .from-end .ensures) (c .before .before .before .from-end2 .ensures)
+    (c .before .before .from-end3 .ensures) fails)
+
+sub-start : tie.Need-sub-start
+sub-start c = let fits = length-test _ _ _ _ _ .0 (sym (c .before .length-fits .ensures) ∙ not-false (c .before .length-fits .result) (c .if1 .left)) in omega (arith, fits)
+
+sub-are-items : tie.Need-sub-are-items
+sub-are-items c = search needs
+
+part-are-items-start : tie.Need-part-are-items-start
+part-are-items-start c = search needs
+
+part-are-items-end : tie.Need-part-are-items-end
+part-are-items-end c = search needs
+
+are-items-requires : tie.Need-are-items-requires
+are-items-requires c κs =
+    let a = c .before .before .before .before .before .before .before .args in
+    let fits = sym (c .before .before .length-fits .ensures) ∙ not-false (c .before .before .length-fits .result) (c .before .if1 .left) in
+    let bounds = length-test _ _ _ _ _ .0 fits in
+    (bounds .0, bounds .1, rw (tail-part (a .bytes .now) (length (a .bytes .now) - (c .before .before .before .before .from-end2 .result * 256 + c .before .before .before .from-end3 .result)), length-drop) (omega (arith, bounds)))
+
+returns-2 : tie.Need-returns-2
+returns-2 c =
+    let a = c .before .before .before .before .before .before .before .before .before .args in
+    let fits = sym (c .before .before .before .before .length-fits .ensures) ∙ not-false (c .before .before .before .before .length-fits .result) (c .before .before .before .if1 .left) in
+    let wrong = sym (c .before .are-items .ensures) ∙ not-true (c .before .are-items .result) (c .if2 .taken) in
+    sym (items-wrong (a .c) (a .bytes .now) (c .before .before .before .before .before .before .before .from-end .result) (c .before .before .before .before .before .before .from-end2 .result) (c .before .before .before .before .before .from-end3 .result) (c .before .before .before .before .before .before .before .from-end .ensures) (c .before .before .before .before .before .before .from-end2 .ensures)
+    (c .before .before .before .before .before .from-end3 .ensures) fits _
+    (tail-part (a .bytes .now) (length (a .bytes .now) - (c .before .before .before .before .before .before .from-end2 .result * 256 + c .before .before .before .before .before .from-end3 .result))) wrong)
+
+sub-is-group : tie.Need-sub-is-group
+sub-is-group c = search needs
+
+part-is-group-start : tie.Need-part-is-group-start
+part-is-group-start c = search needs
+
+part-is-group-end : tie.Need-part-is-group-end
+part-is-group-end c = search needs
+
+is-group-requires : tie.Need-is-group-requires
+is-group-requires c κs =
+    let a = c .before .before .before .before .before .before .before .before .before .before .args in
+    let fits = sym (c .before .before .before .before .before .length-fits .ensures) ∙ not-false (c .before .before .before .before .before .length-fits .result) (c .before .before .before .before .if1 .left) in
+    let bounds = length-test _ _ _ _ _ .0 fits in
+    let right = sym (c .before .before .are-items .ensures) ∙ not-false (c .before .before .are-items .result) (c .before .if2 .left) in
+    good-places _ _ (a .c) (bounds .1) (rw (tail-part (a .bytes .now) (length (a .bytes .now) - (c .before .before .before .before .before .before .before .from-end2 .result * 256 + c .before .before .before .before .before .before .from-end3 .result)), length-drop) (omega (arith, bounds))) right
+
+returns-3 : tie.Need-returns-3
+returns-3 c =
+    let a = c .before .before .before .before .before .before .before .before .before .before .before .before .args in
+    let fits = sym (c .before .before .before .before .before .before .before .length-fits .ensures) ∙ not-false (c .before .before .before .before .before .before .before .length-fits .result) (c .before .before .before .before .before .before .if1 .left) in
+    let right = sym (c .before .before .before .before .are-items .ensures) ∙ not-false (c .before .before .before .before .are-items .result) (c .before .before .before .if2 .left) in
+    let barred = sym (c .before .is-group .ensures) ∙ not-true (c .before .is-group .result) (c .if3 .taken) in
+    sym (items-barred (a .c) (a .bytes .now) (c .before .before .before .before .before .before .before .before .before .before .from-end .result) (c .before .before .before .before .before .before .before .before .before .from-end2 .result) (c .before .before .before .before .before .before .before .before .from-end3 .result) (c .before .before .before .before .before .before .before .before .before .before .from-end .ensures) (c .before .before .before .before .before .before .before .before .before .from-end2 .ensures)
+    (c .before .before .before .before .before .before .before .before .from-end3 .ensures) fits _
+    (tail-part (a .bytes .now) (length (a .bytes .now) - (c .before .before .before .before .before .before .before .before .before .from-end2 .result * 256 + c .before .before .before .before .before .before .before .before .from-end3 .result))) right barred)
+
+returns-4 : tie.Need-returns-4
+returns-4 c =
+    let a = c .before .before .before .before .before .before .before .before .before .before .before .before .args in
+    let fits = sym (c .before .before .before .before .before .before .before .length-fits .ensures) ∙ not-false (c .before .before .before .before .before .before .before .length-fits .result) (c .before .before .before .before .before .before .if1 .left) in
+    let right = sym (c .before .before .before .before .are-items .ensures) ∙ not-false (c .before .before .before .before .are-items .result) (c .before .before .before .if2 .left) in
+    let allowed = sym (c .before .is-group .ensures) ∙ not-false (c .before .is-group .result) (c .if3 .left) in
+    sym (items-right (a .c) (a .bytes .now) (c .before .before .before .before .before .before .before .before .before .before .from-end .result) (c .before .before .before .before .before .before .before .before .before .from-end2 .result) (c .before .before .before .before .before .before .before .before .from-end3 .result) (c .before .before .before .before .before .before .before .before .before .before .from-end .ensures) (c .before .before .before .before .before .before .before .before .before .from-end2 .ensures)
+    (c .before .before .before .before .before .before .before .before .from-end3 .ensures) fits _
+    (tail-part (a .bytes .now) (length (a .bytes .now) - (c .before .before .before .before .before .before .before .before .before .from-end2 .result * 256 + c .before .before .before .before .before .before .before .before .from-end3 .result))) right allowed)
+
+pub read-counted-spec : {M : Type 1} → statement M
+read-counted-spec =
+    tie.close
+    (tie.spec
+    from-end-requires
+    cast-n
+    from-end-requires-2
+    cast-stated
+    mul-stated
+    from-end-requires-3
+    cast-stated-2
+    add-stated
+    length-fits-requires
+    returns
+    sub-start
+    sub-are-items
+    part-are-items-start
+    part-are-items-end
+    are-items-requires
+    returns-2
+    sub-is-group
+    part-is-group-start
+    part-is-group-end
+    is-group-requires
+    returns-3
+    returns-4)
