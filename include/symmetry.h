@@ -21,6 +21,7 @@
  *   symmetry_magnetic_... text    the bytes of a magnetic symbol, which is spelt as a Hall symbol, but an N token may end with an apostrophe: time
  *                                 reversal. Operations have a flag, products combine flags by exclusive or, and a rotation may come once with the flag
  *                                 and once without it: up to 96 operations. Refusals 1 to 14 and 17.
+ *   symmetry_magnetic_record_...  record   bytes that end with a record of a magnetic symbol's group, which is of edition 2. Refusals 30 to 35.
  *   symmetry_record_...   record  bytes that end with a group record, of edition 1 or 3; what stands before it is not looked at. Elements are numbered
  *                                 in the record's order, by ascending rotation code. Refusals 30 to 35.
  *   symmetry_table_...    order and table   n and n * n bytes by rows, the byte at i * n + j being the product of i and j. Refusals 21 to 25.
@@ -65,6 +66,8 @@ enum symmetry_most {
     SYMMETRY_MOST_ORDER = 48,             /* elements of a group */
     SYMMETRY_MOST_MAGNETIC_ORDER = 96,    /* operations of a magnetic symbol: each rotation with the flag and without it */
     SYMMETRY_MOST_RECORD = 245,           /* bytes of a record: 5 * 48 + 5; of edition 3 4 * 48 + 5 */
+    SYMMETRY_MOST_MAGNETIC_RECORD = 581,  /* bytes of a magnetic symbol's record: 6 * 96 + 5 */
+    SYMMETRY_MAGNETIC_ITEM = 6,           /* bytes of one operation in it: the code, high byte first, then x, y, z, then the flag */
     SYMMETRY_MOST_LIST = 240,             /* bytes of another program's list: 5 * 48 */
     SYMMETRY_MOST_REPORT = 864,           /* bytes of a report on two records: 9 * 96 */
     SYMMETRY_REPORT_ENTRY = 9,            /* bytes of one difference in it */
@@ -123,13 +126,16 @@ enum symmetry_refusal {
     SYMMETRY_NOT_AN_ELEMENT = 28,   /* the element or the index is not below the order */
     SYMMETRY_NOT_NORMALIZING = 29,  /* a permutation asked for an element that does not conjugate the subgroup to itself */
     /* A group record; at 0. */
-    SYMMETRY_RECORD_SHORT = 30,     /* under 9 bytes; of a comparison under 10 */
-    SYMMETRY_RECORD_EDITION = 31,   /* the edition is not 1 or 3; of a comparison not 1 */
-    SYMMETRY_RECORD_LETTER = 32,    /* the letter is not one of P A B C I R F H p c */
-    SYMMETRY_RECORD_LENGTH = 33,    /* not 1 to 48 operations, or a stated length that is wrong or beyond the buffer */
+    SYMMETRY_RECORD_SHORT = 30,     /* under 9 bytes; of a comparison and of a magnetic record under 10 */
+    SYMMETRY_RECORD_EDITION = 31,   /* the edition is not 1 or 3; of a comparison not 1; of a magnetic record not 2 */
+    SYMMETRY_RECORD_LETTER = 32,    /* the letter is not one of P A B C I R F H p c; of a magnetic record not one of P A B C I R F H */
+    SYMMETRY_RECORD_LENGTH = 33,    /* not 1 to 48 operations, of a magnetic record not 1 to 96, or a stated length that is wrong or beyond the
+                                       buffer */
     SYMMETRY_RECORD_ITEM = 34,      /* a code over 19682, a coordinate over 11, a translation not the smallest of its class, or codes not ascending;
+                                       of a magnetic record also a flag over 1, and two operations with one code ascend by their flags;
                                        of a single operation: not five bytes, or such a code or coordinate */
-    SYMMETRY_RECORD_NO_GROUP = 35,  /* what is listed is no group that a record may hold; under p or c also: an operation is none of a layer */
+    SYMMETRY_RECORD_NO_GROUP = 35,  /* what is listed is no group that a record may hold; under p or c also: an operation is none of a layer; of a
+                                       magnetic record: no group of motions with flags, in which only lattice translations lack the flag */
     /* An operation line. */
     SYMMETRY_LINE_TOO_LONG = 40,    /* over 64 bytes; at 0 */
     SYMMETRY_LINE_MISSPELT = 41,    /* at the first byte that no line has after the bytes before it, or at the line's length if it breaks off */
@@ -264,11 +270,12 @@ static inline uint64_t symmetry_catalogue_answer(uint64_t value)
 
 /* ---- the group itself ---- */
 
-/* The order: how many operations modulo the lattice, or how many elements. 1 to 48; of a magnetic symbol 1 to 96. */
+/* The order: how many operations modulo the lattice, or how many elements. 1 to 48; of a magnetic symbol or record 1 to 96. */
 uint64_t symmetry_symbol_order(const uint8_t *text, size_t text_length);
 uint64_t symmetry_layer_order(const uint8_t *text, size_t text_length);
 uint64_t symmetry_magnetic_order(const uint8_t *text, size_t text_length);
 uint64_t symmetry_record_order(const uint8_t *record, size_t record_length);
+uint64_t symmetry_magnetic_record_order(const uint8_t *record, size_t record_length);
 uint64_t symmetry_table_order(uint64_t order, const uint8_t *table, size_t table_length);
 
 /* The index of the identity; a symbol's is 0. */
@@ -281,6 +288,7 @@ uint64_t symmetry_symbol_letter(const uint8_t *text, size_t text_length);
 uint64_t symmetry_layer_letter(const uint8_t *text, size_t text_length);
 uint64_t symmetry_magnetic_letter(const uint8_t *text, size_t text_length);
 uint64_t symmetry_record_letter(const uint8_t *record, size_t record_length);
+uint64_t symmetry_magnetic_record_letter(const uint8_t *record, size_t record_length);
 
 /*
  * The operation with this index in list order: code * 1728 + x * 144 + y * 12 + z, the code being the sum of (entry + 1) * 3^(8 - i) over the
@@ -334,6 +342,10 @@ static inline unsigned symmetry_check_detail(uint64_t value) { return (unsigned)
  *   0C 7E 00 00 00   40 64 00 00 00   70 01 02 00 0F
  * Every symmetry_record_ function reads these too, in both editions, and a copy and a move keep the letter. A program that knows capital letters alone
  * refuses them with 32.
+ * The record of a magnetic symbol has edition 2 and six bytes an operation, the flag 0 or 1 behind x, y and z. Operations ascend by code, and of two with
+ * one code the one without the flag stands first; there are 1 to 96, and the total length is 6 * n + 5. Else it is that of edition 1. That of P 1a' is
+ *   40 64 00 00 00 00   40 64 06 00 00 01   50 02 02 00 11
+ * Only the symmetry_magnetic_record_ functions read it, and they read nothing else: the others refuse it with 31, and these refuse the editions 1 and 3 so.
  */
 
 /*
@@ -348,8 +360,15 @@ uint64_t symmetry_symbol_record(const uint8_t *text, size_t text_length, uint8_t
  */
 uint64_t symmetry_layer_record(const uint8_t *text, size_t text_length, uint8_t *out, size_t out_length, uint64_t start);
 
+/*
+ * The same for a magnetic symbol, in edition 2: the 6 * n + 5 bytes from out + start on hold the record. Two magnetic symbols get the same bytes exactly
+ * if their groups are the same set of motions with flags. 20 after the symbol's own refusals.
+ */
+uint64_t symmetry_magnetic_record(const uint8_t *text, size_t text_length, uint8_t *out, size_t out_length, uint64_t start);
+
 /* The same for the group that a record holds: reads it, and writes it from out + start on, in the edition in which it was read. */
 uint64_t symmetry_record_copy(const uint8_t *record, size_t record_length, uint8_t *out, size_t out_length, uint64_t start);
+uint64_t symmetry_magnetic_record_copy(const uint8_t *record, size_t record_length, uint8_t *out, size_t out_length, uint64_t start);
 
 /* The edition of a record, 1 or 3. */
 uint64_t symmetry_record_edition(const uint8_t *record, size_t record_length);

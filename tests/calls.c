@@ -373,6 +373,88 @@ static void records(void) {
     expect(memcmp(out, marks, ROOM) == 0, "untouched buffers", 0);
 }
 
+/* ---- magnetic records ----
+   That of P 1a': the identity, and x+1/2,y,z with time reversal; six bytes each, the flag last, then the letter, edition 2, the count and the length 17. */
+static const uint8_t reversing[17] = { 0x40, 0x64, 0, 0, 0, 0, 0x40, 0x64, 6, 0, 0, 1, 'P', 2, 2, 0, 17 };
+static const uint8_t grey[17] = { 0x40, 0x64, 0, 0, 0, 0, 0x40, 0x64, 0, 0, 0, 1, 'P', 2, 2, 0, 17 };
+static const uint8_t alone[11] = { 0x40, 0x64, 0, 0, 0, 0, 'P', 2, 1, 0, 11 }, flagged[11] = { 0x40, 0x64, 0, 0, 0, 1, 'P', 2, 1, 0, 11 };
+
+static void magnetic_written(void) {
+    for (size_t length = 0; length <= 22; length++)
+        for (uint64_t start = 0; start <= 23; start++)
+            for (int copied = 0; copied < 2; copied++) {
+                uint8_t out[ROOM], after[ROOM];
+                memset(out, MARK, ROOM);
+                memset(after, MARK, ROOM);
+                int fits = start + 17 <= length;
+                if (fits) memcpy(after + start, reversing, 17);
+                uint8_t *lent = length ? out : NULL;
+                uint64_t got = copied ? symmetry_magnetic_record_copy(reversing, 17, lent, length, start)
+                                      : symmetry_magnetic_record(TEXT("P 1a'"), lent, length, start);
+                expect(got == (fits ? 2 : refusal(20, 0)) && memcmp(out, after, ROOM) == 0, "a magnetic record written", got);
+            }
+}
+
+/* The bytes of P 1a' with one changed: another edition; a letter of no lattice, and small letters; a count or a length that is wrong; a flag of 2, a coordinate
+   of 12, codes that descend, and the same operation twice; and x+1/3, whose square is not listed. */
+static const struct { size_t at; uint8_t byte; unsigned number; } magnetic_damage[] = {
+    { 13, 0, 31 }, { 13, 1, 31 }, { 13, 3, 31 }, { 12, 'S', 32 }, { 12, 'p', 32 }, { 12, 'c', 32 }, { 14, 0, 33 }, { 14, 1, 33 }, { 14, 3, 33 },
+    { 14, 97, 33 }, { 16, 16, 33 }, { 15, 1, 33 }, { 11, 2, 34 }, { 5, 255, 34 }, { 8, 12, 34 }, { 0, 0x41, 34 }, { 11, 0, 34 }, { 5, 1, 34 }, { 8, 4, 35 },
+};
+
+static void magnetic_records(void) {
+    uint8_t padded[22] = { 9, 8, 7, 6, 5 }, spoilt[17], out[ROOM], marks[ROOM], cube[SYMMETRY_MOST_MAGNETIC_RECORD + 3], copy[SYMMETRY_MOST_MAGNETIC_RECORD];
+    memcpy(padded + 5, reversing, 17);
+    memset(out, MARK, ROOM);
+    memset(marks, MARK, ROOM);
+    answers(symmetry_magnetic_record_order(reversing, 17), 2, "the order of a magnetic record");
+    answers(symmetry_magnetic_record_letter(reversing, 17), 'P', "its letter");
+    answers(symmetry_magnetic_record_order(padded, 22), 2, "bytes before it");
+    answers(symmetry_magnetic_record_order(grey, 17), 2, "the record of a grey group");
+    answers(symmetry_magnetic_record_order(alone, 11), 1, "the shortest magnetic record");
+    answers(symmetry_magnetic_record_order(flagged, 11), refusal(35, 0), "no identity without the flag");
+    answers(symmetry_magnetic_record_order(NULL, 0), refusal(30, 0), "no record");
+    answers(symmetry_magnetic_record_letter(reversing + 8, 9), refusal(30, 0), "nine bytes");
+    answers(symmetry_magnetic_record_letter(reversing + 7, 10), refusal(33, 0), "ten bytes");
+    for (size_t i = 0; i < sizeof magnetic_damage / sizeof *magnetic_damage; i++) {
+        memcpy(spoilt, reversing, 17);
+        spoilt[magnetic_damage[i].at] = magnetic_damage[i].byte;
+        uint64_t told = refusal(magnetic_damage[i].number, 0);
+        answers(symmetry_magnetic_record_order(spoilt, 17), told, "a damaged magnetic record");
+        answers(symmetry_magnetic_record_letter(spoilt, 17), told, "its letter");
+        answers(symmetry_magnetic_record_copy(spoilt, 17, out, 3, 9), told, "its copy");
+    }
+    /* the readers of other editions, and this one */
+    answers(symmetry_record_order(reversing, 17), refusal(31, 0), "edition 2 to the reader of plain records");
+    answers(symmetry_record_letter(reversing, 17), refusal(31, 0), "edition 2 to the reader of plain records");
+    answers(symmetry_record_copy(reversing, 17, out, ROOM, 0), refusal(31, 0), "edition 2 to the copier of plain records");
+    answers(symmetry_record_move(reversing, 17, out, ROOM, 0), refusal(31, 0), "edition 2, moved");
+    answers(symmetry_record_compare(inversion, 15, reversing, 17, out, ROOM), refusal(61, 0), "edition 2, compared");
+    answers(symmetry_record_subgroups(reversing, 17, out, ROOM), refusal(31, 0), "subgroups of edition 2");
+    answers(symmetry_magnetic_record_order(inversion, 15), refusal(31, 0), "edition 1 to the reader of magnetic records");
+    answers(symmetry_magnetic_record_order(shorter, 13), refusal(31, 0), "edition 3 to it");
+    answers(symmetry_magnetic_record_order(shortest, 9), refusal(30, 0), "nine bytes of edition 3 to it");
+    /* refusals of the text go first, and no refusal writes */
+    answers(symmetry_magnetic_record(TEXT("P 1a"), out, 3, 9), refusal(14, 0), "no group, and no room");
+    answers(symmetry_magnetic_record(TEXT("P 2''"), out, ROOM, 0), refusal(8, 2), "no symbol");
+    answers(symmetry_magnetic_record(NULL, 0, NULL, 0, 0), refusal(3, 0), "no text, and no room");
+    answers(symmetry_magnetic_record(TEXT("P 1a'"), out, ROOM, UINT64_MAX), refusal(20, 0), "a start that wraps");
+    answers(symmetry_magnetic_record_copy(reversing, 17, out, ROOM, UINT64_MAX - 16), refusal(20, 0), "a start that wraps");
+    answers(symmetry_magnetic_record(TEXT("-P 4 2 3 1'"), out, ROOM, 0), refusal(20, 0), "no room for 96 operations");
+    expect(memcmp(out, marks, ROOM) == 0, "untouched buffers", 0);
+    memset(cube, MARK, sizeof cube);
+    answers(symmetry_magnetic_record(TEXT("-P 4 2 3 1'"), cube, 580, 0), refusal(20, 0), "a byte too few for 96 operations");
+    answers(symmetry_magnetic_record(TEXT("-P 4 2 3 1'"), cube, 583, 2), 96, "96 operations");
+    expect(cube[1] == MARK && cube[583] == MARK && memcmp(cube + 578, "P\2\140\2\105", 5) == 0, "their trailer", cube[583]);
+    answers(symmetry_magnetic_record_order(cube + 2, 581), 96, "their order");
+    answers(symmetry_magnetic_record_copy(cube, 583, copy, 581, 0), 96, "their copy");
+    expect(memcmp(cube + 2, copy, 581) == 0, "the same bytes", 0);
+    /* two spellings of one set of motions */
+    answers(symmetry_magnetic_record(TEXT("-P 2'"), cube, 29, 0), 4, "2' and the inversion");
+    answers(symmetry_magnetic_record(TEXT("-P -2'"), copy, 29, 0), 4, "m' and the inversion");
+    expect(memcmp(cube, copy, 29) == 0, "one record", 0);
+}
+
 /* ---- two records ----
    Of -P 1 and P 1 the inversion, code 3198, is only in one; 2 and 21 along z, code 3200, differ by six twelfths; P and I are other letters. */
 static const uint8_t one_record[10] = { 0x40, 0x64, 0, 0, 0, 'P', 1, 1, 0, 10 }, body[10] = { 0x40, 0x64, 0, 0, 0, 'I', 1, 1, 0, 10 };
@@ -610,6 +692,8 @@ int main(void) {
     magnetic();
     written();
     records();
+    magnetic_written();
+    magnetic_records();
     comparisons();
     lines();
     checked();

@@ -60,6 +60,10 @@ struct entry {
     ENTRY(magnetic_order, "s", INPUT) \
     ENTRY(magnetic_letter, "s", INPUT) \
     ENTRY(magnetic_operation, "sn", INPUT, call->number[0]) \
+    ENTRY(magnetic_record, "sln", INPUT, LENT(0), call->number[0]) \
+    ENTRY(magnetic_record_order, "s", INPUT) \
+    ENTRY(magnetic_record_letter, "s", INPUT) \
+    ENTRY(magnetic_record_copy, "sln", INPUT, LENT(0), call->number[0]) \
     ENTRY(symbol_record, "sln", INPUT, LENT(0), call->number[0]) \
     ENTRY(record_copy, "sln", INPUT, LENT(0), call->number[0]) \
     ENTRY(record_edition, "s", INPUT) \

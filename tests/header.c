@@ -65,6 +65,8 @@ static void check_sizes(void)
     check("the largest order", SYMMETRY_MOST_ORDER, 48);
     check("the largest order of a magnetic symbol", SYMMETRY_MOST_MAGNETIC_ORDER, 2 * 48);
     check("the longest record", SYMMETRY_MOST_RECORD, 5 * 48 + 5);
+    check("the longest record of a magnetic symbol", SYMMETRY_MOST_MAGNETIC_RECORD, 6 * 96 + 5);
+    check("the bytes of an operation in it", SYMMETRY_MAGNETIC_ITEM, 2 + 3 + 1);
     check("the longest list", SYMMETRY_MOST_LIST, 5 * 48);
     check("the longest report", SYMMETRY_MOST_REPORT, 9 * (48 + 48));
     check("the bytes of a difference", SYMMETRY_REPORT_ENTRY, 1 + 2 + 3 + 3);

@@ -7,16 +7,19 @@ use Prim.Native.Nat.{ℕ}
 use native.Mathlib.Omega.{arith}
 use lib.ListN.{length, length-map}
 use Rattle.centering.specs.declared.Centering.{Centering}
+use Rattle.group_record.specs.Copying.{copyAnswer}
 use Rattle.group_record.specs.Editions.{totalLength}
 use Rattle.group_record.specs.Items.{Bytes}
 use Rattle.group_record.specs.Places.{roomFrom}
 use Rattle.group_record.specs.Rules.{Told as ToldBy, holds, toldBy}
 use Rattle.group_record.specs.Rules.{refused as not-held}
 use Rattle.group_record.specs.SymbolRecords.{symbolRecordAnswer}
+use Rattle.group_record.specs.declared.Copied.the-variants as Copy
 use Rattle.group_record.specs.declared.SymbolRecord.the-variants.{Written, NoRoom}
 use Rattle.magnetic_group.specs.Generated.{group, refused}
 use Rattle.magnetic_group.specs.Symbols.{SymbolOutcome, made, misread, magneticOutcome}
 use Rattle.magnetic_record.specs.Answers.{readingBy, readingOf, magneticOrderAnswer, magneticLetterAnswer}
+use Rattle.magnetic_record.specs.Copying.{copiedBy, magneticCopiedOf}
 use Rattle.magnetic_record.specs.Groups.{flaggedMotion}
 use Rattle.magnetic_record.specs.Reading.{magneticRules}
 use Rattle.magnetic_record.specs.RoundTrips.{magnetic-written-again}
@@ -54,6 +57,20 @@ module _ (bytes : List ℕ) (b : Bytes bytes) where
   -- So can the order of a magnetic record,
   pub order-within : Within Low (magneticOrderAnswer (readingOf bytes))
   order-within = order-by (toldBy magneticRules bytes) refl
+
+  copy-by : (t : ToldBy MagneticItem Centering (Unit {0})) → toldBy magneticRules bytes ≡ t → (start size : ℕ)
+      → Within Low (copyAnswer (copiedBy t start size))
+  copy-by (holds k c items) e start size = by-room (roomFrom start (totalLength 6 (length items)) size)
+    where
+      by-room : (r : Bool) → Within Low (copyAnswer (cond r (Copy.Written (length items)) Copy.NoRoom))
+      by-room true = order-by (holds k c items) e
+      by-room false = room-told
+  copy-by (not-held why) e start size = record-told why
+
+  -- the answer of a copy,
+  pub copy-within : (out : List ℕ) (start : ℕ) → Within Low (copyAnswer (magneticCopiedOf bytes out start))
+  unfolding magneticCopiedOf
+  copy-within out start = copy-by (toldBy magneticRules bytes) refl start (length out)
 
 -- and its letter.
 pub letter-within : (a : MagneticReading) → Within Low (magneticLetterAnswer a)

@@ -1,12 +1,16 @@
 // The record of a magnetic symbol, edition 2, and what is asked of a buffer that ends with one.
 ghost use mathlib.Core.Path.{_≡_};
+ghost use Rattle.group_record.specs.Copying.{copyAnswer};
 ghost use Rattle.group_record.specs.SymbolRecords.{symbolRecordAnswer};
 ghost use Rattle.magnetic_record.specs.Answers.{readingOf, magneticOrderAnswer, magneticLetterAnswer};
+ghost use Rattle.magnetic_record.specs.Copying.{magneticCopiedOf, magneticCopyBuffer};
 ghost use Rattle.magnetic_record.specs.TextRecords.{magneticRecordOf, magneticBufferOf};
 ghost use Rattle.calls.specs.Packing.{packed};
+use super::record::copied;
 use super::record::refused_record;
 use super::symbol::written;
 use magnetic_record::MagneticReading;
+use magnetic_record::copier::copy_record;
 use magnetic_record::reader::read_record;
 use magnetic_record::symbol::write_record;
 
@@ -36,4 +40,12 @@ pub extern "C" fn symmetry_magnetic_record_letter(bytes: &[u8]) -> u64
         MagneticReading::Is(centering, _) => centering.byte() as u64,
         MagneticReading::Refused(why) => refused_record(why),
     }
+}
+
+#[no_mangle]
+pub extern "C" fn symmetry_magnetic_record_copy(bytes: &[u8], out: &mut [u8], start: u64) -> u64
+    ensures { λ r. ⌜ (r ≡ packed (copyAnswer (magneticCopiedOf (now (bytes .entry)) (now (out .entry)) start)))
+        × (now (out .exit) ≡ magneticCopyBuffer (now (bytes .entry)) (now (out .entry)) start) ⌝ }
+{
+    copied(copy_record(bytes, out, start as usize))
 }

@@ -1,0 +1,26 @@
+-- The answer, packed, and the lent buffer as it was left.
+use Rattle.calls.specs.Packing.{packed}
+use Rattle.group_record.specs.declared.Copied.{Copied}
+use Rattle.group_record.specs.Copying.{copyAnswer}
+use mathlib.Core.Path.{_∙_, ap}
+use borrow.Author.Needs.{needs}
+use Rattle.calls.proofs.magnetic_records.symmetry_magnetic_record_copy.Statement.{statement}
+use Rattle.calls.proofs.magnetic_records.symmetry_magnetic_record_copy.Tie as tie
+
+copy-record-requires : tie.Need-copy-record-requires
+copy-record-requires c κs = search needs
+
+copied-requires : tie.Need-copied-requires
+copied-requires c κs = search needs
+
+same-length : tie.Need-same-length
+same-length c = search needs
+
+returns : tie.Need-returns
+returns c =
+    let written = c .before .before .before .copy-record .ensures in
+    (c .copied .ensures ∙ ap (λ (a : Copied). packed (copyAnswer a)) (written .0), written .1)
+
+pub symmetry-magnetic-record-copy-spec : {M : Type 1} → statement M
+symmetry-magnetic-record-copy-spec =
+    tie.close (tie.spec copy-record-requires copied-requires same-length returns)
