@@ -267,11 +267,23 @@ def changed(record, noise):
             yield record[:place] + bytes([other]) + record[place + 1:]
 
 
+def other_trailers(record):
+    """Other letters, editions, counts and lengths behind the same items."""
+    body, letter, count = record[:-5], record[-5], record[-3]
+    for other in b"PABCIRFHSTpchx\x00\xff":
+        yield body + bytes([other]) + record[-4:]
+    for edition in (0, 1, 3, 255):
+        yield body + bytes([letter, edition]) + record[-3:]
+    for other in (0, count - 1, count + 1, 48, 49, 96, 97, 255):
+        for length in (len(record), ITEM * other + 5):
+            yield body + bytes([letter, EDITION, other]) + length.to_bytes(2, "big")
+    for length in (5 * count + 5, 4 * count + 5, len(record) - 1, len(record) + 1, len(record) + 256, 0, 65535):
+        yield body + bytes([letter, EDITION, count]) + length.to_bytes(2, "big")
+
+
 def one_item_changed(record):
-    """Each item of a record with the other flag, with its triple moved, left out; and the letters of other lattices."""
+    """Each item of a record with the other flag, with its triple moved, left out."""
     items, letter = items_of(record), record[-5]
-    for other in b"PABCIRFH":
-        yield put_together(other, items)
     for place, item in enumerate(items):
         rest = items[:place] + items[place + 1:]
         triples = [item[2:5]] + [bytes(model.mod_cell(model.plus(item[2:5], point))) for point in MOVES]
@@ -285,6 +297,7 @@ def damaged_buffers(known, share, noise):
     for text in PICKED:
         record = model.magnetic_record(*model.group_of_magnetic(text))
         yield from list(changed(record, noise))[::share]
+        yield from other_trailers(record)
         if record[-3] <= SMALL:
             yield from one_item_changed(record)
     for _ in range(DAMAGED_RECORDS // share):
