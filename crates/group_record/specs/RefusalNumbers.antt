@@ -178,7 +178,7 @@ no-room-exactly width a start size number place = (forth a, back a)
         rw (lt-ltb size (start + (width * n + 5)) (rw same h), q, r)
 
 -- The test for room is this comparison.
-room-as : (long start size : ℕ) → roomFrom start long size ≡ not (ltb size (start + long))
+pub room-as : (long start size : ℕ) → roomFrom start long size ≡ not (ltb size (start + long))
 room-as long start size = elim (decLt size (start + long)) [
   | yes h ↦ rw (lt-ltb size (start + long) h) (short (decLt size start) h)
   | no h ↦ rw (le-ltb size (start + long) (omega arith)) (room-there start long size (omega arith) (omega arith))
