@@ -31,6 +31,7 @@ pub mod SymbolSets
 pub mod LayerRecords
 pub mod SymbolReading
 pub mod RefusalNumbers
+pub mod WritingNumbers
 pub mod LayerReading
 pub mod Moving
 pub mod OldSoftware

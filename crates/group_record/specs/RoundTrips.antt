@@ -9,7 +9,6 @@ use native.Mathlib.Omega.{arith}
 use lib.ListN.{length, take, length-map, length-append, replicate, drop}
 use lib.Seq.{take-at, drop-at, length-take-le}
 use Rattle.laws.specs.Motion.{SpaceMotion, compose}
-use Rattle.operation.specs.Answer.{given}
 use Rattle.operation.specs.Composed.{identity-motion}
 use Rattle.operation.specs.Meaning.{motionOf}
 use Rattle.operation.specs.Product.{identityOperation}
@@ -21,7 +20,7 @@ use Rattle.group_record.specs.BothEditions.{editionOf, widthIn}
 use Rattle.group_record.specs.Record.{totalLength, smallestOperation, listedForm, writtenIn, recordIn, signedRecord, recordOf}
 use Rattle.group_record.specs.Rules.{Told, holds, toldBy}
 use Rattle.group_record.specs.Rules.{refused as not-held}
-use Rattle.group_record.specs.Reading.{GroupReading, rulesOf, bothReading, bothRules, groupOf, readOf, acceptedGroup, refusedGroup, slots, groupAnswer}
+use Rattle.group_record.specs.Reading.{GroupReading, rulesOf, bothReading, bothRules, groupOf, readOf, acceptedGroup, refusedGroup, slots}
 use Rattle.group_record.specs.Groups.{Alike, InSet, Allowed, Listing, Form}
 use Rattle.group_record.specs.ListedForm.{form-member, member-form, form-length, listed-form, form-listing, form-again, alike-symmetric, alike-transitive, smallest-alike}
 use Rattle.group_record.specs.OneRecord.{operations-of-items, record-in-length}
@@ -36,12 +35,6 @@ use Rattle.group_record.specs.declared.Reading.the-variants.{Accepted, R
 use Rattle.group_record.specs.declared.RecordGroup.{RecordGroup}
 use Rattle.group_record.specs.declared.sign.Sign.{Sign}
 use Rattle.group_record.specs.declared.sign.Sign.the-variants.{Plain}
-
--- ---- the answer says the letter and the operations
-pub accepted-answer : (edition : Known) (s : Sign) (l : List Operation) → groupAnswer (acceptedGroup edition s l) ≡ given (isSmall s, latticeOf s, l)
-unfolding acceptedGroup slots
-accepted-answer edition s l =
-    ap (λ (k : List Operation). given (isSmall s, latticeOf s, k)) (take-at l (replicate (48 - length l) identityOperation) (length l) refl)
 
 accepted-says : (edition : Known) (s : Sign) (l : List Operation) → acceptedGroup edition s l .answer ≡ Accepted
 unfolding acceptedGroup

@@ -17,7 +17,7 @@ use Rattle.group_record.specs.Rules.{Told, holds, toldBy}
 use Rattle.group_record.specs.Rules.{refused as not-held}
 use Rattle.group_record.specs.Places.{roomFrom, placedIn, placed-end}
 use Rattle.group_record.specs.Copying.{copyAnswer}
-use Rattle.group_record.specs.RefusalNumbers.{noRoom, orNoRoom, room-as}
+use Rattle.group_record.specs.WritingNumbers.{noRoom, orNoRoom, room-as}
 use Rattle.group_record.specs.declared.Refusal.{Refusal}
 use Rattle.group_record.specs.declared.Copied.{Copied}
 use Rattle.group_record.specs.declared.Copied.the-variants.{Written, NoRoom, Refused as NotCopied}

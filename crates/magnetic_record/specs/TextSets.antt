@@ -27,7 +27,7 @@ use Rattle.magnetic_group.specs.Told.{told}
 use Rattle.group_record.specs.Editions.{totalLength}
 use Rattle.group_record.specs.Places.{roomFrom, placedIn, placed-end}
 use Rattle.group_record.specs.Rules.{holds, toldBy}
-use Rattle.group_record.specs.RefusalNumbers.{noRoom, orNoRoom, WantsRoom, no-room-exactly, room-as}
+use Rattle.group_record.specs.WritingNumbers.{noRoom, orNoRoom, WantsRoom, no-room-exactly, room-as}
 use Rattle.group_record.specs.SymbolRecords.{symbolRecordAnswer}
 use Rattle.group_record.specs.SymbolSets.{spells-once}
 use Rattle.group_record.specs.declared.SymbolRecord.{SymbolRecord}
