@@ -7,15 +7,15 @@ use Prim.Native.Nat.{ℕ}
 use native.Mathlib.Omega.{arith}
 use lib.ListN.{length, length-map}
 use Rattle.centering.specs.declared.Centering.{Centering}
-use Rattle.group_record.specs.Copying.{copyAnswer}
+use Rattle.record_writing.specs.Copying.{copyAnswer}
 use Rattle.group_record.specs.Editions.{totalLength}
 use Rattle.group_record.specs.Items.{Bytes}
-use Rattle.group_record.specs.Places.{roomFrom}
+use Rattle.record_writing.specs.Places.{roomFrom}
 use Rattle.group_record.specs.Rules.{Told as ToldBy, holds, toldBy}
 use Rattle.group_record.specs.Rules.{refused as not-held}
-use Rattle.group_record.specs.SymbolRecords.{symbolRecordAnswer}
-use Rattle.group_record.specs.declared.Copied.the-variants as Copy
-use Rattle.group_record.specs.declared.SymbolRecord.the-variants.{Written, NoRoom}
+use Rattle.record_writing.specs.SymbolRecords.{symbolRecordAnswer}
+use Rattle.record_writing.specs.declared.Copied.the-variants as Copy
+use Rattle.record_writing.specs.declared.SymbolRecord.the-variants.{Written, NoRoom}
 use Rattle.magnetic_group.specs.Generated.{group, refused}
 use Rattle.magnetic_group.specs.Symbols.{SymbolOutcome, made, misread, magneticOutcome}
 use Rattle.magnetic_record.specs.Answers.{readingBy, readingOf, magneticOrderAnswer, magneticLetterAnswer}

@@ -1,7 +1,7 @@
 // The record of a magnetic symbol, edition 2, and what is asked of a buffer that ends with one.
 ghost use mathlib.Core.Path.{_≡_};
-ghost use Rattle.group_record.specs.Copying.{copyAnswer};
-ghost use Rattle.group_record.specs.SymbolRecords.{symbolRecordAnswer};
+ghost use Rattle.record_writing.specs.Copying.{copyAnswer};
+ghost use Rattle.record_writing.specs.SymbolRecords.{symbolRecordAnswer};
 ghost use Rattle.magnetic_record.specs.Answers.{readingOf, magneticOrderAnswer, magneticLetterAnswer};
 ghost use Rattle.magnetic_record.specs.Copying.{magneticCopiedOf, magneticCopyBuffer};
 ghost use Rattle.magnetic_record.specs.TextRecords.{magneticRecordOf, magneticBufferOf};

@@ -15,12 +15,12 @@ use Rattle.group_record.specs.Items.{Bytes}
 use Rattle.group_record.specs.Editions.{totalLength, framed, framed-length}
 use Rattle.group_record.specs.Rules.{Told, holds, toldBy}
 use Rattle.group_record.specs.Rules.{refused as not-held}
-use Rattle.group_record.specs.Places.{roomFrom, placedIn, placed-end}
-use Rattle.group_record.specs.Copying.{copyAnswer}
-use Rattle.group_record.specs.WritingNumbers.{noRoom, orNoRoom, room-as}
+use Rattle.record_writing.specs.Places.{roomFrom, placedIn, placed-end}
+use Rattle.record_writing.specs.Copying.{copyAnswer}
+use Rattle.record_writing.specs.WritingNumbers.{noRoom, orNoRoom, room-as}
 use Rattle.group_record.specs.declared.Refusal.{Refusal}
-use Rattle.group_record.specs.declared.Copied.{Copied}
-use Rattle.group_record.specs.declared.Copied.the-variants.{Written, NoRoom, Refused as NotCopied}
+use Rattle.record_writing.specs.declared.Copied.{Copied}
+use Rattle.record_writing.specs.declared.Copied.the-variants.{Written, NoRoom, Refused as NotCopied}
 use Rattle.magnetic_record.specs.SecondEdition.{MagneticItem, secondEdition}
 use Rattle.magnetic_record.specs.Reading.{magneticRules}
 use Rattle.magnetic_record.specs.RoundTrips.{MagneticReads, magnetic-written-again}

@@ -7,9 +7,9 @@ use Rattle.symbol_group.specs.declared.refusal.Refusal.the-variants.{Text, Grou
 use Rattle.magnetic_group.specs.Generated.{group, refused}
 use Rattle.magnetic_group.specs.Symbols.{SymbolOutcome, made, misread, magneticOutcome}
 use Rattle.group_record.specs.Editions.{totalLength}
-use Rattle.group_record.specs.Places.{roomFrom, placedIn}
-use Rattle.group_record.specs.declared.SymbolRecord.{SymbolRecord}
-use Rattle.group_record.specs.declared.SymbolRecord.the-variants.{Written, NoRoom, Refused as NotWritten}
+use Rattle.record_writing.specs.Places.{roomFrom, placedIn}
+use Rattle.record_writing.specs.declared.SymbolRecord.{SymbolRecord}
+use Rattle.record_writing.specs.declared.SymbolRecord.the-variants.{Written, NoRoom, Refused as NotWritten}
 use Rattle.magnetic_record.specs.SecondEdition.{secondEdition}
 use Rattle.magnetic_record.specs.Record.{magneticRecord}
 

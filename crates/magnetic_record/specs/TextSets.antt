@@ -25,13 +25,13 @@ use Rattle.magnetic_group.specs.Answers.{orderBy, orderAnswer}
 use Rattle.magnetic_group.specs.SetOfMotions.{InSet}
 use Rattle.magnetic_group.specs.Told.{told}
 use Rattle.group_record.specs.Editions.{totalLength}
-use Rattle.group_record.specs.Places.{roomFrom, placedIn, placed-end}
+use Rattle.record_writing.specs.Places.{roomFrom, placedIn, placed-end}
 use Rattle.group_record.specs.Rules.{holds, toldBy}
-use Rattle.group_record.specs.WritingNumbers.{noRoom, orNoRoom, WantsRoom, no-room-exactly, room-as}
-use Rattle.group_record.specs.SymbolRecords.{symbolRecordAnswer}
-use Rattle.group_record.specs.SymbolSets.{spells-once}
-use Rattle.group_record.specs.declared.SymbolRecord.{SymbolRecord}
-use Rattle.group_record.specs.declared.SymbolRecord.the-variants.{Written, NoRoom, Refused as NotWritten}
+use Rattle.record_writing.specs.WritingNumbers.{noRoom, orNoRoom, WantsRoom, no-room-exactly, room-as}
+use Rattle.record_writing.specs.SymbolRecords.{symbolRecordAnswer}
+use Rattle.record_writing.specs.SymbolSets.{spells-once}
+use Rattle.record_writing.specs.declared.SymbolRecord.{SymbolRecord}
+use Rattle.record_writing.specs.declared.SymbolRecord.the-variants.{Written, NoRoom, Refused as NotWritten}
 use Rattle.magnetic_record.specs.Reading.{magneticRules}
 use Rattle.magnetic_record.specs.Groups.{FlaggedMotion}
 use Rattle.magnetic_record.specs.Record.{magneticForm, magneticRecord}

@@ -3,11 +3,11 @@ ghost use mathlib.Core.Path.{_≡_};
 ghost use mathlib.Core.List.{_++_};
 ghost use Prim.Native.Nat.{_≤_};
 ghost use lib.ListN.{length, drop};
-ghost use Rattle.group_record.specs.Places.{roomFrom, placedIn};
+ghost use Rattle.record_writing.specs.Places.{roomFrom, placedIn};
 ghost use Rattle.magnetic_record.specs.Copying.{magneticCopiedOf, magneticCopyBuffer};
 use super::MagneticReading;
 use super::reader::read_record;
-use group_record::Copied;
+use record_writing::Copied;
 
 // The count of what was read and written; a refusal leaves out as it was.
 pub fn copy_record(bytes: &[u8], out: &mut [u8], start: usize) -> Copied

@@ -2,9 +2,9 @@
 ghost use mathlib.Core.Path.{_≡_};
 ghost use Rattle.magnetic_record.specs.TextRecords.{magneticRecordOf, magneticBufferOf};
 use super::writer::place_group;
-use group_record::SymbolRecord;
 use magnetic_group::Answer;
 use magnetic_group::list;
+use record_writing::SymbolRecord;
 
 // The count of what was written; a refusal leaves out as it was.
 pub fn write_record(text: &[u8], out: &mut [u8], start: usize) -> SymbolRecord

@@ -1,7 +1,7 @@
 -- The answer, packed, and the lent buffer as it was left.
 use Rattle.calls.specs.Packing.{packed}
-use Rattle.group_record.specs.declared.Copied.{Copied}
-use Rattle.group_record.specs.Copying.{copyAnswer}
+use Rattle.record_writing.specs.declared.Copied.{Copied}
+use Rattle.record_writing.specs.Copying.{copyAnswer}
 use mathlib.Core.Path.{_∙_, ap}
 use borrow.Author.Needs.{needs}
 use Rattle.calls.proofs.magnetic_records.symmetry_magnetic_record_copy.Statement.{statement}

@@ -5,8 +5,8 @@ use Prim.Native.Nat.{_+_, _*_, _-_}
 use native.Mathlib.Omega.{arith}
 use lib.ListN.{length}
 use borrow.Author.Tests.{not-true, not-false}
-use Rattle.group_record.specs.Parts.{tail-part}
-use Rattle.group_record.specs.declared.Copied.the-variants.{Written, NoRoom}
+use Rattle.record_reading.specs.Parts.{tail-part}
+use Rattle.record_writing.specs.declared.Copied.the-variants.{Written, NoRoom}
 use Rattle.magnetic_record.specs.Copying.{magneticCopiedOf, magneticCopyBuffer, RecordAtEnd, read-end, copy-refused, copy-placed}
 use borrow.Author.Needs.{needs}
 use Rattle.magnetic_record.proofs.copier.copy_record.Statement.{statement}

@@ -2,8 +2,8 @@
 use mathlib.Core.Path.{refl, sym, _∙_}
 use native.Mathlib.Omega.{arith}
 use lib.ListN.{length}
-use Rattle.group_record.specs.Parts.{put-at}
-use Rattle.group_record.specs.Places.{start-beyond, too-near-end, room-there, nothing-placed, all-placed}
+use Rattle.record_reading.specs.Parts.{put-at}
+use Rattle.record_writing.specs.Places.{start-beyond, too-near-end, room-there, nothing-placed, all-placed}
 use borrow.Author.Needs.{needs}
 use Rattle.magnetic_record.proofs.copier.place_bytes.Statement.{statement}
 use Rattle.magnetic_record.proofs.copier.place_bytes.Tie as tie

@@ -5,7 +5,7 @@ use native.Mathlib.Omega.{arith}
 use lib.ListN.{length, length-drop}
 use borrow.Author.Tests.{not-true, not-false}
 use Rattle.group_record.specs.Outcomes.{length-test}
-use Rattle.group_record.specs.Parts.{tail-part}
+use Rattle.record_reading.specs.Parts.{tail-part}
 use Rattle.magnetic_record.specs.Search.{good-places}
 use Rattle.magnetic_record.specs.Trailer.{counted-fails, items-wrong, items-barred, items-right}
 use borrow.Author.Needs.{needs}

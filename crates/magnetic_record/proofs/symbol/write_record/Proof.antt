@@ -5,7 +5,7 @@ use native.Mathlib.Omega.{arith}
 use lib.Seq.{length-take-le}
 use borrow.Author.Tests.{not-true, not-false}
 use Rattle.magnetic_group.specs.Numbers.{Listed, slots-listed}
-use Rattle.group_record.specs.declared.SymbolRecord.the-variants.{Written, NoRoom}
+use Rattle.record_writing.specs.declared.SymbolRecord.the-variants.{Written, NoRoom}
 use Rattle.magnetic_record.specs.TextRecords.{magneticRecordOf, magneticBufferOf}
 use Rattle.magnetic_record.specs.Writing.{slots-long, numbers-listing, refused-record, accepted-record}
 use borrow.Author.Needs.{needs}
