@@ -1,6 +1,6 @@
 -- A copy of what was read, from a stated place of a lent buffer: what is answered, and what the buffer holds afterwards. What is accepted is copied as the
 -- bytes that it was read from.
-use mathlib.Core.Path.{_≡_, refl, sym, _∙_, ap, ap₂, subst}
+use mathlib.Core.Path.{_≡_, refl, sym, _∙_, ap, ap₂}
 use mathlib.Core.Bool.{Bool, true, false, cond, not}
 use mathlib.Core.List.{List, _++_}
 use Prim.Native.Nat.{ℕ, _+_, _*_, _-_, _≤_}
@@ -126,7 +126,7 @@ module _ (bytes : List ℕ) where
                 let written = framed secondEdition (byteOf c) items in
                 let end = placed-end out start (totalLength 6 (length items)) written (framed-length secondEdition (byteOf c) items) room in
                 let same = end ∙ ap (λ (l : List ℕ). take start out ++ l) (sym (end-bytes b c items told .1)) in
-                subst (λ (m : ℕ). take (start + totalLength 6 m) (placedIn out start written) ≡ take start out ++ drop (length bytes - totalLength 6 m) bytes) count same
+                rw (← count) same
 
     -- What is answered in numbers: 30 to 35 as for the order, then 20 where fewer than 6n + 5 bytes stand from the start on, else the order.
     pub magnetic-copy-told : copyAnswer (magneticCopiedOf bytes out start) ≡ orNoRoom 6 (magneticOrderAnswer (readingOf bytes)) start (length out)

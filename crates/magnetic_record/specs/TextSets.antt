@@ -111,7 +111,8 @@ module _ (text : List ℕ) (A : AcceptedMagnetic text) where
 -- Where n operations were written, the buffer up to the record's end is read as the symbol's group.
 pub text-buffer-read : (text out : List ℕ) (start n : ℕ) → magneticRecordOf text out start ≡ Written n
     → (A : AcceptedMagnetic text)
-    × (toldBy magneticRules (take (start + totalLength 6 n) (magneticBufferOf text out start)) ≡ holds tt (A .letter) (magneticForm (A .letter) (A .operations)))
+    × (toldBy magneticRules (take (start + totalLength 6 n) (magneticBufferOf text out start))
+    ≡ holds tt (A .letter) (magneticForm (A .letter) (A .operations)))
 unfolding magneticRecordOf magneticBufferOf
 text-buffer-read text out start n e = by (magneticOutcome text) refl e
   where
@@ -137,8 +138,8 @@ text-buffer-read text out start n e = by (magneticOutcome text) refl e
 
 -- ---- sets
 -- A text spells one symbol with its flags.
-magnetic-spells-once : (text : List ℕ) (c d : Centering) (gs hs : List Operation) (fs es : List Bool) → MagneticSpells text c gs fs → MagneticSpells text d hs es
-    → (c ≡ d) × (withFlags gs fs ≡ withFlags hs es)
+magnetic-spells-once : (text : List ℕ) (c d : Centering) (gs hs : List Operation) (fs es : List Bool)
+    → MagneticSpells text c gs fs → MagneticSpells text d hs es → (c ≡ d) × (withFlags gs fs ≡ withFlags hs es)
 magnetic-spells-once text c d gs hs fs es S T =
     let (p, q) = taken-off-exactly text (S .copy) fs .0 (S .taken) in
     let (r, s) = taken-off-exactly text (T .copy) es .0 (T .taken) in
@@ -147,7 +148,7 @@ magnetic-spells-once text c d gs hs fs es S T =
     let (letters, generators) = spells-once (blanked text) c d gs hs one other in
     (letters, ap₂ withFlags generators (q ∙ sym s))
 
--- The set of flagged motions of a text: it spells a symbol, and the motion is a finite product of the symbol's generators with their flags and translations by L.
+-- The set of flagged motions of a text: it spells a symbol, and the motion is a finite product of its generators with their flags and translations by L.
 abbrev pub InSetOfText : List ℕ → FlaggedMotion → Type 0
 InSetOfText text m = (c : Centering) × (gs : List Operation) × (fs : List Bool) × MagneticSpells text c gs fs × InSet c (withFlags gs fs) m
 
