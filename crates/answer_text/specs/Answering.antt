@@ -11,7 +11,7 @@ use Rattle.operation.specs.Product.{identityOperation}
 use Rattle.operation.specs.declared.Operation.{Operation}
 use Rattle.centering.specs.Letters.{byteOf}
 use Rattle.centering.specs.declared.Centering.{Centering}
-use Rattle.space_group_theorems.specs.Acceptance.{member-at}
+use Rattle.laws.specs.Indices.{member-at}
 use Rattle.symbol_group.specs.Answers.{symbolAnswer}
 use Rattle.symbol_group.specs.Refusals.{numberOf, placeOf}
 use Rattle.symbol_group.specs.declared.refusal.Refusal.{Refusal}

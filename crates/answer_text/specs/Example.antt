@@ -12,10 +12,11 @@ use Rattle.laws.specs.Distinct.{has}
 use Rattle.laws.specs.Lattice as lattice
 use Rattle.laws.specs.LatticeMaps.{keepsPoints}
 use Rattle.laws.specs.Closure.{fresh, run, closure}
-use Rattle.laws.specs.SameMatrix.{sameInteger, sameMatrix}
+use Rattle.laws.specs.SameMatrix.{sameMatrix}
 use Rattle.laws.specs.Growth.{place}
 use Rattle.laws.specs.GrowthClosure.{agrees, stepsFrom, steadyFrom}
 use Rattle.laws.specs.Sorted.{insert, sort}
+use Rattle.laws.specs.Truth.{all}
 use Rattle.operation.specs.Meaning.{entryOf, matrixOf, vectorOf, motionOf, digitAbove, digitOf, inside, rowInside, allInside}
 use Rattle.operation.specs.Product.{operationOf}
 use Rattle.operation.specs.RotationType.{handednessBy, handednessOf}
@@ -51,5 +52,5 @@ linesIn (s ∷ lines) = bytes s ++ (newline ∷ linesIn lines)
 
 -- What is written for `-P 1` and for `P 1a`.
 pub example : map (λ s. textOf (bytes s)) ("-P 1" ∷ "P 1a" ∷ []) ≡ linesIn ("-P 1" ∷ "P 2" ∷ "-1 0 0 0 -1 0 0 0 -1 0 0 0" ∷ "1 0 0 0 1 0 0 0 1 0 0 0" ∷ []) ∷ linesIn ("P 1a" ∷ "refused 14 0" ∷ []) ∷ []
-unfolding textOf answerOf groupText refusalText operationLine lineOf signed decimal decimalWithin bytesOf listedForm smallestOperation insert sort lattices.smallestOf lattice.smallest lattice.leastRank lattice.rank lattice.unrank _⊕_ symbolAnswer outcomeOf firstOff listing isSmall sameVectorClass onList keepsOf letterAmong letterOf handednessBy handednessOf operationOf entryOf matrixOf vectorOf motionOf digitAbove digitOf inside rowInside allInside codeOf agrees stepsFrom steadyFrom place sameInteger sameMatrix fresh run closure keepsPoints lattice.all lattice.sameTriple has residue turned product times act plus opposite unit origin determinant nought _⊖_ one whitespace solid allowed unclosed opening runs.run tokensFrom letterToken latticeToken shifts.oneDigit shifts.twoDigits shifts.shiftNumber shifts.numbersOf shifts.closedShift shiftedCoordinate shifted atShift atEnd operations readSymbol token-reader.readRun token-reader.letterThen token-reader.readLetter token-reader.markThen token-reader.readMark token-reader.foldThen token-reader.readFold token-reader.readToken token-reader.onceThen token-reader.movedThen token-letters.occurs token-letters.repeats token-letters.repeatFrom token-reader.turnThen token-reader.axisThen token-reader.operationOfParts token-reader.operationToken token-bytes.valueAt token-bytes.foldOf token-bytes.markOf token-bytes.letterOf token-bytes.runByteOf token-bytes.passes token-runs.every token-axes.tokenPlace token-matrices.turns token-matrices.isFor token-matrices.turnAmong token-matrices.turnOf token-matrices.signed token-translations.screwRight token-translations.frontRight token-translations.digitsRight token-translations.sumX token-translations.sumY token-translations.sumZ token-translations.rise token-translations.translationOf token-translations.movedBy
+unfolding textOf answerOf groupText refusalText operationLine lineOf signed decimal decimalWithin bytesOf listedForm smallestOperation insert sort lattices.smallestOf lattice.smallest lattice.leastRank lattice.rank lattice.unrank _⊕_ symbolAnswer outcomeOf firstOff listing isSmall sameVectorClass onList keepsOf letterAmong letterOf handednessBy handednessOf operationOf entryOf matrixOf vectorOf motionOf digitAbove digitOf inside rowInside allInside codeOf agrees stepsFrom steadyFrom place sameMatrix fresh run closure keepsPoints all lattice.sameTriple has residue turned product times act plus opposite unit origin determinant nought _⊖_ one whitespace solid allowed unclosed opening runs.run tokensFrom letterToken latticeToken shifts.oneDigit shifts.twoDigits shifts.shiftNumber shifts.numbersOf shifts.closedShift shiftedCoordinate shifted atShift atEnd operations readSymbol token-reader.readRun token-reader.letterThen token-reader.readLetter token-reader.markThen token-reader.readMark token-reader.foldThen token-reader.readFold token-reader.readToken token-reader.onceThen token-reader.movedThen token-letters.occurs token-letters.repeats token-letters.repeatFrom token-reader.turnThen token-reader.axisThen token-reader.operationOfParts token-reader.operationToken token-bytes.valueAt token-bytes.foldOf token-bytes.markOf token-bytes.letterOf token-bytes.runByteOf token-bytes.passes token-runs.every token-axes.tokenPlace token-matrices.turns token-matrices.isFor token-matrices.turnAmong token-matrices.turnOf token-matrices.signed token-translations.screwRight token-translations.frontRight token-translations.digitsRight token-translations.sumX token-translations.sumY token-translations.sumZ token-translations.rise token-translations.translationOf token-translations.movedBy
 example = refl

@@ -3,19 +3,10 @@ use mathlib.Core.Path.{_≡_, sym, _∙_, ap, ap₂}
 use mathlib.Core.List.{List, _∷_, _++_}
 use Prim.Native.Nat.{ℕ, _<_}
 use lib.ListN.{length, take}
-use borrow.Author.Tests.{lt-ltb}
-use Rattle.hall_symbol.specs.Reader.{readSymbol}
-use Rattle.symbol_group.specs.Answers.{symbolAnswer, refusedAnswer}
-use Rattle.symbol_group.specs.declared.refusal.Refusal.the-variants.{Text}
+use Rattle.symbol_group.specs.Answers.{symbolAnswer, long-refused}
 use Rattle.symbol_group.specs.declared.SymbolGroup.{SymbolGroup}
-use Rattle.hall_symbol.specs.declared.refusal.Refusal.the-variants.{TooLong}
 use Rattle.answer_text.specs.Words.{newline}
 use Rattle.answer_text.specs.Text.{answerBy, answerOf, textOf}
-
--- A line over 80 bytes is refused, whatever they are.
-long-refused : (line : List ℕ) → 80 < length line → symbolAnswer line ≡ refusedAnswer (Text TooLong)
-unfolding symbolAnswer readSymbol
-long-refused line h = rw (lt-ltb 80 (length line) h)
 
 -- Lines that are answered alike have one text for the answer.
 answers-alike : (line other : List ℕ) → symbolAnswer line ≡ symbolAnswer other → answerOf line ≡ answerOf other

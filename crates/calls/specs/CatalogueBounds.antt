@@ -21,9 +21,9 @@ use Rattle.record_writing.specs.declared.SymbolRecord.the-variants.{Written, No
 use Rattle.catalogue.specs.Answers.{mostAtOnce, isEnded, keeping, lineSoFar, endedIn, toldBy, refusing, partOf, pieceStep, endStep, Said, nothing, line, catalogueAnswer}
 use Rattle.catalogue.specs.declared.Catalogue.{Catalogue}
 use Rattle.catalogue.specs.declared.Answer as call
-use Rattle.catalogue.specs.declared.Answer.the-variants.{Told as ToldOf, LongPiece, AfterEnd}
+use Rattle.catalogue.specs.declared.Answer.the-variants.{LongPiece, AfterEnd}
 use Rattle.calls.specs.Packing.{Close, near, Within, Low, Numbers}
-use Rattle.calls.specs.Catalogues.{saidNumber, stepNumber}
+use Rattle.calls.specs.Catalogues.{saidNumber, stepNumber, stepOf}
 use Rattle.calls.specs.SymbolBounds.{symbol-close}
 
 -- What can be said of a line.
@@ -113,3 +113,8 @@ end-short c out = by-test (isEnded c) (endedIn (c .bytes))
     by-test : (t : Bool) (then : Catalogue) → Tellable (cond t (refusing AfterEnd c) (record { answer = toldBy 0 (lastLine (lineSoFar c)) out; catalogue = then }) .answer)
     by-test true then = near (omega arith) (omega arith) (omega arith)
     by-test false then = told-short 0 (lastLine (lineSoFar c)) out (omega arith)
+
+-- So for either.
+pub step-short : (ends : Bool) (c : Catalogue) (piece out : List ℕ) → Tellable (stepOf ends c piece out .answer)
+step-short true c piece out = end-short c out
+step-short false c piece out = piece-short c piece out

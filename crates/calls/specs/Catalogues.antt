@@ -1,5 +1,5 @@
 -- A catalogue in bytes that C lends, and the answer of a call on it as one number, by R12.
-use mathlib.Core.Bool.{Bool, cond}
+use mathlib.Core.Bool.{Bool, true, false, cond}
 use mathlib.Core.List.{List, _∷_, _++_}
 use Prim.Native.Nat.{ℕ, _+_, _*_}
 use lib.Dec.{ltb}
@@ -7,6 +7,7 @@ use lib.ListN.{length, getD, take, drop}
 use Rattle.operation.specs.Answer.{Answer, given, refused, Nothing}
 use Rattle.catalogue.specs.Answers.{fresh, pieceStep, pieceRoom, endStep, endRoom, Said, nothing, line, catalogueAnswer}
 use Rattle.catalogue.specs.declared.Catalogue.{Catalogue}
+use Rattle.catalogue.specs.declared.Step.{Step}
 use Rattle.calls.specs.Packing.{mapped}
 
 -- How many bytes of the lent ones a catalogue has: its status, and 80 for the line that goes on.
@@ -46,6 +47,24 @@ startAnswer state = unlessFew state (given 0)
 
 abbrev pub startState : List ℕ → List ℕ
 startState state = cond (tooFew state) state (putBack (fresh (catalogueIn state .bytes)) state)
+
+-- A step is that of a piece or, where the end is announced, that of the end, which looks at no piece.
+abbrev pub stepOf : Bool → Catalogue → List ℕ → List ℕ → Step
+stepOf true c piece out = endStep c out
+stepOf false c piece out = pieceStep c piece out
+
+abbrev pub roomOf : Bool → Catalogue → List ℕ → List ℕ → List ℕ
+roomOf true c piece out = endRoom c out
+roomOf false c piece out = pieceRoom c piece out
+
+abbrev pub stepAnswer : Bool → List ℕ → List ℕ → List ℕ → Answer ℕ Nothing
+stepAnswer ends state piece out = unlessFew state (mapped stepNumber (catalogueAnswer (stepOf ends (catalogueIn state) piece out .answer)))
+
+abbrev pub stepState : Bool → List ℕ → List ℕ → List ℕ → List ℕ
+stepState ends state piece out = cond (tooFew state) state (putBack (stepOf ends (catalogueIn state) piece out .catalogue) state)
+
+abbrev pub stepOut : Bool → List ℕ → List ℕ → List ℕ → List ℕ
+stepOut ends state piece out = cond (tooFew state) out (roomOf ends (catalogueIn state) piece out)
 
 -- A piece.
 abbrev pub pieceAnswer : List ℕ → List ℕ → List ℕ → Answer ℕ Nothing

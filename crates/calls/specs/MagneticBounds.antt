@@ -1,6 +1,6 @@
 -- What is answered for a magnetic symbol's text can be packed: orders are at most 96, operations have entries in −1..1 and coordinates below 12, and places
 -- are those of the text without its time reversals.
-use mathlib.Core.Path.{_≡_, refl, ap, subst}
+use mathlib.Core.Path.{_≡_, refl, ap}
 use mathlib.Core.Bool.{Bool, true, false, cond}
 use mathlib.Core.List.{List, List·Memᴰ as Mem}
 use Prim.Native.Nat.{ℕ, _≤_}
@@ -19,13 +19,13 @@ use Rattle.hall_symbol.specs.declared.refusal.Refusal as text-refusal
 use Rattle.space_group.specs.FlaggedGenerators.{withFlags, plain-with}
 use Rattle.space_group.specs.declared.refusal.Refusal as generators
 use Rattle.space_group.specs.declared.refusal.Refusal.the-variants.{Lattice, Rotations, Translations}
-use Rattle.space_group_theorems.specs.Acceptance.{member-at}
+use Rattle.laws.specs.Indices.{member-at}
 use Rattle.symbol_group.specs.Refusals.{numberOf, placeOf}
 use Rattle.symbol_group.specs.declared.refusal.Refusal.the-variants.{Text, Group as NoGroup}
 use Rattle.magnetic_group.specs.Acceptance.{MagneticAccepted}
 use Rattle.magnetic_group.specs.Answers.{orderBy, orderAnswer, letterBy, letterAnswer, besideFlag, operationBy, operationAnswer}
 use Rattle.magnetic_group.specs.Generated.{group, refused}
-use Rattle.magnetic_group.specs.Members.{at-most-96, pair-generated, ownPair, translation-below}
+use Rattle.magnetic_group.specs.Members.{at-most-96, pair-generated, translation-below}
 use Rattle.magnetic_group.specs.Symbols.{SymbolOutcome, made, misread, magneticOutcome, made-spelled, symbol-list, symbol-twelve}
 use Rattle.magnetic_group.specs.Told.{told, text-exactly}
 use Rattle.magnetic_group.specs.declared.MagneticOperation.the-variants.{Operation as Found, PastEnd}

@@ -8,7 +8,7 @@ use Rattle.symbol_group.specs.declared.Answer.the-variants as symbol-variant
 use Rattle.group_record.specs.Reading.{readOf}
 use Rattle.group_record.specs.declared.Reading.{Reading}
 use Rattle.group_record.specs.declared.Reading.the-variants as reading
-use Rattle.group_table.specs.Tables.{recordOrderBy, recordOrder, symbolCells, recordCells}
+use Rattle.group_table.specs.Tables.{orderOfRecordBy, orderOfRecord, symbolCells, recordCells}
 use Rattle.table_check.specs.declared.Answer as table
 use Rattle.table_check.specs.declared.Answer.the-variants as table-variant
 use Rattle.motion_group.specs.Answers.{motionAnswer, ofTable, onSource, ofSymbol, onSymbol, ofRecord, onRecord}
@@ -45,9 +45,9 @@ on-symbol text f h = by-answer (symbolAnswer text .answer) refl
 
 -- ---- records
 pub on-record : (bytes : List ℕ) (f : ℕ → List ℕ → table.Answer) → ((n : ℕ) (t : List ℕ) → Packable (f n t)) → Tellable (onRecord bytes f)
-unfolding recordOrder
+unfolding orderOfRecord
 on-record bytes f h = by-answer (readOf bytes .answer)
   where
-    by-answer : (a : Reading) → Tellable (onSource (ofRecord (recordOrderBy a (readOf bytes .count))) (λ n. f n (recordCells bytes)))
+    by-answer : (a : Reading) → Tellable (onSource (ofRecord (orderOfRecordBy a (readOf bytes .count))) (λ n. f n (recordCells bytes)))
     by-answer reading.Accepted = table-tellable (f (readOf bytes .count) (recordCells bytes)) (h (readOf bytes .count) (recordCells bytes))
     by-answer (reading.Refused r) = record-told r

@@ -20,7 +20,8 @@ use Rattle.hall_symbol.specs.Agreement.{symbol-exactly}
 use Rattle.hall_symbol.specs.Reader.{Reading, symbol, refusal, readSymbol}
 use Rattle.hall_symbol.specs.Refusals as text
 use Rattle.hall_symbol.specs.declared.refusal.Refusal as text-refusal
-use Rattle.space_group_theorems.specs.Acceptance.{SmallGenerators, accepted-list, member-at}
+use Rattle.space_group_theorems.specs.Acceptance.{SmallGenerators, accepted-list}
+use Rattle.laws.specs.Indices.{member-at}
 use Rattle.space_group.specs.Generated.{Outcome, group, refused, outcomeOf}
 use Rattle.space_group_theorems.specs.Members.{translation-below, rotation-generated}
 use Rattle.space_group.specs.declared.refusal.Refusal.the-variants.{Lattice, Rotations, Translations}

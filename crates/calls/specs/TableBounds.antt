@@ -14,18 +14,18 @@ use borrow.Author.Tests.{ltb-true}
 use Rattle.laws.specs.ListOrder.{earlier}
 use Rattle.laws.specs.Sets.{setOf-below}
 use Rattle.laws.specs.Sorted.{keep, sort-length}
+use Rattle.laws.specs.Truth.{and-both}
 use Rattle.finite_group.specs.Answers.{onGroup, listAnswer, orderAnswer, identityAnswer, subgroupsAnswer, classesAnswer, conjugateAnswer, conjugateEntry, normalizerAnswer, normalizerEntry, permutationAnswer, permutationEntry, conjugatesAnswer, conjugatesEntry, numberOf, placeOf, tableAnswer}
-use Rattle.subgroup_laws.specs.Bounded.{and-both}
-use Rattle.conjugation.specs.ConjugateLists.{tooShort}
+use Rattle.conjugation.specs.LentConjugates.{tooShort}
 use Rattle.subgroup_laws.specs.Conjugates.{othersOf, isOther, conjugatesOf}
 use Rattle.subgroup_laws.specs.Conjugation.{conjugate-below}
 use Rattle.subgroup_laws.specs.Groups.{Group}
-use Rattle.subgroup_laws.specs.Listing.{listed}
+use Rattle.subgroup_laws.specs.ListedSets.{listed}
 use Rattle.subgroup_laws.specs.Lists.{chosen, subgroupsOf, representativesOf}
 use Rattle.subgroup_laws.specs.SubgroupLaws.{below}
 use Rattle.subgroup_laws.specs.Subsets.{isSubgroup, conjugateOf, normalizerOf}
 use Rattle.subgroup_laws.specs.Table.{product}
-use Rattle.table_check.specs.TableCheck.{checkOf}
+use Rattle.table_check.specs.CheckAnswers.{checkOf}
 use Rattle.table_check.specs.TableVerdict.{Verdict, order-refused, cells-refused, identity-refused, inverse-refused, associativity-refused, accepted, checked-verdict}
 use Rattle.table_check.specs.declared.Answer.{Answer}
 use Rattle.table_check.specs.declared.Answer.the-variants.{Value, Refused}

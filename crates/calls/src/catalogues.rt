@@ -5,11 +5,12 @@ ghost use lib.ListN.{length};
 ghost use Rattle.record_writing.specs.SymbolRecords.{symbolRecordAnswer};
 ghost use Rattle.catalogue.specs.Answers.{line, catalogueAnswer};
 ghost use Rattle.calls.specs.CatalogueBounds.{Short, Tellable};
-ghost use Rattle.calls.specs.Catalogues.{catalogueIn, putBack, saidNumber, stepNumber, startAnswer, startState, pieceAnswer, pieceState, pieceOut, endAnswer, endState, endOut};
+ghost use Rattle.calls.specs.Catalogues.{catalogueIn, putBack, saidNumber, stepNumber, stepOf, roomOf, stepAnswer, stepState, stepOut, startAnswer, startState, pieceAnswer, pieceState, pieceOut, endAnswer, endState, endOut};
 ghost use Rattle.calls.specs.Packing.{packed, mapped};
 use super::packing::refused;
 use catalogue::Answer;
 use catalogue::Catalogue;
+use catalogue::Step;
 use record_writing::SymbolRecord;
 
 #[no_mangle]
@@ -29,15 +30,7 @@ pub extern "C" fn symmetry_catalogue_piece(state: &mut [u8], piece: &[u8], out: 
         × (now (state .exit) ≡ pieceState (now (state .entry)) (now (piece .entry)) (now (out .entry)))
         × (now (out .exit) ≡ pieceOut (now (state .entry)) (now (piece .entry)) (now (out .entry))) ⌝ }
 {
-    if state.len() < 81 {
-        return refused(20, 0);
-    }
-    let before = catalogue_in(state);
-    let step = before.piece(piece, out);
-    let answer = step.answer;
-    let behind = step.catalogue;
-    put_back(state, behind);
-    answered(answer)
+    stepped(state, piece, out, false)
 }
 
 #[no_mangle]
@@ -46,15 +39,35 @@ pub extern "C" fn symmetry_catalogue_end(state: &mut [u8], out: &mut [u8]) -> u6
         × (now (state .exit) ≡ endState (now (state .entry)) (now (out .entry)))
         × (now (out .exit) ≡ endOut (now (state .entry)) (now (out .entry))) ⌝ }
 {
+    let nothing = [0u8; 1];
+    stepped(state, &nothing, out, true)
+}
+
+// A piece or the end, in one function, so that the code around a step stands once. The end takes nothing of a piece.
+fn stepped(state: &mut [u8], piece: &[u8], out: &mut [u8], ends: bool) -> u64
+    ensures { λ r. ⌜ (r ≡ packed (stepAnswer ends (now (state .entry)) (now (piece .entry)) (now (out .entry))))
+        × (now (state .exit) ≡ stepState ends (now (state .entry)) (now (piece .entry)) (now (out .entry)))
+        × (now (out .exit) ≡ stepOut ends (now (state .entry)) (now (piece .entry)) (now (out .entry))) ⌝ }
+{
     if state.len() < 81 {
         return refused(20, 0);
     }
     let before = catalogue_in(state);
-    let step = before.end(out);
+    let step = taken(before, piece, out, ends);
     let answer = step.answer;
     let behind = step.catalogue;
     put_back(state, behind);
     answered(answer)
+}
+
+fn taken(before: Catalogue, piece: &[u8], out: &mut [u8], ends: bool) -> Step
+    ensures { λ r. ⌜ (r ≡ stepOf ends before (now (piece .entry)) (now (out .entry)))
+        × (now (out .exit) ≡ roomOf ends before (now (piece .entry)) (now (out .entry))) ⌝ }
+{
+    if ends {
+        return before.end(out);
+    }
+    before.piece(piece, out)
 }
 
 fn catalogue_in(state: &[u8]) -> Catalogue

@@ -7,15 +7,14 @@ use Prim.Native.Nat.{ℕ, suc, _+_, _<_, _≤_}
 use native.Mathlib.Omega.{arith}
 use lib.Dec.{leb, ltb}
 use lib.ListN.{length, drop, length-drop, take-append-drop, drop-of-length-le}
-use borrow.Author.Tests.{leb-true, leb-false, ltb-false, lt-ltb}
-use Rattle.hall_symbol.specs.Reader.{readSymbol}
+use borrow.Author.Tests.{leb-true, leb-false, ltb-false}
 use Rattle.hall_symbol.specs.declared.refusal.Refusal.the-variants.{TooLong}
-use Rattle.symbol_group.specs.Answers.{symbolAnswer, refusedAnswer}
+use Rattle.symbol_group.specs.Answers.{long-refused}
 use Rattle.symbol_group.specs.declared.refusal.Refusal.the-variants.{Text}
 use Rattle.record_writing.specs.SymbolRecords.{symbolRecordOf, symbolBufferOf}
 use Rattle.record_writing.specs.declared.SymbolRecord.{SymbolRecord}
 use Rattle.record_writing.specs.declared.SymbolRecord.the-variants.{Refused as NotWritten}
-use Rattle.lines.specs.Lines.{lastLine, linesOf, inARow}
+use Rattle.lines.specs.Lines.{lastLine, linesOf, inARow, last-once}
 use Rattle.lines.specs.Feeding.{shortened, keptBehind, handedOver, allHandedOver, takenOf, short-whole, long-shortened, long-length, all-parts, handed-lines}
 use Rattle.lines.specs.Keeping.{held, stored}
 use Rattle.lines.specs.Storing.{Handy, handy-length, stored-whole, held-stored, held-handy}
@@ -64,10 +63,6 @@ module _ (rooms : ℕ → List ℕ) where
   answersFrom i (line ∷ lines) = (symbolRecordOf line (rooms i) 0, symbolBufferOf line (rooms i) 0) ∷ answersFrom (suc i) lines
 
 -- ---- lines that are shortened are answered alike
--- A line over 80 bytes is refused, whatever they are.
-long-refused : (line : List ℕ) → 80 < length line → symbolAnswer line ≡ refusedAnswer (Text TooLong)
-unfolding symbolAnswer readSymbol
-long-refused line h = rw (lt-ltb 80 (length line) h)
 
 -- So it is answered 1, and nothing is written.
 pub long-answer : (line room : List ℕ) → 80 < length line → (symbolRecordOf line room 0 ≡ NotWritten (Text TooLong)) × (symbolBufferOf line room 0 ≡ room)
@@ -148,11 +143,6 @@ module _ (rooms : ℕ → List ℕ) where
 pub taken-told : (taken : ℕ) (lines : List (List ℕ)) (room : List ℕ) → takenBy (toldBy taken lines room) ≡ taken
 taken-told taken [] room = refl
 taken-told taken (line ∷ lines) room = refl
-
-last-once : (line : List ℕ) → length (lastLine line) ≤ 1
-unfolding lastLine
-last-once [] = omega arith
-last-once (b ∷ line) = omega arith
 
 -- ---- however it is cut
 -- What is left of a piece and the pieces behind it, in a row.

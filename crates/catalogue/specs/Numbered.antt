@@ -10,7 +10,7 @@ use lib.ListN.{length}
 use borrow.Author.Tests.{ltb-true, ltb-false}
 use Rattle.operation.specs.Answer.{refused}
 use Rattle.lines.specs.Lines.{lastLine}
-use Rattle.catalogue.specs.Answers.{mostAtOnce, lineSoFar, toldBy, pieceStep, endStep, catalogueAnswer}
+use Rattle.catalogue.specs.Answers.{mostAtOnce, lineSoFar, pieceStep, endStep, catalogueAnswer}
 use Rattle.catalogue.specs.Steps.{end-open}
 use Rattle.catalogue.specs.Exactly.{never-refused, long-exactly, after-exactly, end-stays}
 use Rattle.catalogue.specs.declared.Catalogue.{Catalogue}

@@ -2,7 +2,7 @@
 use mathlib.Core.Path.{_≡_, refl, sym, _∙_, ap}
 use mathlib.Core.Logic.{inl, inr, _↔_}
 use mathlib.Core.Bool.{Bool, true, false, _&&_, false≢true, and-eq-true-iff}
-use mathlib.Core.List.{List, [], _∷_, map, Memᴰ·cast as mem-cast}
+use mathlib.Core.List.{List, _∷_, map, Memᴰ·cast as mem-cast}
 use Prim.Native.Nat.{ℕ, zero, suc, _+_, _<_, _≤_}
 use native.Mathlib.Omega.{arith}
 use native.Mathlib.Numerals.{add-one}
@@ -13,27 +13,21 @@ use Rattle.laws.specs.Integer.{nought}
 use Rattle.laws.specs.Matrix.{Matrix, act, origin, act-origin, Unimodular}
 use Rattle.laws.specs.Residue.{residue, Triple, reduced, lifted, turned, reduced-again}
 use Rattle.laws.specs.Distinct.{has, Mem→has, equality-equivalence}
-use Rattle.laws.specs.Lattice.{sameTriple, triple-decides, zeroTriple, filled, all, all-member, and-left, and-right}
+use Rattle.laws.specs.Lattice.{sameTriple, triple-decides, zeroTriple, filled}
 use Rattle.laws.specs.LatticeMaps.{MapsOnto, keepsPoints, maps-onto}
+use Rattle.laws.specs.Truth.{all, all-member, and-left, and-right, holds}
 use Rattle.operation.specs.Meaning.{matrixOf, vectorOf}
 use Rattle.operation.specs.Entries.{Entries, all-entries}
 use Rattle.operation.specs.Product.{rotatedOf}
-use Rattle.operation.specs.RotationType.{handednessOf, proper-determinant, improper-determinant, determinant-proper, determinant-improper}
+use Rattle.operation.specs.RotationType.{handednessOf, proper-determinant, improper-determinant, determinant-proper, determinant-improper, isTurn}
 use Rattle.operation.specs.declared.Rotation.{Rotation}
 use Rattle.operation.specs.declared.Translation.{Translation}
 use Rattle.operation.specs.declared.rotation_type.Handedness.{Handedness}
 use Rattle.operation.specs.declared.rotation_type.Handedness.the-variants.{Proper, Improper, Neither}
 use Rattle.centering.specs.Letters.{letters, pointsOf}
 use Rattle.centering.specs.Lattices.{listed, points, tripleOf, translationOf, latticePointsOf, containsOf}
-use Rattle.centering.specs.LatticeLaws.{holds}
 use Rattle.centering.specs.declared.Centering.{Centering}
 use Rattle.centering.specs.declared.LatticePoints.{LatticePoints}
-
--- The determinant is 1 or −1, and all entries are in −1..1.
-abbrev pub isTurn : Handedness → Bool
-isTurn Proper = true
-isTurn Improper = true
-isTurn Neither = false
 
 unfoldable pub keepsOf : Centering → Rotation → Bool
 keepsOf c r = isTurn (handednessOf (matrixOf r)) && keepsPoints (pointsOf c) (matrixOf r)

@@ -1,7 +1,7 @@
 -- What the answers of this room say of L, a set of integer vectors; and that a letter is told by its byte and by its L.
 use mathlib.Core.Path.{_≡_, refl, sym, _∙_, ap}
 use mathlib.Core.Logic.{inl, inr, _↔_}
-use mathlib.Core.Bool.{Bool, true, false, cond, _&&_, _||_, not, true≢false, and-eq-true-iff}
+use mathlib.Core.Bool.{Bool, true, false, cond, _&&_, _||_, not, and-eq-true-iff}
 use mathlib.Core.List.{List, [], _∷_, map, List·Memᴰ as Mem, List·Memᴰ·head as here, List·Memᴰ·tail as there, List·Memᴰ·cases-cons as cases, Memᴰ·cast as mem-cast}
 use Prim.Native.Nat.{ℕ, _<_}
 use native.Mathlib.Omega.{arith}
@@ -9,25 +9,15 @@ use lib.Dec.{T, T-not, eqb, eqb→eq, ltb}
 use borrow.Author.Tests.{eqb-true, ltb-true}
 use Rattle.laws.specs.Matrix.{Vector, plus, opposite}
 use Rattle.laws.specs.Residue.{Triple, Reduced, reduced, lifted, reduced-lifted}
-use Rattle.laws.specs.Distinct.{has, has→Mem, Mem→has, or-cases, equality-equivalence}
-use Rattle.laws.specs.Lattice.{InLattice, Congruent, sameTriple, triple-decides, Before, smallest-reduced, smallest-congruent, smallest-least, smallest-unique, smallest-classes, all, all-member, member-all, both}
+use Rattle.laws.specs.Distinct.{has, has→Mem, Mem→has, equality-equivalence}
+use Rattle.laws.specs.Lattice.{InLattice, Congruent, sameTriple, triple-decides, Before, smallest-reduced, smallest-congruent, smallest-least, smallest-unique, smallest-classes}
+use Rattle.laws.specs.Truth.{all, all-member, member-all, both, or-cases, holds}
 use Rattle.operation.specs.Meaning.{vectorOf}
 use Rattle.operation.specs.declared.Translation.{Translation}
 use Rattle.centering.specs.Letters.{letters, byteOf, pointsOf, letterOf, letterAmong}
 use Rattle.centering.specs.Lattices.{listed, points, tripleOf, translationOf, containsOf, congruentOf, smallestOf}
 use Rattle.centering.specs.declared.Centering.{Centering}
 use Rattle.centering.specs.declared.Letter.the-variants.{Is}
-
--- A Boolean answer and the fact it stands for.
-pub holds : {b : Bool} → T b ↔ (b ≡ true)
-holds {b} = (forth b, back b)
-  where
-    forth : (b : Bool) → T b → b ≡ true
-    forth true t = refl
-
-    back : (b : Bool) → b ≡ true → T b
-    back true e = tt
-    back false e = absurd (true≢false (sym e))
 
 point-test : (c : Centering) (t : Triple) → (has sameTriple t (pointsOf c) ≡ true) ↔ Mem t (pointsOf c)
 point-test c t = (
@@ -84,7 +74,7 @@ pub letter-by-byte : (c : Centering) → letterOf (byteOf c) ≡ Is c
 letter-by-byte c = at-each (λ c. letterOf (byteOf c)) Is letters letters-by-byte c (listed c)
 
 -- The way back: a byte that spells a letter among some is that letter's.
-among-byte : (b : ℕ) (cs : List Centering) (c : Centering) → letterAmong b cs ≡ Is c → b ≡ byteOf c
+pub among-byte : (b : ℕ) (cs : List Centering) (c : Centering) → letterAmong b cs ≡ Is c → b ≡ byteOf c
 unfolding letterAmong
 among-byte b [] c h = let z : _≡_ {A = ℕ} 0 1 = cc in absurd (omega arith)
 among-byte b (d ∷ cs) c h = go (eqb b (byteOf d)) refl h (among-byte b cs c)

@@ -1,7 +1,7 @@
 -- The centred lattice L of a letter (R3): its points plus whole cells, classes modulo L, and the rotations that map L onto L.
 use mathlib.Core.Path.{_≡_, refl, ap}
 use mathlib.Core.Bool.{Bool}
-use mathlib.Core.List.{[], map, List·Memᴰ as Mem, List·Memᴰ·head as here, List·Memᴰ·tail as there}
+use mathlib.Core.List.{map, List·Memᴰ as Mem, List·Memᴰ·head as here, List·Memᴰ·tail as there}
 use Prim.Native.Nat.{ℕ}
 use lib.Dec.{T}
 use lib.IntN.{pos, _+ℤ_, +ℤ-idr}
@@ -9,7 +9,8 @@ use lib.ListN.{length}
 use Rattle.laws.specs.Matrix.{plus, opposite}
 use Rattle.laws.specs.Residue.{residue, Triple, triple≡, reduced, _⊕_, minus}
 use Rattle.laws.specs.Distinct.{has}
-use Rattle.laws.specs.Lattice.{Points, arePoints, are-points, zeroTriple, sameTriple, smallest, filled, all, all-member, keepsSums, belowTwelve, withoutRepeats}
+use Rattle.laws.specs.Lattice.{Points, arePoints, are-points, zeroTriple, sameTriple, smallest, filled, keepsSums, belowTwelve, withoutRepeats}
+use Rattle.laws.specs.Truth.{all, all-member}
 use Rattle.operation.specs.Meaning.{vectorOf}
 use Rattle.operation.specs.declared.Translation.{Translation}
 use Rattle.centering.specs.Letters.{letters, pointsOf}

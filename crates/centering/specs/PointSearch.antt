@@ -1,6 +1,6 @@
 -- What the code's four tests for a point say: the points are filled up to four with (0,0,0), so the tests find a point exactly if there is one.
 use mathlib.Core.Path.{_≡_, refl, sym, _∙_, ap}
-use mathlib.Core.Bool.{Bool, true, false, _||_}
+use mathlib.Core.Bool.{true, false, or-false}
 use mathlib.Core.List.{List, [], _∷_, map}
 use Prim.Native.Nat.{ℕ, zero, suc, min, _<_}
 use native.Mathlib.Omega.{arith}
@@ -9,7 +9,8 @@ use lib.Dec.{T, eqb, eqb→eq}
 use lib.ListN.{length, getD}
 use Rattle.laws.specs.Residue.{Triple, _⊕_, ⊕-reduced}
 use Rattle.laws.specs.Distinct.{has}
-use Rattle.laws.specs.Lattice.{sameTriple, filled, all, all-member, has-filled-same, rank, unrank, rank-lt, leastRank, smallest, smallest-filled}
+use Rattle.laws.specs.Lattice.{sameTriple, filled, has-filled-same, rank, unrank, rank-lt, leastRank, smallest, smallest-filled}
+use Rattle.laws.specs.Truth.{all, all-member, or-holds-right}
 use Rattle.operation.specs.declared.Translation.{Translation}
 use Rattle.centering.specs.Letters.{letters, pointsOf}
 use Rattle.centering.specs.Lattices.{listed, points, tripleOf, translationOf, latticePointsOf, smallestOf}
@@ -43,21 +44,11 @@ pub among-points : (c : Centering) (u : Triple) → has sameTriple u (map triple
 unfolding latticePointsOf
 among-points c u = ap (has sameTriple u) (back-again (filled 4 (pointsOf c))) ∙ has-filled-same (pointsOf c) (points c) 4 u
 
--- A test that passes finds.
-or-true : (a b : Bool) → b ≡ true → a || b ≡ true
-or-true true b h = refl
-or-true false b h = h
-
 pub found : (l : List Translation) (u : Triple) (d : Translation) (i : ℕ) → i < length l → sameTriple u (tripleOf (getD l i d)) ≡ true
     → has sameTriple u (map tripleOf l) ≡ true
 unfolding has
 found (t ∷ l) u d zero h e = rw e refl
-found (t ∷ l) u d (suc i) h e = or-true (sameTriple u (tripleOf t)) _ (found l u d i (omega arith) e)
-
--- Where the first three fail, the fourth decides.
-or-false : (a : Bool) → a || false ≡ a
-or-false true = refl
-or-false false = refl
+found (t ∷ l) u d (suc i) h e = or-holds-right (sameTriple u (tripleOf t)) _ (found l u d i (omega arith) e)
 
 pub fourth : (l : List Translation) (u : Triple) (d : Translation) → length l ≡ 4 → sameTriple u (tripleOf (getD l 0 d)) ≡ false
     → sameTriple u (tripleOf (getD l 1 d)) ≡ false → sameTriple u (tripleOf (getD l 2 d)) ≡ false

@@ -14,7 +14,8 @@ use borrow.Author.Tests.{eq-eqb}
 use Rattle.laws.specs.Matrix.{Vector}
 use Rattle.laws.specs.Residue.{Triple, Reduced, reduced, reduced-lt}
 use Rattle.laws.specs.Distinct.{has, has→Mem, Mem→has, equality-equivalence}
-use Rattle.laws.specs.Lattice.{InLattice, sameTriple, triple-decides, all, all-member, member-all, and-left, and-right}
+use Rattle.laws.specs.Lattice.{InLattice, sameTriple, triple-decides}
+use Rattle.laws.specs.Truth.{all, all-member, member-all, and-left, and-right}
 use Rattle.centering.specs.Letters.{point, letters, pointsOf}
 use Rattle.centering.specs.Lattices.{listed}
 use Rattle.centering.specs.declared.Centering.{Centering}

@@ -10,9 +10,9 @@ use Rattle.subgroup_laws.specs.Permutations.{permutationOf}
 use Rattle.subgroup_laws.specs.Slots.{written, cleared}
 use Rattle.subgroup_laws.specs.Subsets.{isSubgroup, conjugateOf, normalizerOf}
 use Rattle.subgroup_laws.specs.Table.{product}
-use Rattle.conjugation.specs.ConjugateLists.{tooShort}
+use Rattle.conjugation.specs.LentConjugates.{tooShort}
 use Rattle.table_check.specs.OnGroup.{onGroup, onBytes}
-use Rattle.table_check.specs.TableCheck.{checkOf}
+use Rattle.table_check.specs.CheckAnswers.{checkOf}
 use Rattle.table_check.specs.declared.Answer.{Answer}
 use Rattle.table_check.specs.declared.Answer.the-variants.{Value, Refused}
 use Rattle.table_check.specs.declared.Refusal.{Refusal}

@@ -1,4 +1,4 @@
 -- Conjugates with their conjugators.
-pub mod ConjugateLists
+pub mod LentConjugates
 -- What is answered on a subgroup.
 pub mod Answers

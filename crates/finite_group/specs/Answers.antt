@@ -2,7 +2,7 @@
 use mathlib.Core.List.{List}
 use Prim.Native.Nat.{ℕ}
 use Rattle.operation.specs.Answer as answer
-use Rattle.table_check.specs.TableCheck.{checkOf}
+use Rattle.table_check.specs.CheckAnswers.{checkOf}
 use Rattle.table_check.specs.declared.Answer.{Answer}
 use Rattle.table_check.specs.declared.Answer.the-variants.{Value, Refused}
 use Rattle.table_check.specs.declared.Refusal.{Refusal}

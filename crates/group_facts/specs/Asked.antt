@@ -8,11 +8,11 @@ use Rattle.symbol_group.specs.Answers.{orderOf}
 use Rattle.symbol_group.specs.declared.SymbolOrder.{SymbolOrder}
 use Rattle.symbol_group.specs.declared.SymbolOrder.the-variants as symbol-order
 use Rattle.group_record.specs.Acceptance.{Bytes}
-use Rattle.group_table.specs.Tables.{symbolCells, recordOrder, recordCells}
+use Rattle.group_table.specs.Tables.{symbolCells, orderOfRecord, recordCells}
 use Rattle.group_table.specs.declared.RecordOrder.{RecordOrder}
 use Rattle.group_table.specs.declared.RecordOrder.the-variants as record-order
 use Rattle.finite_group.specs.Answers.{identityAnswer}
-use Rattle.table_check.specs.TableCheck.{Accepts}
+use Rattle.table_check.specs.CheckAnswers.{Accepts}
 use Rattle.table_check.specs.declared.Answer.{Answer as TableAnswer}
 use Rattle.table_check.specs.declared.Answer.the-variants as table-answers
 use Rattle.motion_group.specs.Accepted.{symbol-table-accepted, record-table-accepted}
@@ -48,15 +48,15 @@ symbol-asked text = record {
         absurd (omega arith)
 
 -- and of a record
-pub record-asked : (bytes : List ℕ) → Bytes bytes → Asked (onRecord bytes) (recordCells bytes) (λ n. recordOrder bytes ≡ record-order.Is n)
+pub record-asked : (bytes : List ℕ) → Bytes bytes → Asked (onRecord bytes) (recordCells bytes) (λ n. orderOfRecord bytes ≡ record-order.Is n)
 record-asked bytes b = record {
   accepted = λ n o. record-table-accepted bytes b n o;
   told = λ n o f. rw o refl;
-  value = λ f k p. by-order f k (recordOrder bytes) refl p;
+  value = λ f k p. by-order f k (orderOfRecord bytes) refl p;
 }
   where
-    by-order : (f : ℕ → List ℕ → TableAnswer) (k : ℕ) (o : RecordOrder) → recordOrder bytes ≡ o → onRecord bytes f ≡ Value k
-        → (n : ℕ) × (recordOrder bytes ≡ record-order.Is n) × (f n (recordCells bytes) ≡ table-answers.Value k)
+    by-order : (f : ℕ → List ℕ → TableAnswer) (k : ℕ) (o : RecordOrder) → orderOfRecord bytes ≡ o → onRecord bytes f ≡ Value k
+        → (n : ℕ) × (orderOfRecord bytes ≡ record-order.Is n) × (f n (recordCells bytes) ≡ table-answers.Value k)
     by-order f k (record-order.Is n) o p = (n, o, told-value _ k (rw o at p))
     by-order f k (record-order.Refused r) o p =
         let q : onRecord bytes f ≡ Refused (recordRefusal r) = rw o refl in

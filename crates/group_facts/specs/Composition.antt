@@ -1,4 +1,4 @@
--- Conjugation composes (document 02, xi): by a and then by b is by a b, by the identity nothing changes, by g and then by its inverse a subgroup
+-- Conjugation composes ((xi) of the requests): by a and then by b is by a b, by the identity nothing changes, by g and then by its inverse a subgroup
 -- comes back, and the inverse of a b is b's inverse times a's. Said of the definitions that the entries answer by, of the answers when one is fed
 -- into the next call, and for the groups of symbols and records.
 use mathlib.Core.Path.{_≡_, refl, sym, ap, _∙_}
@@ -17,10 +17,10 @@ use Rattle.subgroup_laws.specs.Groups.{Group, inverseOf}
 use Rattle.subgroup_laws.specs.SubgroupLaws.{test-subgroup, subgroup-test}
 use Rattle.subgroup_laws.specs.Subsets.{Subgroup, isSubgroup, conjugateOf}
 use Rattle.subgroup_laws.specs.Table.{product}
-use Rattle.group_table.specs.Tables.{symbolCells, recordOrder, recordCells}
+use Rattle.group_table.specs.Tables.{symbolCells, orderOfRecord, recordCells}
 use Rattle.group_table.specs.declared.RecordOrder.the-variants as record-order
 use Rattle.finite_group.specs.Answers.{conjugateAnswer, conjugateEntry, identityAnswer}
-use Rattle.table_check.specs.TableCheck.{Accepts}
+use Rattle.table_check.specs.CheckAnswers.{Accepts}
 use Rattle.table_check.specs.TableVerdict.{checked-table}
 use Rattle.table_check.specs.declared.Answer.{Answer as TableAnswer}
 use Rattle.table_check.specs.declared.Answer.the-variants as table-answers
@@ -147,13 +147,13 @@ pub symbol-returns : (text : List ℕ) (e h g k : ℕ) → onSymbol text identit
 symbol-returns text = asked-returns _ _ _ (symbol-asked text)
 
 -- the group of a record that is read: by a and then by b
-pub record-composes : (bytes : List ℕ) → Bytes bytes → (n h a b k : ℕ) → recordOrder bytes ≡ record-order.Is n → b < n
+pub record-composes : (bytes : List ℕ) → Bytes bytes → (n h a b k : ℕ) → orderOfRecord bytes ≡ record-order.Is n → b < n
     → onRecord bytes (λ n t. conjugateEntry n t h a) ≡ Value k
     → onRecord bytes (λ n t. conjugateEntry n t k b) ≡ onRecord bytes (λ n t. conjugateEntry n t h (product n t a b))
 record-composes bytes b = asked-composes _ _ _ (record-asked bytes b)
 
 -- by the identity
-pub record-identity : (bytes : List ℕ) → Bytes bytes → (n e h : ℕ) → recordOrder bytes ≡ record-order.Is n → onRecord bytes identityAnswer ≡ Value e
+pub record-identity : (bytes : List ℕ) → Bytes bytes → (n e h : ℕ) → orderOfRecord bytes ≡ record-order.Is n → onRecord bytes identityAnswer ≡ Value e
     → Subgroup n (product n (recordCells bytes)) e h → onRecord bytes (λ n t. conjugateEntry n t h e) ≡ Value h
 record-identity bytes b = asked-identity _ _ _ (record-asked bytes b)
 

@@ -1,4 +1,4 @@
--- Counts that fit (document 02, xiv): a subgroup's conjugates times its normalizer's order is the group's order, each subgroup's order divides it,
+-- Counts that fit ((xiv) of the requests): a subgroup's conjugates times its normalizer's order is the group's order, each subgroup's order divides it,
 -- the classes share no subgroup, hold all and add up to their number, and each permutation has every position once and moves products to products.
 -- Said of the definitions for every accepted table, and of the entries' answers.
 use mathlib.Core.Path.{_≡_, refl, sym, ap, ap₂, _∙_, subst}
@@ -25,11 +25,11 @@ use Rattle.subgroup_laws.specs.Permutations.{permutationOf, permutation-length}
 use Rattle.subgroup_laws.specs.SubgroupLaws.{test-subgroup}
 use Rattle.subgroup_laws.specs.Subsets.{Subgroup, isSubgroup, conjugateOf, normalizerOf}
 use Rattle.subgroup_laws.specs.Table.{product}
-use Rattle.group_table.specs.Tables.{recordOrder}
+use Rattle.group_table.specs.Tables.{orderOfRecord}
 use Rattle.group_table.specs.declared.RecordOrder.the-variants as record-order
 use Rattle.finite_group.specs.Answers.{listAnswer, subgroupsAnswer, conjugatesAnswer, conjugatesEntry, normalizerAnswer, normalizerEntry, permutationAnswer, permutationBytes, permutationEntry, permutationList}
-use Rattle.conjugation.specs.ConjugateLists.{tooShort}
-use Rattle.table_check.specs.TableCheck.{Accepts}
+use Rattle.conjugation.specs.LentConjugates.{tooShort}
+use Rattle.table_check.specs.CheckAnswers.{Accepts}
 use Rattle.table_check.specs.TableVerdict.{checked-table}
 use Rattle.table_check.specs.declared.Answer.{Answer as TableAnswer}
 use Rattle.table_check.specs.declared.Answer.the-variants as table-answers
@@ -207,5 +207,5 @@ symbol-counts-fit text = asked-fit _ _ _ (symbol-asked text)
 
 -- of a record
 pub record-counts-fit : (bytes : List ℕ) → Bytes bytes → (h k s : ℕ) (b c : List ℕ) → onRecord bytes (λ n t. conjugatesEntry n t h b c) ≡ Value k
-    → onRecord bytes (λ n t. normalizerEntry n t h) ≡ Value s → (n : ℕ) × (recordOrder bytes ≡ record-order.Is n) × (k * ones s ≡ n)
+    → onRecord bytes (λ n t. normalizerEntry n t h) ≡ Value s → (n : ℕ) × (orderOfRecord bytes ≡ record-order.Is n) × (k * ones s ≡ n)
 record-counts-fit bytes y = asked-fit _ _ _ (record-asked bytes y)

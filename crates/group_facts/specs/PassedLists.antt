@@ -22,7 +22,8 @@ use Rattle.symbol_group.specs.Exactly.{group-exactly}
 use Rattle.list_check.specs.Checked.{entryCount, entryAt, checkedOf}
 use Rattle.list_check.specs.Comparison.{Whole}
 use Rattle.list_check.specs.Entries.{WellFormed, entry-inside, entry-digits}
-use Rattle.list_check.specs.Exactly.{yes-exactly, spells-once, carried}
+use Rattle.list_check.specs.Exactly.{yes-exactly, carried}
+use Rattle.hall_symbol.specs.Agreement.{spells-once}
 use Rattle.list_check.specs.declared.Checked.the-variants.{Yes}
 use Rattle.group_record.specs.Record.{listedForm, writtenIn, recordIn, recordOf}
 use Rattle.group_record.specs.FirstEdition.{firstEdition}
@@ -102,7 +103,7 @@ module _ (text list : List ℕ) (A : AcceptedText text) (well : WellFormed list)
   listing : Listing (A .operations)
   listing = accepted-listing (A .letter) (A .generators) (A .operations) (A .steps) (A .accepted)
 
-  exactly : (m : SpaceMotion) → generated.InSet c (A .generators) m ↔ ((o : Operation) × Mem o (A .operations) × Alike c m (motionOf o))
+  exactly : (m : SpaceMotion) → generated.InGeneratedSet c (A .generators) m ↔ ((o : Operation) × Mem o (A .operations) × Alike c m (motionOf o))
   exactly m = generated.set-exactly (A .letter) (A .generators) (A .operations) (A .steps) (A .accepted) m
 
   -- Each entry is alike to an operation of the symbol,

@@ -12,10 +12,10 @@ use lib.ListN.{length, getD}
 use Rattle.laws.specs.Distinct.{has-member, distinct-equal}
 use Rattle.laws.specs.Closure.{step, closure-length, closure-limit, closure-unique, closure-bounded, closure-lists, closure-ends, closure-fails, ListsReached, Congruence}
 use Rattle.laws.specs.Keyed.{Steady, key-congruence, steady-each-key, steady-unit-key}
-use Rattle.laws.specs.Lattice.{all, all-member, member-all}
 use Rattle.laws.specs.Growth.{place}
-use Rattle.laws.specs.GrowthClosure.{T-true, true-T, place-lt, place-same, agrees, steadyFrom}
-use Rattle.group_growth.specs.Lists.{member-at, all-fails}
+use Rattle.laws.specs.GrowthClosure.{place-lt, place-same, agrees, steadyFrom}
+use Rattle.laws.specs.Truth.{all, all-member, member-all, T-true, true-T, all-fails}
+use Rattle.laws.specs.Indices.{member-at}
 use Rattle.group_growth.specs.Verdicts.{Verdict, listed, overgrown, torn, onList, onListing}
 use Rattle.group_growth.specs.Growing.{Growing, OkGenerators, listing, stepsOf, verdict, Generated, Few, Many, AllFine, Unfit, OneToUnit, TwoToKey}
 

@@ -5,9 +5,9 @@ use mathlib.Core.Option.{Option·map}
 use mathlib.Core.List.{List, map}
 use Prim.Native.Nat.{ℕ}
 use lib.Dec.{T}
-use Rattle.laws.specs.Lattice.{and-left, and-right, both}
 use Rattle.laws.specs.Closure.{closure, Monoid}
 use Rattle.laws.specs.Keyed.{KeyedMonoid, closure-key}
+use Rattle.laws.specs.Truth.{and-left, and-right, both}
 
 -- ---- flags
 -- Exclusive or.

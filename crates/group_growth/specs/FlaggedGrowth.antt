@@ -7,10 +7,10 @@ use mathlib.Core.List.{List, [], _∷_, _++_, map, Memᴰ·map as mem-map, Mem�
 use Prim.Native.Nat.{ℕ, _≤_}
 use lib.Dec.{T}
 use lib.ListN.{length, getD, List·getD-map}
-use Rattle.laws.specs.Lattice.{all}
 use Rattle.laws.specs.Closure.{start, step}
 use Rattle.laws.specs.Growth.{place}
 use Rattle.laws.specs.GrowthClosure.{allowed, agrees, stepsFrom, steadyFrom}
+use Rattle.laws.specs.Truth.{all}
 use Rattle.group_growth.specs.Verdicts.{listed, overgrown, torn, imageVerdict, image-listed, onListing}
 use Rattle.group_growth.specs.Growing.{Growing, OkGenerators, listing, fineProduct, verdict, Generated}
 use Rattle.group_growth.specs.Acceptance.{key-kept, limit-raised, limit-lowered}

@@ -8,9 +8,9 @@ use Prim.Native.Nat.{ℕ, _≤_}
 use native.Mathlib.Omega.{arith}
 use lib.Dec.{T}
 use Rattle.laws.specs.Distinct.{has, Distinct, nil, cons}
-use Rattle.laws.specs.Lattice.{all}
 use Rattle.laws.specs.Growth.{Growth, grown, imageGrowth, Image, grown-image}
-use Rattle.laws.specs.GrowthClosure.{T-true, true-T, allowed, described, stepsFrom, steadyFrom, grown-closure}
+use Rattle.laws.specs.GrowthClosure.{allowed, described, stepsFrom, steadyFrom, grown-closure}
+use Rattle.laws.specs.Truth.{all, T-true, true-T}
 use Rattle.group_growth.specs.Verdicts.{listed, overgrown, torn, imageVerdict, onListing, onGrowth}
 use Rattle.group_growth.specs.Growing.{Growing, listing, fineProduct, verdict}
 use Rattle.group_growth.specs.Acceptance.{KeyKept}

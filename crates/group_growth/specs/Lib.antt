@@ -1,5 +1,4 @@
 -- Groups grown from generators, in any monoid whose elements have keys, under any limit.
-pub mod Lists
 -- What is answered, and what it is promised in the words of:
 pub mod Verdicts
 pub mod Growing

@@ -6,10 +6,10 @@ use mathlib.Core.Option.{Option, some, none}
 use mathlib.Core.List.{List, map}
 use Prim.Native.Nat.{ℕ}
 use native.Mathlib.Omega.{arith}
-use Rattle.laws.specs.Lattice.{all}
 use Rattle.laws.specs.Closure.{closure}
 use Rattle.laws.specs.Growth.{Growth}
 use Rattle.laws.specs.GrowthClosure.{stepsFrom, steadyFrom}
+use Rattle.laws.specs.Truth.{all}
 
 -- The elements in list order and the index of each product with a generator; or that the list passes the limit or an element fails the test; or that
 -- two elements of one key are not alike.

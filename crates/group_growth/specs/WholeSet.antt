@@ -19,19 +19,19 @@ module _ (S : Growing) (Free : S .Element → Type 0) (gens : List (S .Element))
   open Growing S using (Element, product, unit, Alike, keyed, ok-alike)
 
   -- The least set with the unit and closed under a generator, or something free, as right factor.
-  pub data InSet : Element → Type 0 where
-    origin : InSet unit
-    by-generator : {x g : Element} → InSet x → Mem g gens → InSet (product x g)
-    by-free : {x t : Element} → InSet x → Free t → InSet (product x t)
+  pub data InWholeSet : Element → Type 0 where
+    origin : InWholeSet unit
+    by-generator : {x g : Element} → InWholeSet x → Mem g gens → InWholeSet (product x g)
+    by-free : {x t : Element} → InWholeSet x → Free t → InWholeSet (product x t)
 
   -- What is generated is in the set.
-  pub generated-in : {x : Element} → Generated S gens x → InSet x
+  pub generated-in : {x : Element} → Generated S gens x → InWholeSet x
   generated-in start = origin
   generated-in (step r m) = by-generator (generated-in r) m
 
   module _ (D : Freedom S Free) (ok : OkGenerators S gens) where
     -- What is in the set is alike to something generated.
-    set-near : {x : Element} → InSet x → (y : Element) × Generated S gens y × Alike x y
+    set-near : {x : Element} → InWholeSet x → (y : Element) × Generated S gens y × Alike x y
     set-near origin = (unit, start, keyed .alike-reflexive unit)
     set-near (by-generator {x} {g} s m) =
         let (y, r, near) = set-near s in
@@ -44,14 +44,14 @@ module _ (S : Growing) (Free : S .Element → Type 0) (gens : List (S .Element))
         (y, r, keyed .alike-transitive (product x t) x y (D .free-alike x t ok-x f) near)
 
     -- What is alike to something generated is that times something free.
-    near-set : (x y : Element) → Generated S gens y → Alike x y → InSet x
+    near-set : (x y : Element) → Generated S gens y → Alike x y → InWholeSet x
     near-set x y r near =
         let (t, f, e) = D .alike-free x y (generated-ok S gens ok y r) near in
-        subst InSet e (by-free (generated-in r) f)
+        subst InWholeSet e (by-free (generated-in r) f)
 
     -- The set is the list with what is free added.
     pub set-exactly : (limit : ℕ) (l : List Element) (steps : List ℕ) (W : Whole S gens limit l steps) (F : Forms S)
-        → (x : Element) → InSet x ↔ ((b : F .Form) × Mem b (forms S gens ok limit l steps W F) × Alike x (F .meaning b))
+        → (x : Element) → InWholeSet x ↔ ((b : F .Form) × Mem b (forms S gens ok limit l steps W F) × Alike x (F .meaning b))
     set-exactly limit l steps W F x = (
       (λ s. let (y, r, near) = set-near s in near-member S gens ok limit l steps W F x y near r),
       λ (b, m, near).

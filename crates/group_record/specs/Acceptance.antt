@@ -1,12 +1,13 @@
 -- What a reading of groups tells, for any editions, letters and further rule: exactly the records of allowed operations in the listed form.
 -- The idea: its tests mean what is asked of motions, and the reading is the rules.
-use mathlib.Core.Path.{_≡_, refl, sym, _∙_, ap, subst}
+use mathlib.Core.Path.{_≡_, sym, _∙_, ap, subst}
 use mathlib.Core.Logic.{_↔_}
 use mathlib.Core.Bool.{true, _&&_}
 use mathlib.Core.List.{List, _++_, map}
 use Prim.Native.Nat.{ℕ, _<_, _≤_}
 use lib.ListN.{length, length-map}
 use Rattle.laws.specs.Sorted.{Sorted, sorted-nil, sorted-cons}
+use Rattle.laws.specs.Truth.{both-true}
 use Rattle.operation.specs.Meaning.{motionOf}
 use Rattle.operation.specs.declared.Operation.{Operation}
 use Rattle.centering.specs.LatticeLaws.{Smallest}
@@ -19,7 +20,7 @@ use Rattle.group_record.specs.Reading.{GroupReading, rulesOf, isAllowed,
 use Rattle.group_record.specs.Groups.{Allowed, Form}
 use Rattle.group_record.specs.declared.sign.Sign.{Sign}
 use Rattle.group_record.specs.OneRecord.{written-items, operations-of-items}
-use Rattle.group_record.specs.ReadingTests.{both-true, GoodItems, item-test, items-of-operations, good-form, form-good, allowed-test}
+use Rattle.group_record.specs.ReadingTests.{GoodItems, item-test, items-of-operations, good-form, form-good, allowed-test}
 use Rattle.group_record.specs.declared.Edition.{Edition as Known}
 use Rattle.group_record.specs.Outcomes.{Good, Meaning, Outcome, Held, told-exactly, held-told, held-exactly}
 

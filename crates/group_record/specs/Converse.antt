@@ -8,7 +8,7 @@ use Prim.Native.Nat.{_≤_}
 use lib.ListN.{length, length-map}
 use Rattle.laws.specs.Integer.{ring}
 use Rattle.laws.specs.Matrix.{Matrix, Vector, times, act, plus, unit, origin, unit-times, act-unit, act-plus, act-times, plus-origin}
-use Rattle.laws.specs.Motion.{SpaceMotion, compose, identity, product}
+use Rattle.laws.specs.Motion.{SpaceMotion, compose, identity, product, translationBy}
 use Rattle.laws.specs.LatticeMaps.{MapsInto, MapsOnto, onto-unimodular}
 use Rattle.operation.specs.Composed.{identity-motion}
 use Rattle.operation.specs.Meaning.{motionOf}
@@ -21,7 +21,6 @@ use Rattle.centering.specs.declared.Centering.{Centering}
 use Rattle.group_record.specs.Record.{smallestOperation}
 use Rattle.group_record.specs.Groups.{Alike, InSet, Allowed, Form}
 use Rattle.group_record.specs.ListedForm.{alike-reflexive, alike-smallest, form-smallest, form-listing}
-use Rattle.group_record.specs.OneRecord.{translationBy}
 use Rattle.group_record.specs.GroupLaws.{SpaceGroup, allowed-group}
 use Rattle.group_record.specs.ReadingTests.{origin-smallest, identity-entries}
 

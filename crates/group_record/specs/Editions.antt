@@ -5,7 +5,7 @@ use mathlib.Core.List.{List, [], _∷_, _++_, List·Memᴰ as Mem}
 use Prim.Native.Nat.{ℕ, _+_, _*_, _-_, _/_, _%_, _≤_}
 use native.Mathlib.Omega.{arith}
 use lib.ListN.{length, getD, take, length-append}
-use lib.Seq.{getD-append-add, getD-at}
+use lib.Seq.{getD-append-add}
 use Rattle.group_record.specs.Items.{Bytes, itemsIn, bytesOf, bytes-length, read-written}
 
 pub record Edition (Item : Type 0) : Type 1 where

@@ -8,13 +8,14 @@ use lib.Dec.{T, eqb→eq, eqb-refl}
 use lib.IntN.{pos}
 use Rattle.laws.specs.Integer.{ring}
 use Rattle.laws.specs.Matrix.{Matrix, Vector, times, act, plus, opposite, unit, inverse, Unimodular, times-assoc, unit-times, act-times, act-unit, act-plus, act-opposite, plus-comm, plus-opposite, times-inverse, inverse-times}
-use Rattle.laws.specs.Motion.{SpaceMotion, compose, identity, product}
+use Rattle.laws.specs.Motion.{SpaceMotion, compose, identity, product, translationBy}
 use Rattle.laws.specs.Distinct.{has, has-member, has-respects, Mem→has, injection-onto}
 use Rattle.laws.specs.Lattice.{InLattice, in-plus, in-opposite}
 use Rattle.laws.specs.LatticeMaps.{MapsInto, MapsOnto}
+use Rattle.laws.specs.MotionsModulo.{less-origin}
 use Rattle.operation.specs.Code.{codeOf}
 use Rattle.operation.specs.Composed.{identity-motion}
-use Rattle.operation.specs.Entries.{Entries, digits-entries}
+use Rattle.operation.specs.Entries.{Entries, digits-entries, digits-again}
 use Rattle.operation.specs.Meaning.{matrixOf, vectorOf, motionOf, digitsOf}
 use Rattle.operation.specs.Product.{identityOperation, operationOf}
 use Rattle.operation.specs.declared.Operation.{Operation}
@@ -23,8 +24,8 @@ use Rattle.centering.specs.Letters.{pointsOf}
 use Rattle.centering.specs.Lattices.{points}
 use Rattle.centering.specs.declared.Centering.{Centering}
 use Rattle.group_record.specs.Groups.{Alike, InSet, Allowed, sameCode, Listing}
-use Rattle.group_record.specs.ListedForm.{operation≡, digits-again, matrix-injective, code-matrix, code-equivalence, told-by-rotation, alike-reflexive, alike-transitive}
-use Rattle.group_record.specs.OneRecord.{translationBy, pure-translations, from-origin}
+use Rattle.group_record.specs.ListedForm.{operation≡, matrix-injective, code-matrix, code-equivalence, told-by-rotation, alike-reflexive, alike-transitive}
+use Rattle.group_record.specs.OneRecord.{pure-translations}
 
 -- ---- products of motions that differ by translations of L
 -- The difference of two products' translations.
@@ -232,7 +233,7 @@ module _ (c : Centering) {l : List Operation} (L : Listing l) (A : Closed c (map
       alike-transitive c (compose f (motionOf x)) (compose (motionOf g) (motionOf x)) identity
       (compose-alike c f (motionOf g) (motionOf x) (motionOf x) maps a (alike-reflexive c (motionOf x))) b in
       let turned = inverse-unique (f .rotation) (matrixOf (x .rotation)) u (near .0) in
-      let moved : InLattice (pointsOf c) (plus (act (f .rotation) (vectorOf (x .translation))) (f .translation)) = rw (from-origin _) at (near .1) in
+      let moved : InLattice (pointsOf c) (plus (act (f .rotation) (vectorOf (x .translation))) (f .translation)) = rw (less-origin _) at (near .1) in
       let back : InLattice (pointsOf c) (act (inverse (f .rotation)) (plus (act (f .rotation) (vectorOf (x .translation))) (f .translation))) =
       rw turned (into x k _ moved) in (
         turned,

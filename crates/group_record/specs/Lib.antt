@@ -1,7 +1,6 @@
 -- The group record of R5: its bytes, how they are read, and what group they stand for.
 -- The definitions: what a record is, how it is read, which groups it may hold.
 pub mod Items
-pub mod Tests
 pub mod Editions
 pub mod Rules
 pub mod OperationItems

@@ -14,8 +14,8 @@ use Rattle.laws.specs.Distinct.{has, Distinct, nil, cons, Equivalence, has-memb
 use Rattle.laws.specs.Lattice.{congruent-reflexive, congruent-symmetric, congruent-transitive}
 use Rattle.laws.specs.Sorted.{key-strict, key-decides, key-total, Sorted, sorted-nil, sorted-cons, unique, sort-length, sort-member, member-sort, sort-sorted}
 use Rattle.operation.specs.Code.{codeOf, code-injective}
-use Rattle.operation.specs.Entries.{Entries, digits-entries, digit-again}
-use Rattle.operation.specs.Meaning.{Digits, digitsOf, matrixOf, motionOf, rotation≡}
+use Rattle.operation.specs.Entries.{Entries, digits-entries, digits-again}
+use Rattle.operation.specs.Meaning.{digitsOf, matrixOf, motionOf}
 use Rattle.operation.specs.declared.Operation.{Operation}
 use Rattle.operation.specs.declared.Rotation.{Rotation}
 use Rattle.operation.specs.declared.Translation.{Translation}
@@ -30,21 +30,6 @@ use Rattle.group_record.specs.Groups.{Alike, InSet, sameCode, Listing, F
 -- Operations are equal where their parts are.
 pub operation≡ : {f g : Operation} → f .rotation ≡ g .rotation → f .translation ≡ g .translation → f ≡ g
 operation≡ p q = λ i. record { rotation = p i; translation = q i }
-
--- The digits of a rotation's matrix are the rotation's.
-pub digits-again : (r : Rotation) → Digits r → digitsOf (matrixOf r) ≡ r
-unfolding matrixOf
-digits-again r d =
-    rotation≡
-    (digit-again _ (omega (arith, d .xx)))
-    (digit-again _ (omega (arith, d .xy)))
-    (digit-again _ (omega (arith, d .xz)))
-    (digit-again _ (omega (arith, d .yx)))
-    (digit-again _ (omega (arith, d .yy)))
-    (digit-again _ (omega (arith, d .yz)))
-    (digit-again _ (omega (arith, d .zx)))
-    (digit-again _ (omega (arith, d .zy)))
-    (digit-again _ (omega (arith, d .zz)))
 
 -- Rotations with entries in −1..1 and one matrix are one rotation.
 pub matrix-injective : (r s : Rotation) → Entries (matrixOf r) → Entries (matrixOf s) → matrixOf r ≡ matrixOf s → r ≡ s

@@ -6,11 +6,11 @@ use mathlib.Core.List.{List, [], _∷_, _++_, map, List·Memᴰ as Mem, List·Me
 use Prim.Native.Nat.{ℕ}
 use borrow.Author.Tests.{lt-ltb}
 use lib.ListN.{length, length-map}
-use Rattle.laws.specs.Integer.{ring}
-use Rattle.laws.specs.Matrix.{Vector, unit, origin, plus, opposite, plus-origin}
-use Rattle.laws.specs.Motion.{SpaceMotion, identity}
+use Rattle.laws.specs.Matrix.{Vector, unit, origin}
+use Rattle.laws.specs.Motion.{SpaceMotion, identity, translationBy}
 use Rattle.laws.specs.Lattice.{InLattice, Congruent}
 use Rattle.laws.specs.Sorted.{key-strict, unique}
+use Rattle.laws.specs.MotionsModulo.{less-origin}
 use Rattle.operation.specs.Code.{codeOf, code-lt, rotation-code}
 use Rattle.operation.specs.Composed.{identity-motion}
 use Rattle.operation.specs.Entries.{Entries, digits-entries}
@@ -109,18 +109,6 @@ unfolding recordOf
 record-length c l = record-in-length firstEdition (byteOf c) c l
 
 -- ---- what a set of motions tells
--- The origin is its own opposite.
-opposite-origin : opposite origin ≡ origin
-unfolding opposite origin
-opposite-origin = simp ring
-
--- The difference from the origin is the vector.
-pub from-origin : (v : Vector) → plus v (opposite origin) ≡ v
-from-origin v = ap (plus v) opposite-origin ∙ plus-origin v
-
--- A pure translation.
-abbrev pub translationBy : Vector → SpaceMotion
-translationBy v = record { rotation = unit; translation = v }
 
 -- The pure translations of a listing that holds the identity are L.
 pub pure-translations : (c : Centering) {l : List Operation} → Listing l → Mem identityOperation l → (v : Vector)
@@ -137,7 +125,7 @@ pure-translations c {l} L one v = (forth, back)
         ap motionOf same ∙ identity-motion
 
     near : (k : SpaceMotion) → k ≡ identity → Congruent (pointsOf c) v (k .translation) → InLattice (pointsOf c) v
-    near k e h = rw (from-origin v) at (rw e at h)
+    near k e h = rw (less-origin v) at (rw e at h)
 
     at-identity : (g : Operation) (k : SpaceMotion) → Mem g l → motionOf g ≡ k → unit ≡ k .rotation → k ≡ identity
     at-identity g k m e p = sym e ∙ here-identity g m (ap (λ (f : SpaceMotion). f .rotation) e ∙ sym p)
@@ -146,7 +134,7 @@ pure-translations c {l} L one v = (forth, back)
     forth (k, h, (p, q)) = let (g, m, e) = mem-of-map motionOf l h in near k (at-identity g k m e p) q
 
     back : InLattice (pointsOf c) v → InSet c (map motionOf l) (translationBy v)
-    back h = (identity, mem-cast (sym identity-motion) (mem-map motionOf one), (refl, rw (from-origin v) h))
+    back h = (identity, mem-cast (sym identity-motion) (mem-map motionOf one), (refl, rw (less-origin v) h))
 
 -- Every listed operation, in its smallest form, is told by the set.
 same-forms : (c : Centering) {l k : List Operation} → Listing l → Listing k → ((m : SpaceMotion) → InSet c (map motionOf l) m → InSet c (map motionOf k) m)

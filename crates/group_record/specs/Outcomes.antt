@@ -13,12 +13,11 @@ use lib.Dec.{leb, eqb, ltb}
 use borrow.Author.Tests.{lt-ltb, le-ltb, le-leb, leb-true, eq-eqb, eqb-true}
 use lib.ListN.{length, getD, take, drop, length-append, length-drop, take-append-drop}
 use lib.Seq.{getD-append-add, drop-drop, drop-at, length-take-le}
-use Rattle.laws.specs.Lattice.{all}
 use Rattle.laws.specs.Sorted.{Sorted, key-strict, key-decides, ascending, ascending-sorted, sorted-ascending}
+use Rattle.laws.specs.Truth.{all, both-true, all-true, fails, failed}
 use Rattle.group_record.specs.Items.{Bytes, bytes-left, itemsIn, items-length, bytesOf, bytes-length, written-read}
-use Rattle.group_record.specs.Editions.{Edition, totalLength, lastFive, trailerBytes, fromEnd, from-end, framed, framed-items}
+use Rattle.group_record.specs.Editions.{totalLength, lastFive, trailerBytes, from-end, framed, framed-items}
 use Rattle.group_record.specs.Rules.{Spelled, Rules, Told, refused, holds, lengthFits, keyBefore, areGood, itemsTold, lastItems, countedTold, letteredTold, editionTold, toldBy}
-use Rattle.group_record.specs.Tests.{both-true, all-true, fails, failed}
 use Rattle.group_record.specs.declared.Refusal.the-variants.{Short, WrongEdition, WrongLetter, WrongLength, WrongItem, NotAllowed}
 
 -- ---- bytes that spell

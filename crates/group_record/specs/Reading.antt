@@ -11,8 +11,9 @@ use lib.Dec.{ltb, eqb}
 use borrow.Author.Tests.{eqb-true}
 use lib.ListN.{length, replicate, take}
 use Rattle.laws.specs.Distinct.{has}
-use Rattle.laws.specs.Lattice.{all, sameTriple, belowTwelve}
+use Rattle.laws.specs.Lattice.{sameTriple, belowTwelve}
 use Rattle.laws.specs.Sorted.{ascending}
+use Rattle.laws.specs.Truth.{all}
 use Rattle.operation.specs.Answer.{Answer, given, refused, Nothing}
 use Rattle.operation.specs.Product.{identityOperation, productOf}
 use Rattle.operation.specs.declared.Operation.{Operation}

@@ -2,20 +2,21 @@
 -- items are not those of operations in the listed form, and refusal 35 exactly where these are not allowed.
 use mathlib.Core.Path.{_≡_, refl, sym, _∙_, ap, ap₂, subst}
 use mathlib.Core.Logic.{_↔_}
-use mathlib.Core.Bool.{Bool, true, false, _&&_, true≢false}
+use mathlib.Core.Bool.{true, false, true≢false}
 use mathlib.Core.List.{List, [], _∷_, map, List·Memᴰ as Mem, List·Memᴰ·head as here, List·Memᴰ·tail as there, Memᴰ·map as mem-map, Memᴰ·of-map as mem-of-map, Memᴰ·cast as mem-cast}
 use Prim.Native.Nat.{ℕ, _<_, _≤_}
 use native.Mathlib.Omega.{arith}
-use lib.Dec.{T, ltb, eqb}
+use lib.Dec.{ltb, eqb}
 use borrow.Author.Tests.{ltb-true, lt-ltb, eqb-true, eq-eqb}
 use lib.ListN.{length, length-map}
 use Rattle.laws.specs.Matrix.{Vector, opposite}
 use Rattle.laws.specs.Motion.{SpaceMotion, compose}
 use Rattle.laws.specs.Residue.{Triple, reduced, _⊕_, reduced-plus}
-use Rattle.laws.specs.Distinct.{has, has-member, or-left, or-right}
-use Rattle.laws.specs.Lattice.{Congruent, congruent-reflexive, zeroTriple, Before, by-x, by-y, by-z, all, all-member, member-all, sameTriple, triple-decides, belowTwelve, same-test, and-right}
+use Rattle.laws.specs.Distinct.{has, has-true}
+use Rattle.laws.specs.Lattice.{Congruent, congruent-reflexive, zeroTriple, Before, by-x, by-y, by-z, sameTriple, triple-decides, belowTwelve}
 use Rattle.laws.specs.LatticeMaps.{MapsOnto, onto-unimodular}
 use Rattle.laws.specs.Sorted.{Sorted, sorted-nil, sorted-cons, key-strict, key-decides, ascending-sorted, sorted-ascending, head-first, tail-sorted, sorted-map}
+use Rattle.laws.specs.Truth.{all, same-test, and-right, both-true, all-true, holds}
 use Rattle.operation.specs.Code.{codeOf, rotationOf, rotation-digits, code-rotation, code-lt}
 use Rattle.operation.specs.Composed.{operation-reduces, product-inside, identity-motion}
 use Rattle.operation.specs.Entries.{Entries, digits-entries, all-entries}
@@ -26,15 +27,14 @@ use Rattle.operation.specs.declared.product.Product.{Product}
 use Rattle.operation.specs.declared.product.Product.the-variants.{Inside, Outside}
 use Rattle.centering.specs.Letters.{pointsOf}
 use Rattle.centering.specs.Lattices.{points, tripleOf, translationOf, smallestOf}
-use Rattle.centering.specs.LatticeLaws.{holds, Smallest, smallest-is, smallest-same, congruent-lattice}
+use Rattle.centering.specs.LatticeLaws.{Smallest, smallest-is, smallest-same, congruent-lattice}
 use Rattle.centering.specs.Keeps.{keepsOf, keeps-lattice}
 use Rattle.centering.specs.declared.Centering.{Centering}
-pub use Rattle.group_record.specs.Tests.{both-true, all-true, has-true}
 use Rattle.group_record.specs.Record.{Item, item≡, itemOf}
 use Rattle.group_record.specs.Reading.{operationOfItem, isItem, itemBefore, areItems, alikeItems, productListed, pairListed, keepsItem, memberAllowed, isAllowed}
 use Rattle.group_record.specs.Groups.{Alike, Allowed, Form}
 use Rattle.group_record.specs.ListedForm.{operation≡, code-matrix, matrix-injective, CodeBefore, form-listing}
-use Rattle.group_record.specs.OneRecord.{operation-of-item, operations-of-items}
+use Rattle.group_record.specs.OneRecord.{operation-of-item}
 use Rattle.group_record.specs.GroupLaws.{identity-listed}
 
 -- ---- items

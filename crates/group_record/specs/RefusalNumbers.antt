@@ -22,7 +22,6 @@ use Rattle.group_record.specs.BothEditions.{editionOf, one-edition}
 use Rattle.group_record.specs.Reading.{refusalNumber, slots, groupAnswer, recordEdition, acceptedGroup, refusedGroup, bothRules, groupAs, groupOf, readOf}
 use Rattle.group_record.specs.Acceptance.{bothMeaning}
 use Rattle.group_record.specs.declared.Edition.{Edition as Known}
-use Rattle.group_record.specs.declared.Reading.the-variants.{Accepted}
 use Rattle.group_record.specs.Signs.{isSmall, latticeOf, sign-told}
 use Rattle.group_record.specs.declared.RecordGroup.{RecordGroup}
 use Rattle.group_record.specs.declared.sign.Sign.{Sign}

@@ -6,8 +6,8 @@ use mathlib.Core.Option.{Option, none, some}
 use Prim.Native.Nat.{ℕ, _+_, _*_, _-_}
 use lib.Dec.{ltb, leb, eqb}
 use lib.ListN.{length, drop}
-use Rattle.laws.specs.Lattice.{all}
 use Rattle.laws.specs.Sorted.{ascending}
+use Rattle.laws.specs.Truth.{all}
 use Rattle.group_record.specs.Items.{itemsIn}
 use Rattle.group_record.specs.Editions.{Edition, totalLength, fromEnd}
 use Rattle.group_record.specs.declared.Refusal.{Refusal}

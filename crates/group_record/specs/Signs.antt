@@ -3,18 +3,18 @@
 use mathlib.Core.Path.{_≡_, refl, sym, _∙_, ap}
 use mathlib.Core.Logic.{inl, inr, _↔_}
 use mathlib.Core.Bool.{Bool, true, false, cond, true≢false}
-use mathlib.Core.List.{List, [], _∷_, List·Memᴰ as Mem}
+use mathlib.Core.List.{List, List·Memᴰ as Mem}
 use mathlib.Core.Option.{Option, none, some}
 use Prim.Native.Nat.{ℕ}
 use native.Mathlib.Omega.{arith}
 use lib.Dec.{eqb}
 use borrow.Author.Tests.{eqb-true}
-use Rattle.laws.specs.Lattice.{all}
+use Rattle.laws.specs.Truth.{all, all-true}
 use Rattle.operation.specs.Entries.{digits-entries}
 use Rattle.operation.specs.Meaning.{motionOf}
 use Rattle.operation.specs.declared.Operation.{Operation}
-use Rattle.centering.specs.Letters.{letters, byteOf, letterOf, letterAmong}
-use Rattle.centering.specs.LatticeLaws.{letter-by-byte}
+use Rattle.centering.specs.Letters.{letters, byteOf, letterOf}
+use Rattle.centering.specs.LatticeLaws.{letter-by-byte, among-byte}
 use Rattle.centering.specs.declared.Centering.{Centering}
 use Rattle.centering.specs.declared.Centering.the-variants.{P, A, B, C, I, R, F, H}
 use Rattle.centering.specs.declared.Letter.{Letter}
@@ -25,7 +25,6 @@ use Rattle.layer_group.specs.Motions.{test-exactly}
 use Rattle.layer_group.specs.Spelling.{OfLayer}
 use Rattle.group_record.specs.Groups.{Form}
 use Rattle.group_record.specs.Rules.{Spelled}
-use Rattle.group_record.specs.Tests.{all-true}
 use Rattle.group_record.specs.declared.sign.Sign.{Sign}
 use Rattle.group_record.specs.declared.sign.Sign.the-variants.{Plain, SmallP, SmallC}
 
@@ -63,19 +62,9 @@ abbrev pub letterIn : Letter → Option Centering
 letterIn (Is c) = some c
 letterIn None = none
 
--- A byte that spells a letter is its byte.
-some-letter : (b : ℕ) (cs : List Centering) (c : Centering) → letterAmong b cs ≡ Is c → b ≡ byteOf c
-unfolding letterAmong
-some-letter b [] c e = let h : _≡_ {A = ℕ} 0 1 = cc in absurd (omega arith)
-some-letter b (d ∷ cs) c e = found (eqb b (byteOf d)) refl e (some-letter b cs c)
-  where
-    found : (t : Bool) → eqb b (byteOf d) ≡ t → cond t (Is d) (letterAmong b cs) ≡ Is c → (letterAmong b cs ≡ Is c → b ≡ byteOf c) → b ≡ byteOf c
-    found true q e rest = let same : d ≡ c = cc in eqb-true b (byteOf d) q ∙ ap byteOf same
-    found false q e rest = rest e
-
 pub spelled-letter : (b : ℕ) (c : Centering) (a : Letter) → letterOf b ≡ a → letterIn a ≡ some c → b ≡ byteOf c
 unfolding letterOf
-spelled-letter b c (Is d) e q = let same : d ≡ c = cc in some-letter b letters d e ∙ ap byteOf same
+spelled-letter b c (Is d) e q = let same : d ≡ c = cc in among-byte b letters d e ∙ ap byteOf same
 spelled-letter b c None e q = let z : _≡_ {A = ℕ} 0 1 = cc in absurd (omega arith)
 
 -- The letters of the lattices.

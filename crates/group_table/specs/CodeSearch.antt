@@ -11,22 +11,22 @@ use Rattle.laws.specs.Motion.{compose}
 use Rattle.laws.specs.Distinct.{Mem→has, eqb-equivalence}
 use Rattle.laws.specs.Growth.{place}
 use Rattle.laws.specs.GrowthClosure.{place-stays}
+use Rattle.laws.specs.Indices.{member-at, at-any, image-at}
 use Rattle.operation.specs.Code.{codeOf}
-use Rattle.operation.specs.Entries.{Entries, all-entries, digits-entries}
+use Rattle.operation.specs.Entries.{Entries, all-entries, digits-entries, digits-again}
 use Rattle.operation.specs.Meaning.{motionOf, digitsOf}
 use Rattle.operation.specs.Product.{identityOperation, operationOf, productOf}
 use Rattle.operation.specs.declared.Operation.{Operation}
 use Rattle.operation.specs.declared.product.Product.{Product}
 use Rattle.operation.specs.declared.product.Product.the-variants.{Inside, Outside}
 use Rattle.centering.specs.declared.Centering.{Centering}
-use Rattle.space_group_theorems.specs.Acceptance.{member-at}
 use Rattle.space_group.specs.Traversal.{turnOf, padded}
 use Rattle.space_group.specs.Places.{place-key}
 use Rattle.space_group.specs.Resuming.{padded-set}
 use Rattle.group_record.specs.Groups.{Alike, Allowed, Listing, sameCode}
-use Rattle.group_record.specs.ListedForm.{digits-again, code-equivalence}
+use Rattle.group_record.specs.ListedForm.{code-equivalence}
 use Rattle.group_table.specs.Tables.{tableOf}
-use Rattle.group_table.specs.TableLaws.{at-inside, image-at, distinct-place, motionAt, table-length, cell-alike}
+use Rattle.group_table.specs.OperationTables.{distinct-place, motionAt, table-length, cell-alike}
 
 -- Where the code of a product stands among codes; 48, which no index is, where an entry has left −1..1.
 abbrev pub productPlace : Product → List ℕ → ℕ
@@ -56,7 +56,7 @@ module _ (c : Centering) {l : List Operation} (L : Listing l) where
 module _ (c : Centering) (n : ℕ) (operations : List Operation) (there : n ≤ length operations) where
   -- The first n operations, read from the slots.
   slot-at : (i : ℕ) (d : Operation) → i < n → getD (take n operations) i identityOperation ≡ getD operations i d
-  slot-at i d h = getD-take n operations i identityOperation h ∙ at-inside operations i identityOperation d (omega arith)
+  slot-at i d h = getD-take n operations i identityOperation h ∙ at-any operations i identityOperation d (omega arith)
 
   -- Their table has n² cells.
   pub cells-count : length (tableOf c (take n operations)) ≡ n * n

@@ -1,6 +1,6 @@
 -- Tables of groups of motions: what the table of a list of operations is, and what is answered for a text and for a record.
 pub mod Tables
-pub mod TableLaws
+pub mod OperationTables
 pub mod Overlay
 -- A record's table: its products are found by their codes.
 pub mod CodeSearch

@@ -14,17 +14,18 @@ use Rattle.laws.specs.Motion.{compose, identity}
 use Rattle.laws.specs.Closure.{closure, closure-keeps, Kept, fresh-candidate, regroup}
 use Rattle.laws.specs.SameMatrix.{sameRotation}
 use Rattle.laws.specs.MotionsModulo.{compose-rotation}
+use Rattle.laws.specs.Indices.{member-at, member-index}
 use Rattle.operation.specs.Meaning.{motionOf}
 use Rattle.operation.specs.Product.{identityOperation, operationOf}
 use Rattle.operation.specs.declared.Operation.{Operation}
 use Rattle.centering.specs.declared.Centering.{Centering}
 use Rattle.space_group.specs.Generated.{motions, listing}
 use Rattle.space_group.specs.OperationGrowth.{operation-rotation, identity-operation}
-use Rattle.space_group_theorems.specs.Acceptance.{Accepted, lists, member-at, member-index}
+use Rattle.space_group_theorems.specs.Acceptance.{Accepted, lists}
 use Rattle.space_group_theorems.specs.Members.{member-small}
 use Rattle.space_group_theorems.specs.Steps.{step-right}
 use Rattle.group_record.specs.Groups.{Listing}
-use Rattle.group_table.specs.TableLaws.{motionAt, rotation-index}
+use Rattle.group_table.specs.OperationTables.{motionAt, rotation-index}
 
 -- ---- in any closure
 module _ {A G : Type 0} (same : A → A → Bool) (_·_ : A → G → A) (unit : A) (gens : List G) where

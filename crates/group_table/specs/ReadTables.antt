@@ -16,9 +16,9 @@ use Rattle.group_record.specs.declared.Reading.{Reading}
 use Rattle.group_record.specs.declared.Reading.the-variants.{Accepted, Refused}
 use Rattle.group_record.specs.declared.RecordGroup.{RecordGroup}
 use Rattle.group_record.specs.declared.Refusal.{Refusal}
-use Rattle.subgroup_laws.specs.TableLaws.{square-limit}
-use Rattle.group_table.specs.TableLaws.{table-length}
-use Rattle.group_table.specs.Tables.{tableOf, recordTableBy, recordTable, recordOrderBy, recordOrder, recordCellsBy, recordCells, overlaid, laid}
+use Rattle.subgroup_laws.specs.TableCells.{square-limit}
+use Rattle.group_table.specs.OperationTables.{table-length}
+use Rattle.group_table.specs.Tables.{tableOf, recordTableBy, recordTable, orderOfRecordBy, orderOfRecord, recordCellsBy, recordCells, overlaid, laid}
 use Rattle.group_table.specs.Overlay.{laid-all, laid-none, laid-blank}
 use Rattle.group_table.specs.declared.RecordTable.{RecordTable}
 use Rattle.group_table.specs.declared.RecordOrder.{RecordOrder}
@@ -34,11 +34,11 @@ module _ (bytes : List ℕ) (g : RecordGroup) (e : g ≡ readOf bytes) where
   )
 
   -- The order, by cases of what was read,
-  order-by : (a : Reading) → g .answer ≡ a → recordOrderBy a (g .count) ≡ recordOrder bytes
-  unfolding recordOrder
+  order-by : (a : Reading) → g .answer ≡ a → orderOfRecordBy a (g .count) ≡ orderOfRecord bytes
+  unfolding orderOfRecord
   order-by a told =
-      ap (λ (b : Reading). recordOrderBy b (g .count)) (sym told)
-      ∙ ap (λ (h : RecordGroup). recordOrderBy (h .answer) (h .count)) e
+      ap (λ (b : Reading). orderOfRecordBy b (g .count)) (sym told)
+      ∙ ap (λ (h : RecordGroup). orderOfRecordBy (h .answer) (h .count)) e
 
   -- and the cells.
   cells-by : (a : Reading) → g .answer ≡ a → recordCellsBy a (g .centering) (take (g .count) (g .operations)) ≡ recordCells bytes
@@ -57,18 +57,18 @@ module _ (bytes : List ℕ) (g : RecordGroup) (e : g ≡ readOf bytes) where
     square = table-length (g .centering) (take (g .count) (g .operations)) ∙ ap (λ (n : ℕ). n * n) listed
 
     -- What is answered if the slots are too few,
-    pub record-short : (lent : List ℕ) → length lent < g .count * g .count → (Is (g .count) ≡ recordOrder bytes) × (lent ≡ laid (recordCells bytes) lent)
+    pub record-short : (lent : List ℕ) → length lent < g .count * g .count → (Is (g .count) ≡ orderOfRecord bytes) × (lent ≡ laid (recordCells bytes) lent)
     record-short lent short =
         (order-by Accepted told, sym (laid-none _ lent (omega (arith, square))) ∙ ap (λ (cells : List ℕ). laid cells lent) (cells-by Accepted told))
 
     -- if they hold all cells,
     pub record-filled : (lent now : List ℕ) → g .count * g .count ≤ length lent → now ≡ overlaid (tableOf (g .centering) (take (g .count) (g .operations))) lent
-        → (Is (g .count) ≡ recordOrder bytes) × (now ≡ laid (recordCells bytes) lent)
+        → (Is (g .count) ≡ orderOfRecord bytes) × (now ≡ laid (recordCells bytes) lent)
     record-filled lent now room d =
         (order-by Accepted told, d ∙ sym (laid-all _ lent (omega (arith, square))) ∙ ap (λ (cells : List ℕ). laid cells lent) (cells-by Accepted told))
 
   -- and for a refusal.
-  pub record-refused : (r : Refusal) → g .answer ≡ Refused r → (lent : List ℕ) → (OrderRefused r ≡ recordOrder bytes) × (lent ≡ laid (recordCells bytes) lent)
+  pub record-refused : (r : Refusal) → g .answer ≡ Refused r → (lent : List ℕ) → (OrderRefused r ≡ orderOfRecord bytes) × (lent ≡ laid (recordCells bytes) lent)
   record-refused r told lent =
       (order-by (Refused r) told, sym (laid-all [] lent (omega arith)) ∙ ap (λ (cells : List ℕ). laid cells lent) (cells-by (Refused r) told))
 
@@ -83,16 +83,16 @@ byValue (Is n) cells = record { answer = Accepted; order = n; cells = cells }
 byValue (OrderRefused r) cells = record { answer = Refused r; order = 0; cells = cells }
 
 by-value : (a : Reading) (c : Centering) (count : ℕ) (l : List Operation) → (a ≡ Accepted → (length l ≡ count) × (count ≤ 48))
-    → byValue (recordOrderBy a count) (laid (recordCellsBy a c l) (replicate 2304 0)) ≡ recordTableBy a c l
+    → byValue (orderOfRecordBy a count) (laid (recordCellsBy a c l) (replicate 2304 0)) ≡ recordTableBy a c l
 by-value Accepted c count l fits =
     let (long, few) = fits refl in
     let blank = laid-blank (tableOf c l) 2304 (omega (arith, table-length c l, square-limit (length l) (omega arith))) in
     λ i. record { answer = Accepted; order = sym long i; cells = blank i }
 by-value (Refused r) c count l fits = ap (byValue (OrderRefused r)) (laid-blank [] 2304 (omega arith))
 
-pub record-by-value : (bytes : List ℕ) → Bytes bytes → (o : RecordOrder) (cells : List ℕ) → o ≡ recordOrder bytes
+pub record-by-value : (bytes : List ℕ) → Bytes bytes → (o : RecordOrder) (cells : List ℕ) → o ≡ orderOfRecord bytes
     → cells ≡ laid (recordCells bytes) (replicate 2304 0) → byValue o cells ≡ recordTable bytes
-unfolding recordOrder recordCells recordTable
+unfolding orderOfRecord recordCells recordTable
 record-by-value bytes b o cells e d =
     ap₂ byValue e d
     ∙ by-value (readOf bytes .answer) (readOf bytes .centering) (readOf bytes .count) (take (readOf bytes .count) (readOf bytes .operations))

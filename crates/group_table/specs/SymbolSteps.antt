@@ -31,9 +31,9 @@ use Rattle.group_record.specs.Groups.{Allowed, Listing}
 use Rattle.record_writing.specs.AcceptedSymbols.{accepted-listing, accepted-allowed}
 use Rattle.subgroup_laws.specs.Groups.{Group}
 use Rattle.subgroup_laws.specs.Table.{product}
-use Rattle.subgroup_laws.specs.TableLaws.{square-limit}
+use Rattle.subgroup_laws.specs.TableCells.{square-limit}
 use Rattle.group_table.specs.Tables.{tableOf, symbolTableBy, symbolTable, symbolCellsBy, symbolCells, overlaid, laid}
-use Rattle.group_table.specs.TableLaws.{motionAt, table-length}
+use Rattle.group_table.specs.OperationTables.{motionAt, table-length}
 use Rattle.group_table.specs.TableMotions.{BelongsTo, listed-belongs, product-is}
 use Rattle.group_table.specs.TableGroups.{identityIndex, identity-at, group-table}
 use Rattle.group_table.specs.Parents.{parent-step}

@@ -6,18 +6,18 @@ use native.Mathlib.Nat.{div-add-mod', div-lt-iff-lt-mul, mod-lt}
 use native.Mathlib.Omega.{arith}
 use lib.ListN.{length, getD, length-map}
 use Rattle.laws.specs.Motion.{compose, identity, compose-assoc, identity-compose, compose-identity}
+use Rattle.laws.specs.Indices.{member-index}
 use Rattle.operation.specs.Composed.{identity-motion}
 use Rattle.operation.specs.Meaning.{motionOf}
 use Rattle.operation.specs.Product.{identityOperation}
 use Rattle.operation.specs.declared.Operation.{Operation}
 use Rattle.centering.specs.declared.Centering.{Centering}
-use Rattle.space_group_theorems.specs.Acceptance.{member-index}
 use Rattle.group_record.specs.Groups.{Allowed, Listing}
 use Rattle.group_record.specs.ListedForm.{alike-reflexive}
 use Rattle.group_record.specs.GroupLaws.{identity-listed, allowed-group}
 use Rattle.subgroup_laws.specs.Table.{product, Cells, GroupTable}
 use Rattle.group_table.specs.Tables.{indexOf, tableOf}
-use Rattle.group_table.specs.TableLaws.{motionAt, table-length, cell-alike, index-alike, index-is}
+use Rattle.group_table.specs.OperationTables.{motionAt, table-length, cell-alike, index-alike, index-is}
 use Rattle.group_table.specs.TableMotions.{BelongsTo, belongs-inside, listed-belongs, one-index, product-belongs, product-is}
 
 -- The index of the identity.

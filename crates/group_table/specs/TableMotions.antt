@@ -5,18 +5,18 @@ use Prim.Native.Nat.{ℕ, _<_}
 use lib.ListN.{length}
 use Rattle.laws.specs.Motion.{SpaceMotion, compose}
 use Rattle.laws.specs.LatticeMaps.{MapsInto}
+use Rattle.laws.specs.Indices.{member-at}
 use Rattle.operation.specs.Meaning.{motionOf}
 use Rattle.operation.specs.Product.{identityOperation}
 use Rattle.operation.specs.declared.Operation.{Operation}
 use Rattle.centering.specs.Letters.{pointsOf}
 use Rattle.centering.specs.declared.Centering.{Centering}
-use Rattle.space_group_theorems.specs.Acceptance.{member-at}
 use Rattle.group_record.specs.Groups.{Alike, InSet, Allowed, Listing}
 use Rattle.group_record.specs.ListedForm.{alike-reflexive, alike-transitive}
 use Rattle.group_record.specs.GroupLaws.{compose-alike}
 use Rattle.subgroup_laws.specs.Table.{product}
 use Rattle.group_table.specs.Tables.{indexOf, tableOf}
-use Rattle.group_table.specs.TableLaws.{motionAt, index-alike, index-is, cell-alike}
+use Rattle.group_table.specs.OperationTables.{motionAt, index-alike, index-is, cell-alike}
 
 -- A motion belongs to an index: it is the operation of that index modulo L.
 abbrev pub BelongsTo : Centering → List Operation → SpaceMotion → ℕ → Type 0

@@ -76,12 +76,12 @@ unfoldable pub symbolCells : List ℕ → List ℕ
 symbolCells text = let g = symbolAnswer text in symbolCellsBy (g .answer) (g .centering) (take (g .count) (g .operations))
 
 -- The order of a record that is read, or why it is not.
-abbrev pub recordOrderBy : Reading → ℕ → RecordOrder
-recordOrderBy Accepted count = Is count
-recordOrderBy (RecordRefused r) count = OrderRefused r
+abbrev pub orderOfRecordBy : Reading → ℕ → RecordOrder
+orderOfRecordBy Accepted count = Is count
+orderOfRecordBy (RecordRefused r) count = OrderRefused r
 
-unfoldable pub recordOrder : List ℕ → RecordOrder
-recordOrder bytes = let g = readOf bytes in recordOrderBy (g .answer) (g .count)
+unfoldable pub orderOfRecord : List ℕ → RecordOrder
+orderOfRecord bytes = let g = readOf bytes in orderOfRecordBy (g .answer) (g .count)
 
 -- The cells of its table.
 abbrev pub recordCellsBy : Reading → Centering → List Operation → List ℕ

@@ -25,8 +25,8 @@ use Rattle.record_writing.specs.SymbolSets.{InSetOf, set-of-list}
 use Rattle.group_record.specs.declared.Reading.{Reading}
 use Rattle.group_record.specs.declared.Reading.the-variants.{Accepted, Refused as RecordRefused}
 use Rattle.subgroup_laws.specs.Table.{product, GroupTable}
-use Rattle.group_table.specs.Tables.{tableOf, cellsOf, symbolTableBy, symbolTable, symbolCellsBy, symbolCells, recordTableBy, recordTable, recordOrderBy, recordOrder, recordCellsBy, recordCells}
-use Rattle.group_table.specs.TableLaws.{motionAt, table-length}
+use Rattle.group_table.specs.Tables.{tableOf, cellsOf, symbolTableBy, symbolTable, symbolCellsBy, symbolCells, recordTableBy, recordTable, orderOfRecordBy, orderOfRecord, recordCellsBy, recordCells}
+use Rattle.group_table.specs.OperationTables.{motionAt, table-length}
 use Rattle.group_table.specs.TableMotions.{BelongsTo, belongs-inside, listed-belongs, one-index, product-belongs}
 use Rattle.group_table.specs.TableGroups.{identityIndex, identity-at, group-table}
 use Rattle.group_table.specs.ReadTables.{read-allowed, read-order}
@@ -147,12 +147,12 @@ symbol-cells-group text n = by-answer (symbolAnswer text .answer) refl
     by-answer (Refused r) e p = let z : _≡_ {A = ℕ} 0 1 = cc in absurd (omega arith)
 
 -- The cells of a record that is read are the table of a group.
-pub record-cells-group : (bytes : List ℕ) → Bytes bytes → (n : ℕ) → recordOrder bytes ≡ RecordIs n
+pub record-cells-group : (bytes : List ℕ) → Bytes bytes → (n : ℕ) → orderOfRecord bytes ≡ RecordIs n
     → GroupTable n (recordCells bytes) (identityIndex (readOf bytes .centering) (take (readOf bytes .count) (readOf bytes .operations)))
-unfolding recordOrder recordCells
+unfolding orderOfRecord recordCells
 record-cells-group bytes b n = by-answer (readOf bytes .answer) refl
   where
-    by-answer : (a : Reading) → readOf bytes .answer ≡ a → recordOrderBy a (readOf bytes .count) ≡ RecordIs n
+    by-answer : (a : Reading) → readOf bytes .answer ≡ a → orderOfRecordBy a (readOf bytes .count) ≡ RecordIs n
         → GroupTable n (recordCellsBy a (readOf bytes .centering) (take (readOf bytes .count) (readOf bytes .operations))) (identityIndex
         (readOf bytes .centering) (take (readOf bytes .count) (readOf bytes .operations)))
     by-answer Accepted e p =
@@ -179,11 +179,12 @@ symbol-cells-same text n = by-answer (symbolAnswer text .answer)
         subst (λ (k : ℕ). take (k * k) (cellsOf (g .centering) l) ≡ tableOf (g .centering) l) (symbol-order text g refl ∙ same) (cells-table (g .centering) l)
     by-answer (Refused r) p = let z : _≡_ {A = ℕ} 0 1 = cc in absurd (omega arith)
 
-pub record-cells-same : (bytes : List ℕ) → Bytes bytes → (n : ℕ) → recordOrder bytes ≡ RecordIs n → take (n * n) (recordTable bytes .cells) ≡ recordCells bytes
-unfolding recordOrder recordTable recordCells
+pub record-cells-same : (bytes : List ℕ) → Bytes bytes → (n : ℕ) → orderOfRecord bytes ≡ RecordIs n
+    → take (n * n) (recordTable bytes .cells) ≡ recordCells bytes
+unfolding orderOfRecord recordTable recordCells
 record-cells-same bytes b n = by-answer (readOf bytes .answer) refl
   where
-    by-answer : (a : Reading) → readOf bytes .answer ≡ a → recordOrderBy a (readOf bytes .count) ≡ RecordIs n
+    by-answer : (a : Reading) → readOf bytes .answer ≡ a → orderOfRecordBy a (readOf bytes .count) ≡ RecordIs n
         → take (n * n) (recordTableBy a (readOf bytes .centering) (take (readOf bytes .count) (readOf bytes .operations)) .cells)
         ≡ recordCellsBy a (readOf bytes .centering) (take (readOf bytes .count) (readOf bytes .operations))
     by-answer Accepted e p =

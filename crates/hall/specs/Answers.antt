@@ -1,6 +1,6 @@
 -- What is to be written after a part of the input, and at its end: the texts of the lines that are handed over then, in the room of one text.
 use mathlib.Core.Path.{_≡_, refl, sym, _∙_, ap, ap₂}
-use mathlib.Core.Bool.{Bool, true, false, cond}
+use mathlib.Core.Bool.{cond}
 use mathlib.Core.List.{List, [], _∷_, _++_, append-nil}
 use Prim.Native.Nat.{ℕ, _+_, _-_, _≤_, _<_}
 use native.Mathlib.Omega.{arith}
@@ -9,13 +9,12 @@ use lib.Seq.{take-all, take-at, drop-drop, drop-length}
 use Rattle.answer_text.specs.Text.{textOf, textAnswer}
 use Rattle.answer_text.specs.Answering.{answer-size}
 use Rattle.answer_text.specs.declared.AnswerText.{AnswerText}
-use Rattle.lines.specs.Lines.{lastLine, inARow}
+use Rattle.lines.specs.Lines.{lastLine, inARow, last-once}
 use Rattle.lines.specs.Feeding.{keptBehind, handedOver, takenOf, kept-parts, taken-within, taken-some}
 use Rattle.lines.specs.Keeping.{held, stored, zeros, lineIn, anyLine, firstLine, takenFrom, lastOf}
 use Rattle.lines.specs.Storing.{handy-length, stored-whole, held-stored, held-handy}
 use Rattle.lines.specs.Taking.{kept-handy, handed-once}
 use Rattle.lines.specs.declared.Kept.{Kept}
-use Rattle.lines.specs.declared.Line.{Line}
 use Rattle.lines.specs.declared.Taken.{Taken}
 use Rattle.lines.specs.declared.Last.{Last}
 use Rattle.hall.specs.Output.{textsOf}
@@ -92,11 +91,6 @@ module _ (k : Kept) (piece : List ℕ) where
   answered-writable r e =
       let lines = handedOver (held k) (take (takenOf piece) piece) in
       rw (ap (λ (a : Answered). a .text) e) (lines-writable lines (handed-once (held k) piece))
-
-last-once : (line : List ℕ) → length (lastLine line) ≤ 1
-unfolding lastLine
-last-once [] = omega arith
-last-once (b ∷ line) = omega arith
 
 -- The same of the last line.
 pub last-part : (k : Kept) (l : Last) → l ≡ lastOf k → (text : AnswerText)

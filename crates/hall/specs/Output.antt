@@ -1,12 +1,12 @@
 -- What is written for a whole input, and that it is written however the input is cut into pieces.
-use mathlib.Core.Path.{_≡_, refl, sym, _∙_, ap, ap₂}
+use mathlib.Core.Path.{_≡_, refl, _∙_, ap, ap₂}
 use mathlib.Core.Bool.{Bool, true, false}
 use mathlib.Core.List.{List, [], _∷_, _++_, map}
 use Prim.Native.Nat.{ℕ}
 use native.Mathlib.Omega.{arith}
 use lib.Dec.{leb}
 use lib.ListN.{length, take}
-use lib.Seq.{take-at, take-append-le, take-all, length-take-le}
+use lib.Seq.{take-at, length-take-le}
 use borrow.Author.Tests.{leb-true, leb-false}
 use Rattle.answer_text.specs.Text.{textOf}
 use Rattle.answer_text.specs.FirstBytes.{long-alike}

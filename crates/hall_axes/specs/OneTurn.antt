@@ -11,7 +11,8 @@ use lib.IntN.{ℤ, one}
 use borrow.Author.Tests.{eqb-true}
 use Rattle.laws.specs.Integer.{nought, _⊖_}
 use Rattle.laws.specs.Matrix.{Matrix, Vector, dot, times, act, origin, unit, determinant}
-use Rattle.laws.specs.Lattice.{all, all-member}
+use Rattle.laws.specs.Truth.{all, all-member, T-true, true-T}
+use Rattle.laws.specs.SameMatrix.{sameInteger, sameRow, sameMatrix, integer-exact}
 use Rattle.operation.specs.Meaning.{entryOf, matrixOf, rotation≡}
 use Rattle.operation.specs.declared.Rotation.{Rotation}
 use Rattle.hall_axes.specs.declared.Fold.{Fold}
@@ -26,7 +27,7 @@ use Rattle.hall_axes.specs.declared.Turn.the-variants.{Matrix as Given, 
 use Rattle.hall_axes.specs.Axes.{axis}
 use Rattle.hall_axes.specs.Matrices.{rows, turns, isFor, turnAmong, turnOf}
 use Rattle.hall_axes.specs.Turning.{vector, axisVector, power, metric, transposed, volume, TurnsAbout}
-use Rattle.hall_axes.specs.TurnTest.{same, sameThree, sameVector, sameMatrix, rowDigits, allDigits, isometric, noneUnit, ofOrder, nonnegative, positiveAt, positive, about, identityAxis, turnsRight, same-exact, isometric-exact, turns-exact}
+use Rattle.hall_axes.specs.TurnTest.{sameVector, rowDigits, allDigits, isometric, noneUnit, ofOrder, nonnegative, positiveAt, positive, about, identityAxis, turnsRight, isometric-exact, turns-exact}
 use Rattle.hall_axes.specs.Turns.{turn-rule}
 
 -- ---- a test of every digit, and of every column of three
@@ -160,18 +161,18 @@ onlyNamed r = all (λ f. all (onlyFor r f) axes) folds
 thirdColumns : Matrix → ℕ → ℕ → ℕ → ℕ → ℕ → ℕ → Bool
 thirdColumns G xx yx zx xy yy zy =
     eachColumn (λ xz yz zz.
-    asked (same (inner G (column xz yz zz) (column xz yz zz)) (G .zz)) (λ u.
+    asked (sameInteger (inner G (column xz yz zz) (column xz yz zz)) (G .zz)) (λ u.
     asked (isometric G (matrixOf (rows xx xy xz yx yy yz zx zy zz))) (λ w. onlyNamed (rows xx xy xz yx yy yz zx zy zz))))
 
 secondColumns : Matrix → ℕ → ℕ → ℕ → Bool
 secondColumns G xx yx zx =
     eachColumn (λ xy yy zy.
-    asked (same (inner G (column xx yx zx) (column xy yy zy)) (G .xy)) (λ u.
-    asked (same (inner G (column xy yy zy) (column xy yy zy)) (G .yy)) (λ w. thirdColumns G xx yx zx xy yy zy)))
+    asked (sameInteger (inner G (column xx yx zx) (column xy yy zy)) (G .xy)) (λ u.
+    asked (sameInteger (inner G (column xy yy zy) (column xy yy zy)) (G .yy)) (λ w. thirdColumns G xx yx zx xy yy zy)))
 
 onlyListed : Matrix → Bool
 onlyListed G =
-    eachColumn (λ xx yx zx. asked (same (inner G (column xx yx zx) (column xx yx zx)) (G .xx)) (λ u. secondColumns G xx yx zx))
+    eachColumn (λ xx yx zx. asked (sameInteger (inner G (column xx yx zx) (column xx yx zx)) (G .xx)) (λ u. secondColumns G xx yx zx))
 
 -- The cube and the three nets of hexagons.
 metrics : List Matrix
@@ -197,15 +198,8 @@ metric-listed Six Double d = here refl
 
 -- No other matrix passes.
 only-listed : T (all onlyListed metrics)
-unfolding all metrics onlyListed secondColumns thirdColumns eachColumn eachDigit asked onlyFor onlyNamed isGiven sameRotation turnOf turnAmong isFor turns turnsRight allDigits rowDigits same sameThree sameMatrix sameVector isometric ofOrder noneUnit nonnegative positive positiveAt about identityAxis power metric transposed volume axisVector matrixOf entryOf determinant times act origin unit one nought _⊖_
+unfolding all metrics onlyListed secondColumns thirdColumns eachColumn eachDigit asked onlyFor onlyNamed isGiven sameRotation turnOf turnAmong isFor turns turnsRight allDigits rowDigits sameRow sameMatrix sameVector isometric ofOrder noneUnit nonnegative positive positiveAt about identityAxis power metric transposed volume axisVector matrixOf entryOf determinant times act origin unit one nought _⊖_
 only-listed = tt
-
-held : (b : Bool) → T b → b ≡ true
-held true t = refl
-
-told : (b : Bool) → b ≡ true → T b
-told true e = tt
-told false e = absurd (true≢false (sym e))
 
 listed-turn : (f : Fold) (a : Axis) (r : Rotation) → TurnsAbout f a r → turnOf f a ≡ Given r
 unfolding onlyListed secondColumns thirdColumns onlyNamed onlyFor matrixOf transposed times
@@ -213,17 +207,17 @@ listed-turn f a r h =
     let G = metric f (a .mark) (a .direction) in
     let kept = h .keeps-metric in
     let d = h .digits in
-    let every = held (onlyListed G) (all-member onlyListed only-listed (metric-listed f (a .mark) (a .direction))) in
+    let every = T-true (all-member onlyListed only-listed (metric-listed f (a .mark) (a .direction))) in
     let first = each-column _ every (r .xx) (r .yx) (r .zx) (d .xx) (d .yx) (d .zx) in
-    let long = asked-true _ _ first (same-exact _ (G .xx) .1 (ap (λ (A : Matrix). A .xx) kept)) in
+    let long = asked-true _ _ first (integer-exact _ (G .xx) .1 (ap (λ (A : Matrix). A .xx) kept)) in
     let second = each-column _ long (r .xy) (r .yy) (r .zy) (d .xy) (d .yy) (d .zy) in
-    let upright = asked-true _ _ second (same-exact _ (G .xy) .1 (ap (λ (A : Matrix). A .xy) kept)) in
-    let long-too = asked-true _ _ upright (same-exact _ (G .yy) .1 (ap (λ (A : Matrix). A .yy) kept)) in
+    let upright = asked-true _ _ second (integer-exact _ (G .xy) .1 (ap (λ (A : Matrix). A .xy) kept)) in
+    let long-too = asked-true _ _ upright (integer-exact _ (G .yy) .1 (ap (λ (A : Matrix). A .yy) kept)) in
     let third = each-column _ long-too (r .xz) (r .yz) (r .zz) (d .xz) (d .yz) (d .zz) in
-    let right = asked-true _ _ third (same-exact _ (G .zz) .1 (ap (λ (A : Matrix). A .zz) kept)) in
-    let named = told (onlyNamed r) (asked-true _ _ right (isometric-exact G (matrixOf r) .1 (kept, h .proper))) in
+    let right = asked-true _ _ third (integer-exact _ (G .zz) .1 (ap (λ (A : Matrix). A .zz) kept)) in
+    let named = true-T (asked-true _ _ right (isometric-exact G (matrixOf r) .1 (kept, h .proper))) in
     let only = all-member (onlyFor r f) (all-member (λ f. all (onlyFor r f) axes) named (fold-listed f)) (axis-listed (a .mark) (a .direction)) in
-    is-given (turnOf f a) r (asked-true (turnsRight f a r) _ (held (onlyFor r f a) only) (turns-exact f a r .1 h))
+    is-given (turnOf f a) r (asked-true (turnsRight f a r) _ (T-true only) (turns-exact f a r .1 h))
 
 -- The table has a rotation for a fold and an axis exactly if it turns about that axis by that fold.
 pub turn-exactly : (f : Fold) (a : Axis) (r : Rotation) → (turnOf f a ≡ Given r) ↔ TurnsAbout f a r

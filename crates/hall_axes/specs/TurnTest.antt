@@ -1,5 +1,5 @@
 -- The rule of a turn as one test of nine digits, and that the test decides the rule: so a table is held to the rule by computing.
-use mathlib.Core.Path.{_≡_, refl, sym, _∙_, ap}
+use mathlib.Core.Path.{_≡_, refl, sym, ap}
 use mathlib.Core.Logic.{⊎-elim, _≢_, _↔_}
 use mathlib.Core.Bool.{Bool, true, false, cond, not, _&&_, true≢false, and-eq-true-iff}
 use Prim.Native.Nat.{ℕ, zero, suc, _-_, _<_, _≤_}
@@ -7,8 +7,10 @@ use native.Mathlib.Omega.{arith}
 use native.Mathlib.Nat.{eq-or-lt-of-le}
 use lib.Dec.{eqb, leb}
 use lib.IntN.{ℤ, pos, negsuc, one}
-use borrow.Author.Tests.{eqb-true, eq-eqb, leb-true, le-leb}
-use Rattle.laws.specs.Matrix.{Matrix, Vector, times, act, origin, unit, determinant, vector≡, matrix≡}
+use borrow.Author.Tests.{leb-true, le-leb}
+use Rattle.laws.specs.Matrix.{Matrix, Vector, times, act, origin, unit, determinant, vector≡}
+use Rattle.laws.specs.SameMatrix.{sameInteger, integer-exact, sameRow, row-same, same-row, sameMatrix, matrix-exact}
+use Rattle.laws.specs.Truth.{T-true, true-T}
 use Rattle.operation.specs.Meaning.{matrixOf, Digits}
 use Rattle.operation.specs.declared.Rotation.{Rotation}
 use Rattle.hall_axes.specs.declared.Fold.{Fold}
@@ -20,89 +22,23 @@ use Rattle.hall_axes.specs.declared.Axis.{Axis}
 use Rattle.hall_axes.specs.Axes.{foldNumber, plain, plainZ, plain-z}
 use Rattle.hall_axes.specs.Turning.{axisVector, along, power, metric, transposed, volume, TurnsAbout}
 
--- ---- equality of integers, vectors and matrices as a test
-
-unfoldable pub same : ℤ → ℤ → Bool
-same (pos a) (pos b) = eqb a b
-same (pos a) (negsuc b) = false
-same (negsuc a) (pos b) = false
-same (negsuc a) (negsuc b) = eqb a b
-
-same-true : (a b : ℤ) → same a b ≡ true → a ≡ b
-unfolding same
-same-true (pos a) (pos b) e = ap pos (eqb-true a b e)
-same-true (pos a) (negsuc b) e = absurd (true≢false (sym e))
-same-true (negsuc a) (pos b) e = absurd (true≢false (sym e))
-same-true (negsuc a) (negsuc b) e = ap negsuc (eqb-true a b e)
-
-same-refl : (a : ℤ) → same a a ≡ true
-unfolding same
-same-refl (pos a) = eq-eqb a a refl
-same-refl (negsuc a) = eq-eqb a a refl
-
-unfoldable pub sameThree : ℤ → ℤ → ℤ → ℤ → ℤ → ℤ → Bool
-sameThree a b c x y z = same a x && (same b y && same c z)
-
-three-true : (a b c x y z : ℤ) → sameThree a b c x y z ≡ true → (a ≡ x) × (b ≡ y) × (c ≡ z)
-unfolding sameThree
-three-true a b c x y z e =
-    let first = and-eq-true-iff (same a x) (same b y && same c z) .0 e in
-    let rest = and-eq-true-iff (same b y) (same c z) .0 (first .1) in
-    (same-true a x (first .0), same-true b y (rest .0), same-true c z (rest .1))
-
-three-refl : (a b c : ℤ) → sameThree a b c a b c ≡ true
-unfolding sameThree
-three-refl a b c = rw (same-refl a, same-refl b, same-refl c)
+-- ---- equality of vectors as a test
 
 unfoldable pub sameVector : Vector → Vector → Bool
-sameVector v w = sameThree (v .x) (v .y) (v .z) (w .x) (w .y) (w .z)
-
-vector-true : (v w : Vector) → sameVector v w ≡ true → v ≡ w
-unfolding sameVector
-vector-true v w e =
-    let h = three-true (v .x) (v .y) (v .z) (w .x) (w .y) (w .z) e in
-    vector≡ (h .0) (h .1) (h .2)
-
-vector-refl : (v : Vector) → sameVector v v ≡ true
-unfolding sameVector
-vector-refl v = three-refl (v .x) (v .y) (v .z)
-
-unfoldable pub sameMatrix : Matrix → Matrix → Bool
-sameMatrix A B =
-    sameThree (A .xx) (A .xy) (A .xz) (B .xx) (B .xy) (B .xz)
-    && (sameThree (A .yx) (A .yy) (A .yz) (B .yx) (B .yy) (B .yz) && sameThree (A .zx) (A .zy) (A .zz) (B .zx) (B .zy) (B .zz))
-
-matrix-true : (A B : Matrix) → sameMatrix A B ≡ true → A ≡ B
-unfolding sameMatrix
-matrix-true A B e =
-    let first = and-eq-true-iff (sameThree (A .xx) (A .xy) (A .xz) (B .xx) (B .xy) (B .xz)) (sameThree (A .yx) (A .yy) (A .yz) (B .yx) (B .yy)
-    (B .yz) && sameThree (A .zx) (A .zy) (A .zz) (B .zx) (B .zy) (B .zz)) .0 e in
-    let rest = and-eq-true-iff (sameThree (A .yx) (A .yy) (A .yz) (B .yx) (B .yy) (B .yz)) (sameThree (A .zx) (A .zy) (A .zz) (B .zx) (B .zy)
-    (B .zz)) .0 (first .1) in
-    let p = three-true (A .xx) (A .xy) (A .xz) (B .xx) (B .xy) (B .xz) (first .0) in
-    let q = three-true (A .yx) (A .yy) (A .yz) (B .yx) (B .yy) (B .yz) (rest .0) in
-    let r = three-true (A .zx) (A .zy) (A .zz) (B .zx) (B .zy) (B .zz) (rest .1) in
-    matrix≡ (p .0) (p .1) (p .2) (q .0) (q .1) (q .2) (r .0) (r .1) (r .2)
-
-matrix-refl : (A : Matrix) → sameMatrix A A ≡ true
-unfolding sameMatrix
-matrix-refl A =
-    rw (three-refl (A .xx) (A .xy) (A .xz), three-refl (A .yx) (A .yy) (A .yz), three-refl (A .zx) (A .zy) (A .zz))
+sameVector v w = sameRow (v .x) (v .y) (v .z) (w .x) (w .y) (w .z)
 
 -- ---- tests, and what each stands for
+
+vector-exact : (v w : Vector) → (sameVector v w ≡ true) ↔ (v ≡ w)
+unfolding sameVector
+vector-exact v w = (
+  (λ e. let h = same-row (v .x) (v .y) (v .z) (w .x) (w .y) (w .z) (true-T e) in vector≡ (h .0) (h .1) (h .2)),
+  λ p. T-true (rw p (row-same (w .x) (w .y) (w .z))),
+)
 
 not-exact : (t : Bool) → (not t ≡ true) ↔ (t ≢ true)
 not-exact true = ((λ e. absurd (true≢false (sym e))), λ h. absurd (h refl))
 not-exact false = ((λ e h. true≢false (sym h)), λ h. refl)
-
-pub same-exact : (a b : ℤ) → (same a b ≡ true) ↔ (a ≡ b)
-same-exact a b = (same-true a b, λ e. ap (λ (c : ℤ). same c b) e ∙ same-refl b)
-
-vector-exact : (v w : Vector) → (sameVector v w ≡ true) ↔ (v ≡ w)
-vector-exact v w = (vector-true v w, λ e. ap (λ (u : Vector). sameVector u w) e ∙ vector-refl w)
-
-matrix-exact : (A B : Matrix) → (sameMatrix A B ≡ true) ↔ (A ≡ B)
-matrix-exact A B = (matrix-true A B, λ e. ap (λ (C : Matrix). sameMatrix C B) e ∙ matrix-refl B)
 
 unfoldable pub rowDigits : ℕ → ℕ → ℕ → Bool
 rowDigits a b c = leb a 2 && (leb b 2 && leb c 2)
@@ -140,14 +76,14 @@ digits-exact r = (
 
 -- Lengths, angles and hands stay.
 unfoldable pub isometric : Matrix → Matrix → Bool
-isometric G A = sameMatrix (times (transposed A) (times G A)) G && same (determinant A) one
+isometric G A = sameMatrix (times (transposed A) (times G A)) G && sameInteger (determinant A) one
 
 pub isometric-exact : (G A : Matrix) → (isometric G A ≡ true) ↔ ((times (transposed A) (times G A) ≡ G) × (determinant A ≡ one))
 unfolding isometric
 isometric-exact G A =
     let metric-test = matrix-exact (times (transposed A) (times G A)) G in
-    let hand-test = same-exact (determinant A) one in
-    let both = and-eq-true-iff (sameMatrix (times (transposed A) (times G A)) G) (same (determinant A) one) in
+    let hand-test = integer-exact (determinant A) one in
+    let both = and-eq-true-iff (sameMatrix (times (transposed A) (times G A)) G) (sameInteger (determinant A) one) in
     ((λ e. (metric-test .0 (both .0 e .0), hand-test .0 (both .0 e .1))), λ h. both .1 (metric-test .1 (h .0), hand-test .1 (h .1)))
 
 -- None of the powers 1 to n is the identity.

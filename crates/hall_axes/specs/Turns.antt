@@ -11,6 +11,7 @@ use lib.IntN.{one, negℤ, _*ℤ_}
 use borrow.Author.Tests.{eqb-true}
 use Rattle.laws.specs.Integer.{nought, _⊖_}
 use Rattle.laws.specs.Matrix.{times, act, origin, unit, determinant, scaled, matrix≡}
+use Rattle.laws.specs.SameMatrix.{sameRow, sameMatrix}
 use Rattle.operation.specs.Meaning.{entryOf, matrixOf, Digits}
 use Rattle.operation.specs.declared.Rotation.{Rotation}
 use Rattle.hall_axes.specs.declared.Fold.{Fold}
@@ -24,7 +25,7 @@ use Rattle.hall_axes.specs.declared.Turn.the-variants.{Matrix as Given}
 use Rattle.hall_axes.specs.Axes.{foldNumber}
 use Rattle.hall_axes.specs.Matrices.{Listed, turns, markNumber, directionNumber, isFor, turnAmong, turnOf, signed}
 use Rattle.hall_axes.specs.Turning.{axisVector, power, metric, transposed, volume, TurnsAbout}
-use Rattle.hall_axes.specs.TurnTest.{same, sameThree, sameVector, sameMatrix, rowDigits, allDigits, isometric, noneUnit, ofOrder, nonnegative, positiveAt, positive, about, identityAxis, turnsRight, turns-exact}
+use Rattle.hall_axes.specs.TurnTest.{sameVector, rowDigits, allDigits, isometric, noneUnit, ofOrder, nonnegative, positiveAt, positive, about, identityAxis, turnsRight, turns-exact}
 
 -- ---- the table
 
@@ -38,7 +39,7 @@ twenty-turns = refl
 
 -- All twenty pass.
 all-right : allRight turns ≡ true
-unfolding allRight turnsRight turns allDigits rowDigits same sameThree sameMatrix sameVector isometric ofOrder noneUnit nonnegative positive positiveAt about identityAxis power metric transposed volume axisVector matrixOf entryOf determinant times act origin unit one nought _⊖_
+unfolding allRight turnsRight turns allDigits rowDigits sameRow sameMatrix sameVector isometric ofOrder noneUnit nonnegative positive positiveAt about identityAxis power metric transposed volume axisVector matrixOf entryOf determinant times act origin unit one nought _⊖_
 all-right = refl
 
 -- Folds, marks and directions are told apart by their numbers.

@@ -111,7 +111,7 @@ unfolding opening
 bracket-opens s v h = rw (h .brackets)
 
 -- So does what a token begins.
-opens-append : (t after : List ℕ) → Opens t → Opens (t ++ after)
+pub opens-append : (t after : List ℕ) → Opens t → Opens (t ++ after)
 opens-append [] after h = absurd h
 opens-append (b ∷ t) after h = h
 
@@ -411,3 +411,9 @@ refusal-exactly text r = read-exactly text (refusal r)
 -- Of any text exactly one answer holds by the rules.
 pub says-one : (text : List ℕ) → (r : Reading) × Says text r × ((other : Reading) → Says text other → other ≡ r)
 says-one text = (readSymbol text, read-says text, λ other h. sym (says-read text other h))
+
+-- A text spells one symbol.
+pub spells-once : (text : List ℕ) (c d : Centering) (gens hens : List Operation) → Spells text c gens → Spells text d hens → (c ≡ d) × (gens ≡ hens)
+spells-once text c d gens hens s t =
+    let same : symbol c gens ≡ symbol d hens = sym (symbol-exactly text c gens .1 s) ∙ symbol-exactly text d hens .1 t in
+    (cc, cc)

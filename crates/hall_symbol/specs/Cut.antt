@@ -36,7 +36,7 @@ unfolding solid
 not-whitespace-solid b h = rw h
 
 -- A token ends the whitespace before it.
-token-stops : (t after : List ℕ) → 0 < length t → Every solid t → Stops whitespace (t ++ after)
+pub token-stops : (t after : List ℕ) → 0 < length t → Every solid t → Stops whitespace (t ++ after)
 token-stops [] after h e = absurd (omega arith)
 token-stops (b ∷ t) after h e = solid-not-whitespace b (e .0)
 

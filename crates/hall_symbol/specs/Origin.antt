@@ -5,7 +5,7 @@ use native.Mathlib.Omega.{arith}
 use lib.IntN.{ℤ, pos, negℤ, _+ℤ_, _-ℤ_}
 use Rattle.laws.specs.Integer.{ring}
 use Rattle.laws.specs.Matrix.{Vector, dot, times, act, plus, opposite, unit, unit-times, times-unit, act-unit}
-use Rattle.laws.specs.Motion.{SpaceMotion, product, compose}
+use Rattle.laws.specs.Motion.{product, compose, translationBy}
 use Rattle.laws.specs.Residue.{residue, residue-lt, residue-again, residue-add, residue-neg, residue-mul, reduced, triple≡}
 use Rattle.operation.specs.Meaning.{entryOf, matrixOf, vectorOf, motionOf}
 use Rattle.operation.specs.Product.{identityOperation}
@@ -15,13 +15,6 @@ use Rattle.operation.specs.declared.Operation.{Operation}
 use Rattle.hall_symbol.specs.Shift.{noShift}
 use Rattle.hall_symbol.specs.Generators.{inversionOperation, shiftBy, shiftedCoordinate, shifted}
 use Rattle.hall_symbol.specs.Shifting.{shifted-sum}
-
--- (I,v) and (I,−v), for any integer vector.
-abbrev pub forth : Vector → SpaceMotion
-forth v = record { rotation = unit; translation = v }
-
-abbrev pub back : Vector → SpaceMotion
-back v = record { rotation = unit; translation = opposite v }
 
 -- A row times −v, and t and v added.
 row-shifted : (a b c x y z t w : ℤ) → dot a b c (negℤ x) (negℤ y) (negℤ z) +ℤ t +ℤ w ≡ t +ℤ w -ℤ dot a b c x y z
@@ -33,7 +26,7 @@ row-residue : (a b c x y z t w : ℤ) → residue (t +ℤ pos (residue w) -ℤ d
 row-residue a b c x y z t w = simp (residue-add, residue-neg, residue-mul, residue-again)
 
 -- The translation of (I,v)(R,t)(I,−v).
-origin-translation : (v : Vector) (g : Operation) → compose (forth v) (compose (motionOf g) (back v)) .translation
+origin-translation : (v : Vector) (g : Operation) → compose (translationBy v) (compose (motionOf g) (translationBy (opposite v))) .translation
     ≡ plus (plus (act (matrixOf (g .rotation)) (opposite v)) (vectorOf (g .translation))) v
 unfolding product motionOf
 origin-translation v g = rw (act-unit (plus (act (matrixOf (g .rotation)) (opposite v)) (vectorOf (g .translation))))
@@ -58,7 +51,8 @@ shifted-translation v g =
         ∙ ap residue (sym (row-shifted (entryOf a) (entryOf b) (entryOf c) (v .x) (v .y) (v .z) (pos t) w))
 
 -- The shifted generator is that motion, its translation modulo 12: so a shift and its residues give one generator.
-pub shift-of-origin : (v : Vector) (g : Operation) → Reduces (compose (forth v) (compose (motionOf g) (back v))) (shifted (shiftBy v) g)
+pub shift-of-origin : (v : Vector) (g : Operation)
+    → Reduces (compose (translationBy v) (compose (motionOf g) (translationBy (opposite v)))) (shifted (shiftBy v) g)
 unfolding shifted shiftedCoordinate product motionOf
 shift-of-origin v g =
     record {

@@ -1,4 +1,4 @@
-// The letters of an N token's run, of which each may stand there once.
+// The letters of an N token's run, of which each may stand there once. New in the port: the Rust adds a letter as often as it stands.
 ghost use mathlib.Core.Path.{_≡_};
 ghost use Prim.Native.Nat.{_<_};
 ghost use lib.ListN.{length, getD, take};

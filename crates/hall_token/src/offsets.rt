@@ -1,4 +1,5 @@
 // Offsets in an N token: where its parts start, and which byte of its run is the first that offends.
+// New in the port: a refusal of the Rust has no place.
 ghost use mathlib.Core.Path.{_≡_};
 ghost use Rattle.hall_token.specs.Offsets.{signLength, markLength, letterLength, runStart, ofClass, passing, wrongDigitAt};
 use super::Moved;

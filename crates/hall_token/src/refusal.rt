@@ -1,4 +1,5 @@
-// Why an N token is refused: 5, 8, 6, 7 and 17, in the order in which they go within a token.
+// Why an N token is refused: 5, 8, 6, 7 and 17, in the order in which they go within a token. New in the port: a refusal of the Rust
+// has no number.
 ghost use mathlib.Core.Path.{_≡_};
 ghost use Rattle.hall_token.specs.Refusals.{numberOf};
 

@@ -8,27 +8,7 @@ use Prim.Native.Nat.{_≤_, zero-le}
 use native.Mathlib.Omega.{arith}
 use lib.Dec.{T, eqb, eqb→eq, eqb-refl}
 use lib.ListN.{length, length-append, length-map}
-
--- ---- Boolean tests
-
--- a test holds or it does not
-pub decided : (b : Bool) → T b ⊎ (¬ T b)
-decided true = inl tt
-decided false = inr (λ t. t)
-
--- an "or" holds if its first test does
-pub or-left : (a b : Bool) → T a → T (a || b)
-or-left true b t = tt
-
--- an "or" holds if its second test does
-pub or-right : (a b : Bool) → T b → T (a || b)
-or-right true b t = tt
-or-right false b t = t
-
--- if an "or" holds, one of its tests does
-pub or-cases : (a b : Bool) → T (a || b) → T a ⊎ T b
-or-cases true b t = inl tt
-or-cases false b t = inr t
+use Rattle.laws.specs.Truth.{decided, holds, or-left, or-right, or-cases}
 
 -- ---- membership up to the test
 
@@ -201,3 +181,12 @@ eqb-decides = record { reflexive = eqb-refl; exact = eqb→eq }
 -- the test of natural numbers is an equivalence
 pub eqb-equivalence : Equivalence eqb
 eqb-equivalence = equality-equivalence eqb eqb-decides
+
+-- the test of membership as an equation, with the member that is found
+pub has-true : {A : Type 0} (same : A → A → Bool) (x : A) (l : List A) → (has same x l ≡ true) ↔ ((y : A) × Mem y l × (same x y ≡ true))
+unfolding has
+has-true {A} same x l = ((λ e. let (y, m, t) = has-member same x l (holds .1 e) in (y, m, holds .0 t)), λ (y, m, e). holds .0 (found l m (holds .1 e)))
+  where
+    found : (l : List A) {y : A} → Mem y l → T (same x y) → T (has same x l)
+    found (z ∷ l) (here e) t = or-left (same x z) _ (rw e at t)
+    found (z ∷ l) (there m) t = or-right (same x z) _ (found l m t)

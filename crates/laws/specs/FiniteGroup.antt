@@ -8,7 +8,8 @@ use Prim.Native.Nat.{ℕ, zero, suc, _<_}
 use native.Mathlib.Omega.{arith}
 use lib.Dec.{T}
 use lib.ListN.{length}
-use Rattle.laws.specs.Distinct.{has, Distinct, nil, cons, DecidesEquality, decided, has-member, Mem→has, pigeonhole, equality-equivalence}
+use Rattle.laws.specs.Distinct.{has, Distinct, nil, cons, DecidesEquality, has-member, Mem→has, pigeonhole, equality-equivalence}
+use Rattle.laws.specs.Truth.{decided}
 
 -- ---- groups and their laws
 

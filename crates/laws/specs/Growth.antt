@@ -8,7 +8,7 @@ use mathlib.Core.List.{List, [], _∷_, _++_, map, map-append, List·Memᴰ as M
 use Prim.Native.Nat.{ℕ, zero, suc, _≤_}
 use native.Mathlib.Omega.{arith}
 use lib.Dec.{ltb}
-use lib.ListN.{length, getD, length-map}
+use lib.ListN.{length, getD, length-map, List·getD-map}
 
 -- what was found, the index of each product that was made, in order, and whether each was alike to the one found at its index
 pub record Growth (A : Type 0) : Type 0 where
@@ -73,12 +73,6 @@ module _ {A G : Type 0} (same alike : A → A → Bool) (_·_ : A → G → Opti
 abbrev pub imageGrowth : {A B : Type 0} → (A → B) → Growth A → Growth B
 imageGrowth f s = record { found = map f (s .found); steps = s .steps; steady = s .steady }
 
--- an element of the image of a list
-image-at : {A B : Type 0} (f : A → B) (l : List A) (i : ℕ) (d : A) → getD (map f l) i (f d) ≡ f (getD l i d)
-image-at f [] i d = refl
-image-at f (x ∷ l) zero d = refl
-image-at f (x ∷ l) (suc i) d = image-at f l i d
-
 -- what holds of each element of a list, and of the other in its place, holds of what is read there
 at-member : {A : Type 0} (P : A → Type 0) (l : List A) (i : ℕ) (d : A) → ((x : A) → Mem x l → P x) → P d → P (getD l i d)
 at-member P [] i d h k = k
@@ -129,7 +123,7 @@ module _ {A B G H : Type 0} (sameA alikeA : A → A → Bool) (sameB alikeB : B 
         rw (
           place-image p (s .found) k h,
           length-map (s .found) f,
-          image-at f (s .found) (place sameA p (s .found)) p,
+          List·getD-map f (s .found) (place sameA p (s .found)) p,
           ← (I .alike-image p (getD (s .found) (place sameA p (s .found)) p) k (at-member Fine (s .found) (place sameA p (s .found)) p h k)),
           ← (map-append f (s .found) (p ∷ [])),
         )
@@ -185,7 +179,7 @@ module _ {A B G H : Type 0} (sameA alikeA : A → A → Bool) (sameB alikeB : B 
           (grow sameA alikeA _·_ limit unit (map tag gens) n (suc i)) (grow sameB alikeB _∗_ limit (f unit) gens n (suc i))
           (turns-image x gens s fine h)
           (λ t q. grow-image n (suc i) t (turns-fine x gens s t fine h q)) in
-          rw (length-map (s .found) f, image-at f (s .found) i unit, more)
+          rw (length-map (s .found) f, List·getD-map f (s .found) i unit, more)
           (more-or-done (ltb i (length (s .found))) (bind (turns sameA alikeA _·_ limit x (map tag gens) s)
           (grow sameA alikeA _·_ limit unit (map tag gens) n (suc i))) s)
         where

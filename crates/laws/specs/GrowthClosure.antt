@@ -12,17 +12,9 @@ use lib.ListN.{length, getD, length-append, List·getD-append}
 use lib.Seq.{append-snoc, getD-append-seam}
 use borrow.Author.Tests.{lt-ltb, le-ltb, ltb-true, ltb-false}
 use Rattle.laws.specs.Distinct.{has, Equivalence, has-member}
-use Rattle.laws.specs.Lattice.{all, all-member, member-all}
 use Rattle.laws.specs.Closure.{fresh, Fresh, fresh-meets, fresh-candidate, done, old, new, run, closure, closure-length, closure-lists, Congruence, regroup, step}
 use Rattle.laws.specs.Growth.{Growth, place, recurring, lengthened, takenUp, turns, grow, grown}
-
--- a test that holds is true
-pub T-true : {b : Bool} → T b → b ≡ true
-T-true {b = true} t = refl
-
--- and the other way round
-pub true-T : {b : Bool} → b ≡ true → T b
-true-T e = rw e tt
+use Rattle.laws.specs.Truth.{all, all-member, member-all, T-true, true-T}
 
 -- ---- the place of an element
 

@@ -1,7 +1,7 @@
 -- A lattice of integer vectors given by points modulo 12: which vectors are in it, when two are in one class, and the smallest triple of a class.
 use mathlib.Core.Path.{_≡_, refl, sym, _∙_, ap}
 use mathlib.Core.Logic.{_⊎_, inl, inr, _↔_}
-use mathlib.Core.Bool.{Bool, true, false, _&&_, not}
+use mathlib.Core.Bool.{Bool, true, _&&_, not}
 use mathlib.Core.List.{List, [], _∷_, List·Memᴰ as Mem, List·Memᴰ·head as here, List·Memᴰ·tail as there, Memᴰ·cast as mem-cast}
 use Prim.Native.Nat.{ℕ, zero, suc, _+_, _*_, _-_, _/_, _%_, min, _≤_, _<_}
 use native.Mathlib.Omega.{arith}
@@ -10,33 +10,10 @@ use lib.Dec.{T, eqb, eqb→eq, eqb-refl, ltb, ltb→lt, T-not}
 use Rattle.laws.specs.Integer.{nought}
 use Rattle.laws.specs.Matrix.{Vector, plus, opposite, origin, plus-opposite, opposite-difference, difference-chain}
 use Rattle.laws.specs.Residue.{residue, Triple, triple≡, Reduced, reduced, lifted, reduced-lifted, _⊕_, minus, reduced-plus, reduced-opposite, ⊕-reduced}
-use Rattle.laws.specs.Distinct.{or-left, or-right, or-cases, has, Distinct, nil, cons, DecidesEquality, equality-equivalence, has→Mem, Mem→has}
+use Rattle.laws.specs.Distinct.{has, Distinct, nil, cons, DecidesEquality, equality-equivalence, has→Mem, Mem→has}
+use Rattle.laws.specs.Truth.{or-left, or-right, or-cases, and-left, and-right, both, all, all-member, same-test}
 
--- ---- tests
-pub and-left : (a b : Bool) → T (a && b) → T a
-and-left true b t = tt
-
-pub and-right : (a b : Bool) → T (a && b) → T b
-and-right true b t = t
-
-pub both : (a b : Bool) → T a → T b → T (a && b)
-both true b t u = u
-
--- Every member of a list passes a test.
-unfoldable pub all : {A : Type 0} → (A → Bool) → List A → Bool
-all test [] = true
-all test (a ∷ l) = test a && all test l
-
-pub all-member : {A : Type 0} (test : A → Bool) {l : List A} {a : A} → T (all test l) → Mem a l → T (test a)
-unfolding all
-all-member test {l = b ∷ l} t (here e) = rw e (and-left (test b) _ t)
-all-member test {l = b ∷ l} t (there m) = all-member test (and-right (test b) _ t) m
-
-pub member-all : {A : Type 0} (test : A → Bool) (l : List A) → ((a : A) → Mem a l → T (test a)) → T (all test l)
-unfolding all
-member-all test [] h = tt
-member-all test (a ∷ l) h = both (test a) (all test l) (h a (here refl)) (member-all test l (λ b m. h b (there m)))
-
+-- Whether two triples are equal.
 unfoldable pub sameTriple : Triple → Triple → Bool
 sameTriple s t = eqb (s .x) (t .x) && (eqb (s .y) (t .y) && eqb (s .z) (t .z))
 
@@ -322,13 +299,6 @@ has-filled (suc n) (p ∷ l) t h = elim (or-cases (sameTriple t p) _ h) [
   | inl s ↦ or-left (sameTriple t p) _ s
   | inr r ↦ or-right (sameTriple t p) _ (has-filled n l t r)
 ]
-
--- Two tests that hold together are equal.
-pub same-test : (a b : Bool) → (T a → T b) → (T b → T a) → a ≡ b
-same-test true true f g = refl
-same-test true false f g = absurd (f tt)
-same-test false true f g = absurd (g tt)
-same-test false false f g = refl
 
 least-rank-filled-le : (n : ℕ) (l : List Triple) (t : Triple) → leastRank (filled n l) t ≤ leastRank l t
 unfolding filled leastRank

@@ -13,7 +13,8 @@ use Rattle.laws.specs.Integer.{nought, _⊖_, natAbs-*ℤ}
 use Rattle.laws.specs.Matrix.{Matrix, Vector, act, times, unit, scalar, inverse, determinant, Unimodular, act-times, act-unit, times-inverse, inverse-times, determinant-times}
 use Rattle.laws.specs.Residue.{residue, Triple, Reduced, reduced, lifted, turned, reduced-act, reduced-lifted, turned-times, turned-unit}
 use Rattle.laws.specs.Distinct.{has, Equivalence, equality-equivalence, has→Mem, Mem→has, injection-onto}
-use Rattle.laws.specs.Lattice.{sameTriple, triple-decides, Points, InLattice, all, all-member, member-all}
+use Rattle.laws.specs.Lattice.{sameTriple, triple-decides, Points, InLattice}
+use Rattle.laws.specs.Truth.{all, all-member, member-all}
 
 abbrev pub MapsInto : List Triple → Matrix → Type 0
 MapsInto l R = (v : Vector) → InLattice l v → InLattice l (act R v)

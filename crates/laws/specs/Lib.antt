@@ -1,4 +1,7 @@
 -- Mathematics with nothing of crystals in it, each law for any size, order or type.
+-- Tests, and members of lists by their indices:
+pub mod Truth
+pub mod Indices
 -- Numbers, matrices and motions:
 pub mod Integer
 pub mod Matrix

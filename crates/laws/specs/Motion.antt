@@ -78,6 +78,10 @@ identity-compose = product-idl times plus act unit origin matrices-act
 pub compose-identity : (f : SpaceMotion) → compose f identity ≡ f
 compose-identity = product-idr times plus act unit origin matrices-act
 
+-- The translation by a vector.
+abbrev pub translationBy : Vector → SpaceMotion
+translationBy v = record { rotation = unit; translation = v }
+
 -- ---- what a motion does to a point
 -- Rv + t: the point is turned, then moved by the translation.
 unfoldable pub image : SpaceMotion → Vector → Vector

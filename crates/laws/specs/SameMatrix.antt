@@ -1,43 +1,46 @@
 -- Tests that decide whether two integers, two matrices, or the rotations of two motions are equal.
 use mathlib.Core.Path.{_≡_, refl, sym, _∙_, ap}
-use mathlib.Core.Bool.{Bool, false, _&&_}
+use mathlib.Core.Bool.{Bool, false, _&&_, true}
 use lib.Dec.{T, eqb, eqb→eq, eqb-refl}
 use lib.IntN.{ℤ, pos, negsuc}
+use mathlib.Core.Logic.{_↔_}
 use Rattle.laws.specs.Matrix.{Matrix, matrix≡}
 use Rattle.laws.specs.Motion.{SpaceMotion}
 use Rattle.laws.specs.Distinct.{DecidesEquality, Equivalence}
-use Rattle.laws.specs.Lattice.{and-left, and-right, both}
+use Rattle.laws.specs.Truth.{and-left, and-right, both, T-true, true-T}
 
 -- whether two integers are equal
-unfoldable pub sameInteger : ℤ → ℤ → Bool
+abbrev pub sameInteger : ℤ → ℤ → Bool
 sameInteger (pos a) (pos b) = eqb a b
 sameInteger (pos a) (negsuc b) = false
 sameInteger (negsuc a) (pos b) = false
 sameInteger (negsuc a) (negsuc b) = eqb a b
 
 -- an integer is equal to itself
-integer-same : (a : ℤ) → T (sameInteger a a)
-unfolding sameInteger
+pub integer-same : (a : ℤ) → T (sameInteger a a)
 integer-same (pos a) = eqb-refl a
 integer-same (negsuc a) = eqb-refl a
 
 -- integers that pass the test are equal
-same-integer : (a b : ℤ) → T (sameInteger a b) → a ≡ b
-unfolding sameInteger
+pub same-integer : (a b : ℤ) → T (sameInteger a b) → a ≡ b
 same-integer (pos a) (pos b) t = ap pos (eqb→eq a b t)
 same-integer (negsuc a) (negsuc b) t = ap negsuc (eqb→eq a b t)
 
+-- the test as an equation
+pub integer-exact : (a b : ℤ) → (sameInteger a b ≡ true) ↔ (a ≡ b)
+integer-exact a b = ((λ e. same-integer a b (true-T e)), λ p. T-true (rw p (integer-same b)))
+
 -- whether two rows of three are equal
-unfoldable sameRow : ℤ → ℤ → ℤ → ℤ → ℤ → ℤ → Bool
+unfoldable pub sameRow : ℤ → ℤ → ℤ → ℤ → ℤ → ℤ → Bool
 sameRow a b c x y z = sameInteger a x && (sameInteger b y && sameInteger c z)
 
 -- a row is equal to itself
-row-same : (a b c : ℤ) → T (sameRow a b c a b c)
+pub row-same : (a b c : ℤ) → T (sameRow a b c a b c)
 unfolding sameRow
 row-same a b c = both (sameInteger a a) _ (integer-same a) (both (sameInteger b b) _ (integer-same b) (integer-same c))
 
 -- rows that pass the test have equal entries
-same-row : (a b c x y z : ℤ) → T (sameRow a b c x y z) → (a ≡ x) × (b ≡ y) × (c ≡ z)
+pub same-row : (a b c x y z : ℤ) → T (sameRow a b c x y z) → (a ≡ x) × (b ≡ y) × (c ≡ z)
 unfolding sameRow
 same-row a b c x y z t =
     let rest = and-right (sameInteger a x) _ t in (
@@ -68,6 +71,10 @@ matrix-decides = record {
       let z = same-row (A .zx) (A .zy) (A .zz) (B .zx) (B .zy) (B .zz) (and-right second _ rest) in
       matrix≡ (x .0) (x .1) (x .2) (y .0) (y .1) (y .2) (z .0) (z .1) (z .2);
 }
+
+-- the test of matrices as an equation
+pub matrix-exact : (A B : Matrix) → (sameMatrix A B ≡ true) ↔ (A ≡ B)
+matrix-exact A B = ((λ e. matrix-decides .exact A B (true-T e)), λ p. T-true (rw p (matrix-decides .reflexive B)))
 
 -- whether two motions have the same rotation
 abbrev pub sameRotation : SpaceMotion → SpaceMotion → Bool

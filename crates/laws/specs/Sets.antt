@@ -18,6 +18,7 @@ use lib.Count.{ones, onesIn, ones-step, trailingZeros, under}
 use lib.ListN.{length, getD, length-append}
 use lib.Seq.{getD-append-seam}
 use Rattle.laws.specs.Sorted.{Sorted, sorted-nil, sorted-one, sorted-append, unique, key-strict}
+use Rattle.laws.specs.Truth.{same-truth, and-both}
 
 -- ---- members
 
@@ -261,19 +262,11 @@ member-add s i j e = ap (λ (k : ℕ). member k j) (sym (or-new s i e)) ∙ with
 pub add-below : (n s i : ℕ) → i < n → s < 2 ^ n → member s i ≡ false → s + 2 ^ i < 2 ^ n
 add-below n s i h k e = rw (← or-new s i e) (or-lt n s (2 ^ i) k (pow-lt h))
 
--- ---- the tests of one digit that code makes
-
 -- ---- subsets
 
 -- every member of s is one of t
 abbrev pub Subset : ℕ → ℕ → Type 0
 Subset s t = (i : ℕ) → member s i ≡ true → member t i ≡ true
-
--- tests that pass together are equal
-pub same-truth : (a b : Bool) → (a ≡ true → b ≡ true) → (b ≡ true → a ≡ true) → a ≡ b
-same-truth true b f g = sym (f refl)
-same-truth false true f g = g refl
-same-truth false false f g = refl
 
 -- two sets that hold each other's members are equal
 pub subset-antisymmetric : (s t : ℕ) → Subset s t → Subset t s → s ≡ t
@@ -284,18 +277,13 @@ and-absorbs : (a b : Bool) → (a ≡ true → b ≡ true) → (a && b) ≡ a
 and-absorbs true b f = f refl
 and-absorbs false b f = refl
 
--- a conjunction that holds holds on the right
-and-right : (a b : Bool) → (a && b) ≡ true → b ≡ true
-and-right true b e = e
-and-right false b e = absurd (true≢false (sym e))
-
 -- a subset is its own intersection with the larger set
 pub subset-and : (s t : ℕ) → Subset s t → bitAnd s t ≡ s
 subset-and s t f = same-sets _ s (λ i. member-and s t i ∙ and-absorbs (member s i) (member t i) (f i))
 
 -- a set that is its own intersection with another is a subset of it
 pub and-subset : (s t : ℕ) → bitAnd s t ≡ s → Subset s t
-and-subset s t e i h = and-right (member s i) (member t i) (sym (member-and s t i) ∙ ap (λ (k : ℕ). member k i) e ∙ h)
+and-subset s t e i h = and-both (member s i) (member t i) (sym (member-and s t i) ∙ ap (λ (k : ℕ). member k i) e ∙ h) .1
 
 -- s is a subset of t exactly if the bitwise and of the two is s
 pub subset-test : (s t : ℕ) → (eqb (bitAnd s t) s ≡ true) ↔ Subset s t

@@ -1,6 +1,6 @@
 -- The copy in capitals is the text with one byte changed, and where: what the code writes.
 use mathlib.Core.Path.{_≡_, refl, sym, _∙_, ap}
-use mathlib.Core.Bool.{Bool, true, false, cond, _&&_, _||_}
+use mathlib.Core.Bool.{Bool, true, false, cond, _||_}
 use mathlib.Core.List.{List, [], _∷_, _++_}
 use Prim.Native.Nat.{ℕ, suc, _+_, _-_, _<_, _≤_}
 use native.Mathlib.Omega.{arith}
@@ -10,6 +10,7 @@ use lib.Dec.{eqb}
 use borrow.Author.Tests.{eqb-true, eq-eqb, ne-eqb}
 use lib.ListN.{length, getD, take, drop, set, drop-of-length-le, take-append-drop}
 use lib.Seq.{drop-cons, set-split, take-suc, append-snoc, take-suc-set}
+use Rattle.laws.specs.Truth.{and-both}
 use Rattle.hall_symbol.specs.Bytes.{whitespace}
 use Rattle.hall_symbol.specs.Runs.{run, Every, Stops, run-every, run-stops, run-all}
 use Rattle.layer_group.specs.Capitals.{isSmall, letterHere, marked, fromToken, capitalised}
@@ -51,12 +52,8 @@ module _ (text : List ℕ) where
   -- Such a byte is p or c.
   pub letter-small : (at : ℕ) → at < length text → letterHere (drop at text) ≡ true → 32 ≤ getD text at 0
   unfolding isSmall
-  letter-small at h e = small-above (getD text at 0) (and-true (isSmall (getD text at 0)) _ (rw (drop-cons text at 0 h) at e))
+  letter-small at h e = small-above (getD text at 0) (and-both (isSmall (getD text at 0)) _ (rw (drop-cons text at 0 h) at e) .0)
     where
-      and-true : (a b : Bool) → a && b ≡ true → a ≡ true
-      and-true true b e = refl
-      and-true false b e = e
-
       small-above : (b : ℕ) → isSmall b ≡ true → 32 ≤ b
       small-above b e = go (eqb b 112) refl (eqb b 99) refl e
         where

@@ -14,6 +14,7 @@ use Rattle.laws.specs.Matrix.{Vector, act, plus, opposite}
 use Rattle.laws.specs.Motion.{SpaceMotion}
 use Rattle.laws.specs.Residue.{residue, residue-add, residue-neg, residue-lt, Triple}
 use Rattle.laws.specs.MotionsModulo.{Alike}
+use Rattle.laws.specs.Truth.{and-both, clash}
 use Rattle.operation.specs.Meaning.{entryOf, digitOf, digitAbove, matrixOf, vectorOf, motionOf, Digits}
 use Rattle.operation.specs.Entries.{digit-again}
 use Rattle.operation.specs.declared.Operation.{Operation}
@@ -21,7 +22,7 @@ use Rattle.centering.specs.Letters.{pointsOf}
 use Rattle.centering.specs.declared.Centering.{Centering}
 use Rattle.centering.specs.declared.Centering.the-variants.{P, C}
 use Rattle.layer_group.specs.Layers.{LayerMotion, isLayer}
-use Rattle.layer_group.specs.Spelling.{OfLayer, both, clash}
+use Rattle.layer_group.specs.Spelling.{OfLayer}
 
 -- ---- digits
 digit-nought : (d : ℕ) → d ≤ 2 → entryOf d ≡ nought → d ≡ 1
@@ -53,10 +54,10 @@ module _ (o : Operation) (digits : Digits (o .rotation)) (below : o .translation
   unfolding isLayer motionOf matrixOf vectorOf
   test-exactly = (
     (λ t.
-        let (a, t1) = both (eqb (o .rotation .xz) 1) _ t in
-        let (b, t2) = both (eqb (o .rotation .yz) 1) _ t1 in
-        let (c, t3) = both (eqb (o .rotation .zx) 1) _ t2 in
-        let (d, t4) = both (eqb (o .rotation .zy) 1) _ t3 in
+        let (a, t1) = and-both (eqb (o .rotation .xz) 1) _ t in
+        let (b, t2) = and-both (eqb (o .rotation .yz) 1) _ t1 in
+        let (c, t3) = and-both (eqb (o .rotation .zx) 1) _ t2 in
+        let (d, t4) = and-both (eqb (o .rotation .zy) 1) _ t3 in
         record {
           xz = nought-digit (o .rotation .xz) (eqb-true (o .rotation .xz) 1 a);
           yz = nought-digit (o .rotation .yz) (eqb-true (o .rotation .yz) 1 b);

@@ -14,7 +14,7 @@ use Rattle.centering.specs.declared.Centering.{Centering}
 use Rattle.centering.specs.declared.Centering.the-variants.{P, A, B, C, I, R, F, H}
 use Rattle.hall_symbol.specs.Bytes.{whitespace}
 use Rattle.hall_symbol.specs.Walk.{read-long}
-use Rattle.space_group.specs.Resuming.{at-any}
+use Rattle.laws.specs.Indices.{at-any}
 use Rattle.symbol_group.specs.Answers.{symbolAnswer}
 use Rattle.symbol_group.specs.Slots.{symbol-slots}
 use Rattle.symbol_group.specs.declared.refusal.Refusal as plain-refusal

@@ -2,13 +2,14 @@
 -- plain reader on the copy in capitals says exactly this, every refusal with its place: nobody has to believe the copy.
 use mathlib.Core.Path.{_≡_, refl, sym, _∙_, ap, subst}
 use mathlib.Core.Logic.{_⊎_, inl, inr, _↔_}
-use mathlib.Core.Bool.{Bool, true, false, cond, _&&_, _||_}
+use mathlib.Core.Bool.{Bool, true, false, cond, _&&_}
 use mathlib.Core.List.{List, [], _∷_, _++_}
-use Prim.Native.Nat.{ℕ, zero, suc, _+_, _-_, _<_, _≤_}
+use Prim.Native.Nat.{ℕ, zero, suc, _-_, _<_, _≤_}
 use native.Mathlib.Omega.{arith}
 use lib.Dec.{eqb, ltb}
 use borrow.Author.Tests.{eqb-true, eq-eqb, not-false, ltb-true, ltb-false, lt-ltb, le-ltb}
 use lib.ListN.{length, getD}
+use Rattle.laws.specs.Truth.{and-both, or-either, clash}
 use Rattle.operation.specs.declared.Operation.{Operation}
 use Rattle.centering.specs.Letters.{byteOf}
 use Rattle.centering.specs.declared.Centering.{Centering}
@@ -16,7 +17,7 @@ use Rattle.centering.specs.declared.Centering.the-variants.{P, A, B, C, I, R, F
 use Rattle.hall_axes.specs.declared.Previous.{Previous}
 use Rattle.hall_symbol.specs.Bytes.{whitespace, solid, allowed}
 use Rattle.hall_symbol.specs.Runs.{run, Every, Stops, every-run, run-all, run-at, run-below}
-use Rattle.hall_symbol.specs.Cut.{Cut, FirstToken, blank, token, first-token, solid-not-whitespace, cut-blank, cut-firstword, cut-length}
+use Rattle.hall_symbol.specs.Cut.{Cut, FirstToken, blank, token, first-token, solid-not-whitespace, cut-blank, cut-firstword, cut-length, token-stops}
 use Rattle.hall_symbol.specs.Reader.{Reading, symbol, refusal, readSymbol}
 use Rattle.hall_symbol.specs.Spelling.{latticeSpelling, Fit, Begins, lattice, rotation, Spells, FirstForbidden, LatticeWrong, Refuses, Says}
 use Rattle.hall_symbol.specs.Lattice.{latticeToken}
@@ -85,20 +86,10 @@ LayerSays text (symbol c gs) = LayerSpells text c gs
 LayerSays text (refusal r) = LayerRefuses text r
 
 -- ---- bytes
-either : (a b : Bool) → a || b ≡ true → (a ≡ true) ⊎ (b ≡ true)
-either true b e = inl refl
-either false b e = inr e
-
-pub both : (a b : Bool) → a && b ≡ true → (a ≡ true) × (b ≡ true)
-both true b e = (refl, e)
-both false b e = let y : _≡_ {A = ℕ} 0 1 = ap (λ b. cond b 1 0) e in absurd (omega arith)
-
-pub clash : (b : Bool) → b ≡ true → b ≡ false → ⊥
-clash b p q = let y : _≡_ {A = ℕ} 1 0 = ap (λ b. cond b 1 0) (sym p ∙ q) in omega arith
 
 small-letter : (b : ℕ) → isSmall b ≡ true → (c : Centering) × OfLayer c × (b ≡ smallOf c)
 unfolding isSmall
-small-letter b e = go (either (eqb b 112) (eqb b 99) e)
+small-letter b e = go (or-either (eqb b 112) (eqb b 99) e)
   where
     go : (eqb b 112 ≡ true) ⊎ (eqb b 99 ≡ true) → (c : Centering) × OfLayer c × (b ≡ smallOf c)
     go (inl p) = (P, inl refl, eqb-true b 112 p)
@@ -106,7 +97,7 @@ small-letter b e = go (either (eqb b 112) (eqb b 99) e)
 
 small-solid : (b : ℕ) → isSmall b ≡ true → whitespace b ≡ false
 unfolding isSmall whitespace
-small-solid b e = go (either (eqb b 112) (eqb b 99) e)
+small-solid b e = go (or-either (eqb b 112) (eqb b 99) e)
   where
     go : (eqb b 112 ≡ true) ⊎ (eqb b 99 ≡ true) → whitespace b ≡ false
     go (inl p) = ap whitespace (eqb-true b 112 p)
@@ -114,7 +105,7 @@ small-solid b e = go (either (eqb b 112) (eqb b 99) e)
 
 small-allowed : (b : ℕ) → isSmall b ≡ true → allowed (b - 32) ≡ allowed b
 unfolding isSmall allowed
-small-allowed b e = go (either (eqb b 112) (eqb b 99) e)
+small-allowed b e = go (or-either (eqb b 112) (eqb b 99) e)
   where
     go : (eqb b 112 ≡ true) ⊎ (eqb b 99 ≡ true) → allowed (b - 32) ≡ allowed b
     go (inl p) = let q = eqb-true b 112 p in ap (λ b. allowed (b - 32)) q ∙ sym (ap allowed q)
@@ -130,7 +121,7 @@ marked-allowed b = go (allowed b) refl
 
 -- The letter here is small, and its token ends.
 letter-parts : (b : ℕ) (s : List ℕ) → letterHere (b ∷ s) ≡ true → (isSmall b ≡ true) × (endsHere s ≡ true)
-letter-parts b s e = both (isSmall b) (endsHere s) e
+letter-parts b s e = and-both (isSmall b) (endsHere s) e
 
 -- ---- the copy has an allowed byte where the text has one
 token-allowed : (s : List ℕ) (i : ℕ) → allowed (getD (fromToken s) i 0) ≡ allowed (getD s i 0)
@@ -146,7 +137,7 @@ token-allowed (b ∷ s) i = by-letter (letterHere (b ∷ s)) refl (eqb b 45 && l
     by-letter : (x : Bool) → letterHere (b ∷ s) ≡ x → (y : Bool) → eqb b 45 && letterHere s ≡ y → (i : ℕ) → allowed (getD (cond x (capital (b ∷ s)) (cond y (b ∷ capital s) (marked b ∷ s))) i 0) ≡ allowed (getD (b ∷ s) i 0)
     by-letter true e y f i = capital-allowed (b ∷ s) e i
     by-letter false e true f zero = refl
-    by-letter false e true f (suc i) = capital-allowed s (both (eqb b 45) (letterHere s) f .1) i
+    by-letter false e true f (suc i) = capital-allowed s (and-both (eqb b 45) (letterHere s) f .1) i
     by-letter false e false f zero = marked-allowed b
     by-letter false e false f (suc i) = refl
 
@@ -190,10 +181,6 @@ module _ (text w t after : List ℕ) (cut : Cut text w t after) where
   copy-token : Stops whitespace (t ++ after) → capitalised text ≡ w ++ fromToken (t ++ after)
   copy-token k = ap capitalised (cut .text) ∙ capitalised-blank w (t ++ after) (cut .blank) k
 
-stops-token : (t after : List ℕ) → 0 < length t → Every solid t → Stops whitespace (t ++ after)
-stops-token [] after h e = absurd (omega arith)
-stops-token (b ∷ t) after h e = solid-not-whitespace b (e .0)
-
 -- What follows a token ends it.
 ends-after : (after : List ℕ) → Stops solid after → endsHere after ≡ true
 unfolding solid
@@ -221,7 +208,8 @@ token-capital true c after l h = rw (small-here c l, ends-after after h, back-ca
 
 pub copy-plain : (text plain : List ℕ) → Capital text plain → capitalised text ≡ plain
 copy-plain text plain K =
-    copy-token text (K .w) (smallSpelling (K .inverted) (K .letter)) (K .after) (K .cut) (stops-token (smallSpelling (K .inverted) (K .letter)) (K .after) (K .cut .some) (K .cut .whole))
+    copy-token text (K .w) (smallSpelling (K .inverted) (K .letter)) (K .after) (K .cut)
+    (token-stops (smallSpelling (K .inverted) (K .letter)) (K .after) (K .cut .some) (K .cut .whole))
     ∙ ap (λ l. K .w ++ l) (token-capital (K .inverted) (K .letter) (K .after) (K .layer) (K .cut .apart))
     ∙ sym (K .stands)
 
@@ -249,7 +237,7 @@ no-inverted b t after e k n = go (eqb b 45 && letterHere (t ++ after)) refl
     behind (d ∷ f ∷ t) after e k m n h = clash (whitespace f) (letter-parts d (f ∷ t ++ after) h .1) (solid-not-whitespace f (e .1 .0))
 
     go : (x : Bool) → eqb b 45 && letterHere (t ++ after) ≡ x → eqb b 45 && letterHere (t ++ after) ≡ false
-    go true h = let (p, q) = both (eqb b 45) (letterHere (t ++ after)) h in absurd (behind t after (e .1) k (eqb-true b 45 p) n q)
+    go true h = let (p, q) = and-both (eqb b 45) (letterHere (t ++ after)) h in absurd (behind t after (e .1) k (eqb-true b 45 p) n q)
     go false h = h
 
 -- `?` begins no letter.
@@ -293,7 +281,7 @@ wrong-copy text p W = go (W .t) (W .cut) (W .wrong)
           fit = fit-copy text (W .fit);
           cut =
               record {
-                text = copy-token text (W .w) (b ∷ t) (W .after) cut (stops-token (b ∷ t) (W .after) (cut .some) (cut .whole)) ∙ ap (λ l. W .w ++ l) copy;
+                text = copy-token text (W .w) (b ∷ t) (W .after) cut (token-stops (b ∷ t) (W .after) (cut .some) (cut .whole)) ∙ ap (λ l. W .w ++ l) copy;
                 blank = cut .blank;
                 some = cut .some;
                 whole = (refl, cut .whole .1);
@@ -343,7 +331,7 @@ small-or-not (b ∷ d ∷ []) = go (eqb b 45 && isSmall d) refl
 
     go : (x : Bool) → eqb b 45 && isSmall d ≡ x → SmallToken (b ∷ d ∷ []) ⊎ (¬ SmallToken (b ∷ d ∷ []))
     go true h =
-        let (p, q) = both (eqb b 45) (isSmall d) h in
+        let (p, q) = and-both (eqb b 45) (isSmall d) h in
         let (c, l, r) = small-letter d q in
         inl (true, c, l, ap (λ b. b ∷ d ∷ []) (eqb-true b 45 p) ∙ ap (λ d. 45 ∷ d ∷ []) r)
     go false h = inr (λ (i, c, l, e). clash (eqb b 45 && isSmall d) (met i c l e) h)

@@ -12,6 +12,8 @@ use lib.Seq.{length-take-le}
 use borrow.Author.Tests.{lt-ltb, le-ltb, ltb-true, ltb-false}
 use Rattle.laws.specs.Motion.{SpaceMotion}
 use Rattle.laws.specs.MotionsModulo.{motions-keyed}
+use Rattle.laws.specs.Truth.{clash}
+use Rattle.laws.specs.Indices.{member-at}
 use Rattle.operation.specs.Answer as answer
 use Rattle.operation.specs.Meaning.{motionOf, Digits}
 use Rattle.operation.specs.Entries.{digits-entries}
@@ -28,9 +30,9 @@ use Rattle.hall_symbol.specs.declared.refusal.Refusal.the-variants as text-vari
 use Rattle.space_group.specs.Generated.{AllKeep, FewRotations, SmallRotations, OneTranslation, refused, outcomeOf}
 use Rattle.space_group.specs.Refusals as generator-numbers
 use Rattle.space_group.specs.declared.refusal.Refusal as generators
-use Rattle.space_group_theorems.specs.Acceptance.{Accepted, member-at}
+use Rattle.space_group_theorems.specs.Acceptance.{Accepted}
 use Rattle.space_group_theorems.specs.Members.{rotation-generated, translation-below}
-use Rattle.space_group_theorems.specs.SetOfMotions.{InSet, set-exactly}
+use Rattle.space_group_theorems.specs.SetOfMotions.{InGeneratedSet, set-exactly}
 use Rattle.symbol_group.specs.Answers.{symbolAnswer}
 use Rattle.symbol_group.specs.Answers as plain
 use Rattle.symbol_group.specs.Slots.{symbol-slots}
@@ -46,7 +48,7 @@ use Rattle.symbol_group.specs.declared.Answer.the-variants as plain-answer
 use Rattle.layer_group.specs.Capitals.{capitalised}
 use Rattle.layer_group.specs.Layers.{LayerMotion, isLayer, front}
 use Rattle.layer_group.specs.Motions.{test-exactly, alike-layer}
-use Rattle.layer_group.specs.Spelling.{OfLayer, LayerSpells, LayerRefuses, LayerWrong, layer-reads, layer-letter, clash}
+use Rattle.layer_group.specs.Spelling.{OfLayer, LayerSpells, LayerRefuses, LayerWrong, layer-reads, layer-letter}
 use Rattle.layer_group.specs.Answers.{refusedAnswer, layeredBy, layerAnswer, operationsAnswer}
 use Rattle.layer_group.specs.declared.refusal.Refusal.the-variants.{NoLayer}
 use Rattle.layer_group.specs.declared.Answer.the-variants.{Group}
@@ -208,7 +210,7 @@ module _ (c : Centering) (gens operations : List Operation) (steps : List ℕ) (
       test-exactly o digits (translation-below c gens operations steps A o m .2)
 
   -- All listed operations pass exactly if all motions of the set are of a layer.
-  pub all-exactly : OfLayer c → (length operations ≤ front operations) ↔ ((f : SpaceMotion) → InSet c gens f → LayerMotion f)
+  pub all-exactly : OfLayer c → (length operations ≤ front operations) ↔ ((f : SpaceMotion) → InGeneratedSet c gens f → LayerMotion f)
   all-exactly l = (
     (λ h f s.
         let (o, m, near) = set-exactly c gens operations steps A f .0 s in
@@ -238,7 +240,8 @@ module _ (c : Centering) (gens operations : List Operation) (steps : List ℕ) (
       go false e = e
 
 -- Said of equal letters and generators.
-all-moved : (c d : Centering) (gens hens : List Operation) → c ≡ d → gens ≡ hens → ((f : SpaceMotion) → InSet c gens f → LayerMotion f) → (f : SpaceMotion) → InSet d hens f → LayerMotion f
+all-moved : (c d : Centering) (gens hens : List Operation) → c ≡ d → gens ≡ hens
+    → ((f : SpaceMotion) → InGeneratedSet c gens f → LayerMotion f) → (f : SpaceMotion) → InGeneratedSet d hens f → LayerMotion f
 all-moved c d gens hens p q h f s = h f (rw (p, q) s)
 
 -- ---- by the text
@@ -253,11 +256,11 @@ module _ (text : List ℕ) where
   -- A list is given exactly if the text spells a layer symbol, its generators are accepted, and every motion of its set is one of a layer.
   pub layer-exactly : ((operations : List Operation) × (told text ≡ answer.given operations))
       ↔ ((c : Centering) × (gens : List Operation) × LayerSpells text c gens × (AllKeep c gens × FewRotations gens × SmallRotations gens × OneTranslation c gens)
-      × ((f : SpaceMotion) → InSet c gens f → LayerMotion f))
+      × ((f : SpaceMotion) → InGeneratedSet c gens f → LayerMotion f))
   layer-exactly = (forth, back)
     where
       forth : ((operations : List Operation) × (told text ≡ answer.given operations)) → (c : Centering) × (gens : List Operation) × LayerSpells text c gens × (AllKeep c gens × FewRotations gens × SmallRotations gens × OneTranslation c gens)
-          × ((f : SpaceMotion) → InSet c gens f → LayerMotion f)
+          × ((f : SpaceMotion) → InGeneratedSet c gens f → LayerMotion f)
       forth (operations, e) =
           let (a, all, _) = given-by (symbolAnswer (capitalised text) .answer) (take (symbolAnswer (capitalised text) .count) (symbolAnswer (capitalised text) .operations)) operations .0 (sym (told-listed text) ∙ e) in
           let T = accepted-text (capitalised text) a in
@@ -266,7 +269,7 @@ module _ (text : List ℕ) where
           (T .letter, T .generators, s, (A .keep, A .few, A .small, A .one), all-exactly (T .letter) (T .generators) (T .operations) (T .steps) A (layer-letter text (T .letter) (T .generators) s) .0 (rw (T .same-operations) at all))
 
       back : ((c : Centering) × (gens : List Operation) × LayerSpells text c gens × (AllKeep c gens × FewRotations gens × SmallRotations gens × OneTranslation c gens)
-          × ((f : SpaceMotion) → InSet c gens f → LayerMotion f)) → (operations : List Operation) × (told text ≡ answer.given operations)
+          × ((f : SpaceMotion) → InGeneratedSet c gens f → LayerMotion f)) → (operations : List Operation) × (told text ≡ answer.given operations)
       back (c, gens, s, accepted, layer) =
           let p = spells-exactly c gens .1 s in
           let a = group-exactly (capitalised text) .1 (c, gens, p, accepted) in

@@ -1,8 +1,10 @@
 -- The lines of a text, by R9.1: byte 10 ends a line, and a last line without it counts unless it holds no byte.
+use native.Mathlib.Omega.{arith}
+use lib.ListN.{length}
 use mathlib.Core.Path.{_≡_, refl, _∙_, ap}
 use mathlib.Core.Bool.{Bool, true, false, cond}
 use mathlib.Core.List.{List, [], _∷_, _++_, append-nil, append-assoc}
-use Prim.Native.Nat.{ℕ}
+use Prim.Native.Nat.{ℕ, _≤_}
 use lib.Dec.{eqb}
 use borrow.Author.Tests.{eqb-true}
 
@@ -83,3 +85,9 @@ unfolding linesFrom lastLine
 spelled-lines none = refl
 spelled-lines (last b line u) = unended-from [] (b ∷ line) u
 spelled-lines (next {text} {lines} line u rest) = ended-from [] line text u ∙ ap (λ (l : List (List ℕ)). line ∷ l) (spelled-lines rest)
+
+-- A text's last line is one line or none.
+pub last-once : (line : List ℕ) → length (lastLine line) ≤ 1
+unfolding lastLine
+last-once [] = omega arith
+last-once (b ∷ line) = omega arith

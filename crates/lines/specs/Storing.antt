@@ -1,13 +1,12 @@
 -- Laws of the line that is kept: what is stored is held again, and each step of the code stores what the definitions say.
 use mathlib.Core.Path.{_≡_, refl, sym, _∙_, ap, ap₂}
-use mathlib.Core.Bool.{Bool, true, false, cond}
-use mathlib.Core.List.{List, [], _∷_, _++_, append-nil, append-assoc}
+use mathlib.Core.Bool.{Bool, true, false}
+use mathlib.Core.List.{List, [], _∷_, _++_, append-nil}
 use Prim.Native.Nat.{ℕ, suc, _+_, _-_, _<_, _≤_}
 use native.Mathlib.Omega.{arith}
-use native.Mathlib.Numerals.{add-one}
 use lib.Dec.{leb}
 use lib.ListN.{length, take, drop, set, length-append, length-drop, take-append-drop, drop-of-length-le}
-use lib.Seq.{take-all, take-at, take-append-le, take-take, take-length, length-take-le, drop-append-le, drop-append-seam, drop-drop, drop-at, set-split, append-snoc}
+use lib.Seq.{take-all, take-at, take-append-le, length-take-le, drop-drop, drop-at, set-split, append-snoc}
 use borrow.Author.Tests.{leb-true, leb-false, le-leb, lt-leb}
 use Rattle.lines.specs.Feeding.{most, shortened, joined, short-whole, long-shortened, long-length, shortened-length, shortened-again}
 use Rattle.lines.specs.Keeping.{held, stored, zeros, lineIn}

@@ -14,8 +14,6 @@ use Rattle.lines.specs.Feeding.{most, shortened, joined, keptAfter, kept
 use Rattle.lines.specs.Keeping.{held, stored, lineIn, anyLine, firstLine, takenFrom, lastOf}
 use Rattle.lines.specs.Storing.{Handy, handy-length, joined-handy, held-stored, held-handy, stored-again, stored-whole, joined-longer, held-some}
 use Rattle.lines.specs.declared.Kept.{Kept}
-use Rattle.lines.specs.declared.Taken.{Taken}
-use Rattle.lines.specs.declared.Last.{Last}
 
 module _ (k : Kept) (piece : List ℕ) where
   -- What a call makes of a piece, by what is handed over and kept on it.

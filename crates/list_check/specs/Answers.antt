@@ -1,21 +1,21 @@
 -- How the answer is put together from what the code finds: the length, the first wrong entry, the first that is off, the set of operations seen.
 use mathlib.Core.Path.{_≡_, refl, sym, _∙_, ap}
 use mathlib.Core.Bool.{not}
-use mathlib.Core.List.{List, List·Memᴰ as Mem}
-use Prim.Native.Nat.{ℕ, zero, suc, _≤_, _<_}
+use mathlib.Core.List.{List}
+use Prim.Native.Nat.{ℕ, _≤_, _<_}
 use native.Mathlib.Omega.{arith}
-use lib.Dec.{T, eqb-refl}
+use lib.Dec.{eqb-refl}
 use lib.ListN.{length, getD}
 use lib.Seq.{getD-take}
 use borrow.Author.Tests.{lt-ltb, le-ltb}
 use Rattle.laws.specs.Sets.{member}
-use Rattle.laws.specs.Distinct.{has, Distinct, nil, cons, eqb-equivalence, Equivalence, Mem→has, has-respects}
+use Rattle.laws.specs.Distinct.{eqb-equivalence, Equivalence}
+use Rattle.laws.specs.Indices.{distinct-index}
 use Rattle.operation.specs.Product.{identityOperation}
 use Rattle.operation.specs.declared.Operation.{Operation}
 use Rattle.centering.specs.declared.Centering.{Centering}
 use Rattle.subgroup_laws.specs.Bounded.{first}
 use Rattle.space_group.specs.Traversal.{turnOf, sameTurn}
-use Rattle.space_group_theorems.specs.Acceptance.{member-at}
 use Rattle.space_group_theorems.specs.Members.{rotations-once}
 use Rattle.symbol_group.specs.AcceptedTexts.{AcceptedText, accepted-text}
 use Rattle.symbol_group.specs.Answers.{symbolAnswer}
@@ -101,17 +101,6 @@ turns =
       transitive = λ f g h. eqb-equivalence .transitive (turnOf f) (turnOf g) (turnOf h);
     }
 
--- In a list with each rotation once, the code tells the index.
-distinct-index : {l : List Operation} → Distinct sameTurn l → (d : Operation) (i j : ℕ) → i < length l → j < length l → T (sameTurn (getD l i d) (getD l j d))
-    → i ≡ j
-distinct-index nil d i j h k s = absurd (omega arith)
-distinct-index (cons new D) d zero zero h k s = refl
-distinct-index (cons {x} {l} new D) d zero (suc j) h k s =
-    absurd (new (has-respects sameTurn turns x (getD l j d) l s (Mem→has sameTurn turns (member-at l j d (omega arith)))))
-distinct-index (cons {x} {l} new D) d (suc i) zero h k s =
-    absurd (new (has-respects sameTurn turns x (getD l i d) l (turns .symmetric (getD l i d) x s) (Mem→has sameTurn turns (member-at l i d (omega arith)))))
-distinct-index (cons new D) d (suc i) (suc j) h k s = ap suc (distinct-index D d i j (omega arith) (omega arith) s)
-
 module _ (text : List ℕ) (A : AcceptedText text) where
   -- A slot in use holds an operation of the list.
   pub slot-listed : (k : ℕ) → k < symbolAnswer text .count → getD (A .operations) k identityOperation ≡ slotAt (symbolAnswer text .operations) k
@@ -124,7 +113,8 @@ module _ (text : List ℕ) (A : AcceptedText text) where
   slots-once : Once (symbolAnswer text .count) (slotAt (symbolAnswer text .operations))
   slots-once j k h l e =
       let long = A .same-count in
-      distinct-index (rotations-once (A .letter) (A .generators) (A .operations) (A .steps) (A .accepted)) identityOperation j k (omega arith) (omega arith)
+      distinct-index sameTurn turns (rotations-once (A .letter) (A .generators) (A .operations) (A .steps) (A .accepted)) identityOperation j k
+      (omega arith) (omega arith)
       (rw (slot-listed j h, slot-listed k l, e) (eqb-refl (turnOf (slotAt (symbolAnswer text .operations) k))))
 
 module _ (text list : List ℕ) (g : SymbolGroup) (e : g ≡ symbolAnswer text) where

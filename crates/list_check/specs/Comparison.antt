@@ -12,19 +12,20 @@ use borrow.Author.Tests.{not-false, lt-ltb, le-ltb, ltb-true, ltb-false}
 use Rattle.laws.specs.Motion.{SpaceMotion}
 use Rattle.laws.specs.Distinct.{distinct-equal}
 use Rattle.laws.specs.MotionsModulo.{Alike, motions-keyed}
+use Rattle.laws.specs.Truth.{or-either, or-holds-left, or-holds-right, not-passing, passes-or-fails}
 use Rattle.operation.specs.Code.{codeOf, code-lt, code-injective}
-use Rattle.operation.specs.Entries.{digits-entries, digit-again}
-use Rattle.operation.specs.Meaning.{Digits, digitsOf, matrixOf, motionOf, rotation≡}
+use Rattle.operation.specs.Entries.{digits-entries, digits-again}
+use Rattle.operation.specs.Meaning.{Digits, digitsOf, matrixOf, motionOf}
 use Rattle.operation.specs.declared.Operation.{Operation}
 use Rattle.operation.specs.declared.Rotation.{Rotation}
 use Rattle.centering.specs.Letters.{pointsOf}
 use Rattle.centering.specs.Lattices.{points}
 use Rattle.centering.specs.declared.Centering.{Centering}
-use Rattle.subgroup_laws.specs.Bounded.{first, FirstPassing, or-either, or-holds-left, or-holds-right, not-passing, passes-or-fails, passes-some, some-passes, first-found, first-none, first-cases}
+use Rattle.subgroup_laws.specs.Bounded.{first, FirstPassing, passes-some, some-passes, first-found, first-none, first-cases}
 use Rattle.space_group.specs.Traversal.{turnOf, sameTurn}
 use Rattle.space_group_theorems.specs.Acceptance.{Accepted}
 use Rattle.space_group_theorems.specs.Members.{rotation-generated, rotations-once}
-use Rattle.space_group_theorems.specs.SetOfMotions.{InSet, set-exactly}
+use Rattle.space_group_theorems.specs.SetOfMotions.{InGeneratedSet, set-exactly}
 use Rattle.list_check.specs.Checked.{alike, foreignAt, repeatedAt, offAt, missingAt, noCode, lowest, missingAnswer, entriesAnswer}
 use Rattle.list_check.specs.Answers.{turns, off-answer, on-answer}
 use Rattle.list_check.specs.Slots.{alike-parts, alike-symmetric}
@@ -34,7 +35,7 @@ use Rattle.list_check.specs.declared.Checked.the-variants.{Yes, Entry, M
 module _ (c : Centering) (gens : List Operation) (n : ℕ) (entry : ℕ → Operation) where
   -- Entry i is no motion of the set.
   abbrev pub Foreign : ℕ → Type 0
-  Foreign i = ¬ (InSet c gens (motionOf (entry i)))
+  Foreign i = ¬ (InGeneratedSet c gens (motionOf (entry i)))
 
   -- An entry further left differs from entry i by a translation of L.
   abbrev pub Repeated : ℕ → Type 0
@@ -50,7 +51,7 @@ module _ (c : Centering) (gens : List Operation) (n : ℕ) (entry : ℕ → Oper
   -- No two entries are one operation modulo L, and with L added they are the set of motions: every one of it, and nothing else.
   pub record Whole : Type 0 where
     pub once : (i : ℕ) → i < n → ¬ (Repeated i)
-    pub set : (m : SpaceMotion) → InSet c gens m ↔ Held m
+    pub set : (m : SpaceMotion) → InGeneratedSet c gens m ↔ Held m
 
   -- Entry i is foreign or repeated, and none before it is.
   pub record FirstOffEntry (i : ℕ) : Type 0 where
@@ -61,7 +62,7 @@ module _ (c : Centering) (gens : List Operation) (n : ℕ) (entry : ℕ → Oper
   -- The set of motions has a rotation that no entry has.
   pub record Lacking (r : Rotation) : Type 0 where
     pub digits : Digits r
-    pub there : (m : SpaceMotion) × InSet c gens m × (m .rotation ≡ matrixOf r)
+    pub there : (m : SpaceMotion) × InGeneratedSet c gens m × (m .rotation ≡ matrixOf r)
     pub absent : (i : ℕ) → i < n → ¬ (motionOf (entry i) .rotation ≡ matrixOf r)
 
   -- No entry is foreign or repeated, and this is the lowest code of a rotation that no entry has.
@@ -73,20 +74,6 @@ module _ (c : Centering) (gens : List Operation) (n : ℕ) (entry : ℕ → Oper
     pub least : (r : Rotation) → Lacking r → code ≤ codeOf r
 
 -- ---- rotations, codes and matrices
--- The digits of a rotation's matrix are the rotation's.
-digits-again : (r : Rotation) → Digits r → digitsOf (matrixOf r) ≡ r
-unfolding matrixOf
-digits-again r d =
-    rotation≡
-    (digit-again _ (omega (arith, d .xx)))
-    (digit-again _ (omega (arith, d .xy)))
-    (digit-again _ (omega (arith, d .xz)))
-    (digit-again _ (omega (arith, d .yx)))
-    (digit-again _ (omega (arith, d .yy)))
-    (digit-again _ (omega (arith, d .yz)))
-    (digit-again _ (omega (arith, d .zx)))
-    (digit-again _ (omega (arith, d .zy)))
-    (digit-again _ (omega (arith, d .zz)))
 
 -- So the matrix tells the rotation.
 matrix-tells : (r s : Rotation) → Digits r → Digits s → matrixOf r ≡ matrixOf s → r ≡ s
@@ -160,17 +147,17 @@ module _
     near-reflexive f = motions-keyed (pointsOf c) (points c) .alike-reflexive f
 
     -- A motion is in the set exactly if it is alike to an operation,
-    in-set : (m : SpaceMotion) → InSet c gens m ↔ ((k : ℕ) × (k < count) × Alike (pointsOf c) m (motionOf (operation k)))
+    in-set : (m : SpaceMotion) → InGeneratedSet c gens m ↔ ((k : ℕ) × (k < count) × Alike (pointsOf c) m (motionOf (operation k)))
     in-set m = (forth, λ (k, h, near). set-exactly c gens operations steps A m .1 (operation k, listed k h, near))
       where
-        forth : InSet c gens m → (k : ℕ) × (k < count) × Alike (pointsOf c) m (motionOf (operation k))
+        forth : InGeneratedSet c gens m → (k : ℕ) × (k < count) × Alike (pointsOf c) m (motionOf (operation k))
         forth s =
             let (o, member, near) = set-exactly c gens operations steps A m .0 s in
             let (k, h, same) = indexed o member in
             (k, h, rw same near)
 
     -- and so is a motion alike to one of the set.
-    near-in-set : (f g : SpaceMotion) → Alike (pointsOf c) f g → InSet c gens g → InSet c gens f
+    near-in-set : (f g : SpaceMotion) → Alike (pointsOf c) f g → InGeneratedSet c gens g → InGeneratedSet c gens f
     near-in-set f g near s =
         let (k, h, close) = in-set g .0 s in
         in-set f .1 (k, h, near-transitive f g (motionOf (operation k)) near close)
@@ -183,7 +170,7 @@ module _
     module _ (i : ℕ) (h : i < n) where
       -- ---- one entry
       -- The test for foreign entries,
-      not-foreign : (foreignAt c count operation entry i ≡ false) ↔ InSet c gens (motionOf (entry i))
+      not-foreign : (foreignAt c count operation entry i ≡ false) ↔ InGeneratedSet c gens (motionOf (entry i))
       unfolding foreignAt
       not-foreign = (
         (λ e.
@@ -225,7 +212,7 @@ module _
           back (inr r) = or-holds-right (foreignAt c count operation entry i) (repeatedAt c entry i) (is-repeated .1 r)
 
       -- An entry that is not off is in the set, and no entry before it is alike to it.
-      on-in-set : offAt c count operation entry i ≡ false → InSet c gens (motionOf (entry i))
+      on-in-set : offAt c count operation entry i ≡ false → InGeneratedSet c gens (motionOf (entry i))
       unfolding offAt
       on-in-set e = elim (passes-or-fails (foreignAt c count operation entry i)) [
         | inl f ↦ absurd (true≢false (sym (or-holds-left (foreignAt c count operation entry i) (repeatedAt c entry i) f) ∙ e))

@@ -16,7 +16,7 @@ use Rattle.operation.specs.Meaning.{Digits}
 use Rattle.five_bytes.specs.FiveBytes.{belowTwelve, codeIn, translationIn, fiveBytesOf}
 use Rattle.five_bytes.specs.OneForm.{twelve-below, below-twelve}
 use Rattle.five_bytes.specs.declared.FiveBytes.the-variants.{Is}
-use Rattle.subgroup_laws.specs.Bounded.{and-both, both-and, and-fails, and-fails-left, passes-or-fails}
+use Rattle.laws.specs.Truth.{and-both, both-and, and-fails, and-fails-left, passes-or-fails}
 use Rattle.list_check.specs.Checked.{lengthFits, entryCount, bytesAt, isWrong, wrongAt, entryAt}
 
 -- ---- which lists are well formed

@@ -14,11 +14,12 @@ use Rattle.operation.specs.declared.Operation.{Operation}
 use Rattle.centering.specs.declared.Centering.{Centering}
 use Rattle.hall_symbol.specs.Reader.{symbol}
 use Rattle.hall_symbol.specs.Spelling.{Spells}
-use Rattle.hall_symbol.specs.Agreement.{symbol-exactly}
-use Rattle.subgroup_laws.specs.Bounded.{first, FirstPassing, first-found, first-none, first-cases, passes-or-fails}
+use Rattle.hall_symbol.specs.Agreement.{spells-once}
+use Rattle.subgroup_laws.specs.Bounded.{first, FirstPassing, first-found, first-none, first-cases}
+use Rattle.laws.specs.Truth.{passes-or-fails}
+use Rattle.laws.specs.Indices.{member-at, member-index}
 use Rattle.space_group.specs.Traversal.{turnOf}
 use Rattle.space_group.specs.Generated.{AllKeep, FewRotations, SmallRotations, OneTranslation}
-use Rattle.space_group_theorems.specs.Acceptance.{member-at, member-index}
 use Rattle.symbol_group.specs.AcceptedTexts.{AcceptedText, accepted-text}
 use Rattle.symbol_group.specs.Answers.{symbolAnswer}
 use Rattle.symbol_group.specs.Exactly.{group-exactly}
@@ -58,12 +59,6 @@ module _ (text : List ℕ) (T : AcceptedText text) where
       let (k, h, e) = member-index identityOperation m in
       let within : k < count = let s = T .same-count in omega arith in
       (k, within, sym (slot-listed text T k within) ∙ e)
-
--- A text spells one symbol.
-pub spells-once : (text : List ℕ) (c d : Centering) (gens hens : List Operation) → Spells text c gens → Spells text d hens → (c ≡ d) × (gens ≡ hens)
-spells-once text c d gens hens s t =
-    let same : symbol c gens ≡ symbol d hens = sym (symbol-exactly text c gens .1 s) ∙ symbol-exactly text d hens .1 t in
-    (cc, cc)
 
 -- What holds of one symbol holds of an equal one.
 pub carried : (P : Centering → List Operation → Type 0) (c d : Centering) (gens hens : List Operation) → c ≡ d → gens ≡ hens → P c gens → P d hens

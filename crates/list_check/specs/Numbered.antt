@@ -4,7 +4,7 @@ use mathlib.Core.Logic.{_↔_}
 use mathlib.Core.List.{List}
 use Prim.Native.Nat.{ℕ}
 use native.Mathlib.Omega.{arith}
-use Rattle.operation.specs.Answer.{Answer, refused}
+use Rattle.operation.specs.Answer.{refused}
 use Rattle.operation.specs.declared.Operation.{Operation}
 use Rattle.centering.specs.declared.Centering.{Centering}
 use Rattle.symbol_group.specs.Refusals as symbol

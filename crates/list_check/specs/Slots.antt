@@ -12,8 +12,10 @@ use lib.Bits.{bitOr}
 use lib.Dec.{eqb}
 use lib.ListN.{length, getD}
 use borrow.Author.Tests.{eqb-true, eq-eqb, ne-eqb}
-use Rattle.laws.specs.Sets.{member, member-empty, with-member, same-truth}
+use Rattle.laws.specs.Sets.{member, member-empty, with-member}
 use Rattle.laws.specs.Lattice.{Congruent, congruent-symmetric, congruent-transitive}
+use Rattle.laws.specs.Truth.{same-truth, and-both, both-and, and-fails-left, or-holds-left, or-holds-right, not-passing}
+use Rattle.laws.specs.Indices.{at-any}
 use Rattle.operation.specs.Meaning.{vectorOf}
 use Rattle.operation.specs.Product.{identityOperation}
 use Rattle.operation.specs.declared.Operation.{Operation}
@@ -21,8 +23,7 @@ use Rattle.centering.specs.Letters.{pointsOf}
 use Rattle.centering.specs.Lattices.{points, congruentOf}
 use Rattle.centering.specs.LatticeLaws.{congruent-lattice}
 use Rattle.centering.specs.declared.Centering.{Centering}
-use Rattle.subgroup_laws.specs.Bounded.{some, first, and-both, both-and, and-fails-left, or-holds-left, or-holds-right, not-passing, passes-some, some-passes, first-found, first-none, first-cases}
-use Rattle.space_group.specs.Resuming.{at-any}
+use Rattle.subgroup_laws.specs.Bounded.{some, first, passes-some, some-passes, first-found, first-none, first-cases}
 use Rattle.space_group.specs.Traversal.{turnOf}
 use Rattle.list_check.specs.Checked.{alike, foreignAt, repeatedAt, offAt, lowest, slotAt, entryAt}
 use Rattle.list_check.specs.declared.comparing.Compared.{Compared}

@@ -25,8 +25,9 @@ use Rattle.centering.specs.declared.Centering.{Centering}
 use Rattle.space_group.specs.Generated.{AllKeep, firstOff}
 use Rattle.space_group.specs.OperationGrowth.{small-test}
 use Rattle.space_group.specs.declared.refusal.Refusal.the-variants.{Lattice, Rotations, Translations}
+use Rattle.space_group.specs.FlaggedOutcomes.{plainOf}
 use Rattle.space_group_theorems.specs.Acceptance.{SmallGenerators, FirstOff, none-off, first-off, motions-keep}
-use Rattle.magnetic_group.specs.Generated.{FlaggedMotion, flaggedMotions, plainOf, Generated, pairOf, FewPairs, SmallPairs, OneTranslation, flaggedGrowth, verdictOf, MagneticOutcome, group, refused, answered, outcomeOf}
+use Rattle.magnetic_group.specs.Generated.{FlaggedMotion, flaggedMotions, Generated, pairOf, FewPairs, SmallPairs, OneTranslation, flaggedGrowth, verdictOf, MagneticOutcome, group, refused, answered, outcomeOf}
 use Rattle.magnetic_group.specs.Keys.{few-by-keys}
 
 -- ---- what is generated, in the words of growth up to a limit

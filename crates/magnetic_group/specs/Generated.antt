@@ -26,6 +26,7 @@ use Rattle.space_group.specs.Generated.{firstOff}
 use Rattle.space_group.specs.OperationGrowth.{motionGrowth}
 use Rattle.space_group.specs.declared.refusal.Refusal.{Refusal}
 use Rattle.space_group.specs.declared.refusal.Refusal.the-variants.{Lattice, Rotations, Translations}
+use Rattle.space_group.specs.FlaggedOutcomes.{plainOf}
 
 -- ---- sets of flagged motions
 abbrev pub FlaggedMotion : Type 0
@@ -34,13 +35,9 @@ FlaggedMotion = Flagged SpaceMotion
 abbrev pub composeFlagged : FlaggedMotion → FlaggedMotion → FlaggedMotion
 composeFlagged = timesFlagged compose
 
--- The generators as flagged motions of space,
+-- The generators as flagged motions of space.
 abbrev pub flaggedMotions : List (Flagged Operation) → List FlaggedMotion
 flaggedMotions gens = map (imageFlagged motionOf) gens
-
--- and without their flags.
-abbrev pub plainOf : List (Flagged Operation) → List Operation
-plainOf gens = map (λ (g : Flagged Operation). g .element) gens
 
 -- The least set with the identity, whose flag is 0, and closed under a generator as right factor.
 abbrev pub Generated : List (Flagged Operation) → FlaggedMotion → Type 0

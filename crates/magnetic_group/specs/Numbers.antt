@@ -21,10 +21,10 @@ use Rattle.space_group.specs.Generated.{firstOff}
 use Rattle.space_group.specs.Slots.{none-off-digits}
 use Rattle.space_group.specs.Traversal.{padded}
 use Rattle.space_group.specs.NumberGrowth.{flaggedSaid, unitNumber, numberGrowth}
-use Rattle.space_group.specs.NumberSlots.{image-at}
+use Rattle.laws.specs.Indices.{image-at}
 use Rattle.space_group.specs.FlaggedGenerators.{flaggedNumber}
 use Rattle.space_group.specs.FlaggedOutcomes as numbers
-use Rattle.space_group.specs.FlaggedOutcomes.{ListOutcome, numberOutcome, answerBy, slotsBy}
+use Rattle.space_group.specs.FlaggedOutcomes.{ListOutcome, numberOutcome, answerBy, slotsBy, plainOf}
 use Rattle.space_group.specs.FlaggedSlots.{numbers-off, numbers-grown}
 use Rattle.space_group.specs.FlaggedSaid.{numbers-verdict}
 use Rattle.space_group.specs.declared.refusal.Refusal.the-variants.{Lattice}
@@ -33,7 +33,7 @@ use Rattle.symbol_group.specs.declared.refusal.Refusal.{Refusal}
 use Rattle.symbol_group.specs.declared.refusal.Refusal.the-variants.{Text, Group as NoGroup}
 use Rattle.magnetic_symbol.specs.Answer.{magneticAnswer}
 use Rattle.magnetic_symbol.specs.declared.MagneticSymbol.{MagneticSymbol}
-use Rattle.magnetic_group.specs.Generated.{plainOf, flaggedMotions, flaggedGrowth, MagneticOutcome, group, refused, verdictOf, ofVerdict, answered, outcomeOf}
+use Rattle.magnetic_group.specs.Generated.{flaggedMotions, flaggedGrowth, MagneticOutcome, group, refused, verdictOf, ofVerdict, answered, outcomeOf}
 use Rattle.magnetic_group.specs.Acceptance.{group-listed}
 use Rattle.magnetic_group.specs.Symbols.{SymbolOutcome, made, misread, onSymbol, magneticOutcome}
 use Rattle.magnetic_group.specs.Answers.{refusedAnswer, madeAnswer, groupBy, generatorsOf, slotsOf, orderBy, letterBy, besideFlag, operationBy}

@@ -16,11 +16,11 @@ use Rattle.magnetic_group.specs.Acceptance.{MagneticAccepted, flagged-ke
 use Rattle.magnetic_group.specs.Members.{flaggedForms, Near, member-listed, listed-member}
 
 -- The least set with the identity, without the flag, and closed under a generator, or a translation by a vector of L without the flag, as right factor.
-abbrev pub InSet : Centering → List (Flagged Operation) → FlaggedMotion → Type 0
-InSet c gens = growing.InSet (flaggedGrowth c) (FreeFlagged (LatticeTranslation c)) (flaggedMotions gens)
+abbrev pub InFlaggedSet : Centering → List (Flagged Operation) → FlaggedMotion → Type 0
+InFlaggedSet c gens = growing.InWholeSet (flaggedGrowth c) (FreeFlagged (LatticeTranslation c)) (flaggedMotions gens)
 
 module _ (c : Centering) (gens operations : List (Flagged Operation)) (steps : List ℕ) (A : MagneticAccepted c gens operations steps) where
-  pub set-exactly : (f : FlaggedMotion) → InSet c gens f ↔ ((o : Flagged Operation) × Mem o operations × Near c f (imageFlagged motionOf o))
+  pub set-exactly : (f : FlaggedMotion) → InFlaggedSet c gens f ↔ ((o : Flagged Operation) × Mem o operations × Near c f (imageFlagged motionOf o))
   set-exactly f =
       let free = free-with-flag (motionGrowth c) (LatticeTranslation c) (translations-free c) in
       let kept = flagged-keep c gens (A .keep) in

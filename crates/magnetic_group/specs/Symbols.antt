@@ -7,7 +7,7 @@ use Prim.Native.Nat.{ℕ, _-_}
 use native.Mathlib.Omega.{arith}
 use lib.ListN.{length, take, replicate}
 use lib.Seq.{take-append-seam}
-use Rattle.group_growth.specs.Flagged.{Flagged, flaggedBy, held}
+use Rattle.group_growth.specs.Flagged.{Flagged}
 use Rattle.operation.specs.declared.Operation.{Operation}
 use Rattle.centering.specs.declared.Centering.{Centering}
 use Rattle.hall_symbol.specs.Answers.{slots-listed}
@@ -17,13 +17,14 @@ use Rattle.hall_symbol.specs.declared.refusal.Refusal as reading
 use Rattle.space_group.specs.Generated.{AllKeep}
 use Rattle.space_group.specs.declared.refusal.Refusal.the-variants.{Lattice, Rotations, Translations}
 use Rattle.space_group.specs.FlaggedGenerators.{withFlags, plain-with}
+use Rattle.space_group.specs.FlaggedOutcomes.{plainOf}
 use Rattle.space_group_theorems.specs.Acceptance.{SmallGenerators, FirstOff}
 use Rattle.symbol_group.specs.Exactly.{symbol-small}
 use Rattle.magnetic_symbol.specs.Answer.{magneticAnswer}
 use Rattle.magnetic_symbol.specs.FlagSlots.{flagsIn}
 use Rattle.magnetic_symbol.specs.Told.{MagneticSpells, MagneticRefuses, magnetic-exactly, magnetic-refused, magnetic-says}
 use Rattle.magnetic_symbol.specs.declared.MagneticSymbol.{MagneticSymbol}
-use Rattle.magnetic_group.specs.Generated.{plainOf, FewPairs, SmallPairs, OneTranslation, MagneticOutcome, group, refused, outcomeOf}
+use Rattle.magnetic_group.specs.Generated.{FewPairs, SmallPairs, OneTranslation, MagneticOutcome, group, refused, outcomeOf}
 use Rattle.magnetic_group.specs.Acceptance.{MagneticAccepted, accepted-exactly, accepted-list, lattice-exactly, rotations-exactly, translations-exactly}
 
 -- A letter and what its generators make, or the refusal of the text.

@@ -17,12 +17,13 @@ use Rattle.space_group.specs.Generated.{AllKeep}
 use Rattle.space_group.specs.FlaggedGenerators.{withFlags}
 use Rattle.space_group.specs.declared.refusal.Refusal as generators
 use Rattle.space_group.specs.declared.refusal.Refusal.the-variants.{Lattice, Rotations, Translations}
+use Rattle.space_group.specs.FlaggedOutcomes.{plainOf}
 use Rattle.space_group_theorems.specs.Acceptance.{FirstOff}
 use Rattle.symbol_group.specs.Refusals.{numberOf, placeOf}
 use Rattle.symbol_group.specs.Told.{told-once}
 use Rattle.symbol_group.specs.declared.refusal.Refusal.the-variants.{Text, Group as NoGroup}
 use Rattle.magnetic_symbol.specs.Told.{MagneticSpells, MagneticRefuses, magnetic-says}
-use Rattle.magnetic_group.specs.Generated.{plainOf, FewPairs, SmallPairs, OneTranslation, group, refused, outcomeOf}
+use Rattle.magnetic_group.specs.Generated.{FewPairs, SmallPairs, OneTranslation, group, refused, outcomeOf}
 use Rattle.magnetic_group.specs.Symbols.{SymbolOutcome, made, misread, magneticOutcome, made-spelled, spelled-outcome, refused-outcome, symbol-accepted, symbol-twelve, symbol-thirteen, symbol-fourteen}
 use Rattle.magnetic_group.specs.Answers.{orderBy, orderAnswer}
 use Rattle.magnetic_group.specs.declared.MagneticOrder.{MagneticOrder}

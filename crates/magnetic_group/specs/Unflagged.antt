@@ -21,9 +21,10 @@ use Rattle.space_group.specs.Generated.{motions, firstOff, AllKeep}
 use Rattle.space_group.specs.OperationGrowth.{motionGrowth}
 use Rattle.space_group.specs.Slots as slots
 use Rattle.space_group.specs.Slots.{outcome-verdict}
+use Rattle.space_group.specs.FlaggedOutcomes.{plainOf}
 use Rattle.space_group_theorems.specs.Acceptance as space
 use Rattle.space_group_theorems.specs.Acceptance.{SmallGenerators, none-off, motions-keep}
-use Rattle.magnetic_group.specs.Generated.{FlaggedMotion, flaggedMotions, plainOf, Generated, flaggedGrowth, verdictOf, group, answered, outcomeOf}
+use Rattle.magnetic_group.specs.Generated.{FlaggedMotion, flaggedMotions, Generated, flaggedGrowth, verdictOf, group, answered, outcomeOf}
 use Rattle.magnetic_group.specs.Acceptance.{group-listed, accepted-list}
 
 -- ---- maps of lists

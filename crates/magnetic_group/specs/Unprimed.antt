@@ -1,7 +1,7 @@
 -- Texts without `'`: where the plain entry accepts one, the magnetic one answers the same letter and list with every flag 0, and where the magnetic one
 -- answers at most 48 operations, the plain one accepts. So plain symbols are those that hold the flag at 0, seen from outside.
 use mathlib.Core.Path.{_≡_, refl, sym, _∙_, ap}
-use mathlib.Core.Bool.{Bool, false}
+use mathlib.Core.Bool.{false}
 use mathlib.Core.List.{List, [], _∷_, map}
 use Prim.Native.Nat.{ℕ, zero, suc, _-_, _≤_}
 use native.Mathlib.Omega.{arith}

@@ -1,5 +1,5 @@
 // The group of a magnetic Hall symbol: its order, its letter, its operations with their flags in list order, or the symbol's refusal.
-// Ported from data/magnetic_hall_symbol.rs of moyo 0.21.0 (`MagneticHallSymbol`), and changed: one call from the text, and numbered refusals.
+// Ported from data/hall_symbol.rs of moyo 0.21.0 (`MagneticHallSymbol`), and changed: one call from the text, and numbered refusals.
 ghost use mathlib.Core.Path.{_≡_};
 ghost use Rattle.magnetic_group.specs.Symbols.{magneticOutcome};
 ghost use Rattle.magnetic_group.specs.Answers.{refusedAnswer, madeAnswer, groupBy, slotsOf, orderBy, letterBy, operationBy};

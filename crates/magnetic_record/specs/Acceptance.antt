@@ -13,6 +13,7 @@ use lib.ListN.{length, length-map}
 use Rattle.laws.specs.Motion.{SpaceMotion, compose, identity}
 use Rattle.laws.specs.Distinct.{has}
 use Rattle.laws.specs.LatticeMaps.{MapsOnto, onto-unimodular}
+use Rattle.laws.specs.Truth.{both-true, all-true}
 use Rattle.group_growth.specs.Flagged.{xor, flaggedBy}
 use Rattle.operation.specs.Composed.{identity-motion}
 use Rattle.operation.specs.Entries.{Entries}
@@ -31,13 +32,12 @@ use Rattle.group_record.specs.Reading.{isItem, alikeItems, productListed, pairL
 use Rattle.group_record.specs.Groups.{Alike}
 use Rattle.group_record.specs.ListedForm.{form-listing}
 use Rattle.group_record.specs.GroupLaws.{identity-listed}
-use Rattle.group_record.specs.Tests.{both-true, all-true}
 use Rattle.group_record.specs.ReadingTests.{item-test, item-of-operation, items-of-operations, product-test, identity-test, keeps-test}
 use Rattle.group_record.specs.Outcomes.{Good, Meaning, Outcome, told-exactly}
 use Rattle.magnetic_record.specs.SecondEdition.{MagneticItem}
 use Rattle.magnetic_record.specs.Reading.{isMagneticItem, half, productFlag, flaggedPairListed, flaggedMember, isMagneticGroup, magneticRules}
 use Rattle.magnetic_record.specs.Groups.{FlaggedMotion, composeFlagged, Near, MagneticAllowed, flaggedMotion, motionsOf}
-use Rattle.magnetic_record.specs.Halves.{numberOf, listed-half, GoodMagnetic, half-good, operationsOf, half-form, flag-number, product-flag, motion-half, half-motion}
+use Rattle.magnetic_record.specs.Halves.{flagNumber, listed-half, GoodMagnetic, half-good, operationsOf, half-form, flag-number, product-flag, motion-half, half-motion}
 
 -- ---- 34
 -- An item of a record: a code at most 19682, the smallest triple of its class, and a flag at most 1.
@@ -97,7 +97,7 @@ module _ (c : Centering) (items : List MagneticItem) (g : GoodMagnetic c items) 
       (identity-test c (operationsOf 0 items) (half-form c items g 0))
 
   -- The product's flag is the exclusive or of the flags.
-  flags-product : (i j : MagneticItem) → Mem i items → Mem j items → productFlag (i .flag) (j .flag) ≡ numberOf (xor (eqb (i .flag) 1) (eqb (j .flag) 1))
+  flags-product : (i j : MagneticItem) → Mem i items → Mem j items → productFlag (i .flag) (j .flag) ≡ flagNumber (xor (eqb (i .flag) 1) (eqb (j .flag) 1))
   flags-product i j m k =
       ap₂ productFlag (sym (flag-number (i .flag) (g .flag i m))) (sym (flag-number (j .flag) (g .flag j k))) ∙ product-flag (eqb (i .flag) 1) (eqb (j .flag) 1)
 
@@ -106,15 +106,15 @@ module _ (c : Centering) (items : List MagneticItem) (g : GoodMagnetic c items) 
       → (h : FlaggedMotion) × Mem h (motionsOf items) × Near c (composeFlagged (flaggedMotion i) (flaggedMotion j)) h
   product-listed i j m k (h, n, near) =
       let flag = xor (eqb (i .flag) 1) (eqb (j .flag) 1) in
-      let there : Mem h (operationsOf (numberOf flag) items) = subst (λ (n : ℕ). Mem h (operationsOf n items)) (flags-product i j m k) n in
+      let there : Mem h (operationsOf (flagNumber flag) items) = subst (λ (n : ℕ). Mem h (operationsOf n items)) (flags-product i j m k) n in
       (flaggedBy flag (motionOf h), half-motion items (g .flag) flag (motionOf h) (mem-map motionOf there), (refl, near))
 
   -- and the other way round.
   listed-product : (i j : MagneticItem) → Mem i items → Mem j items
       → (h : FlaggedMotion) × Mem h (motionsOf items) × Near c (composeFlagged (flaggedMotion i) (flaggedMotion j)) h → Product i j
   listed-product i j m k (h, n, (flag, near)) =
-      let (o, w, e) = mem-of-map motionOf (operationsOf (numberOf (h .flag)) items) (motion-half items (g .flag) (h .flag) (h .element) n) in
-      let same : numberOf (h .flag) ≡ productFlag (i .flag) (j .flag) = ap numberOf (sym flag) ∙ sym (flags-product i j m k) in
+      let (o, w, e) = mem-of-map motionOf (operationsOf (flagNumber (h .flag)) items) (motion-half items (g .flag) (h .flag) (h .element) n) in
+      let same : flagNumber (h .flag) ≡ productFlag (i .flag) (j .flag) = ap flagNumber (sym flag) ∙ sym (flags-product i j m k) in
       let alike = subst (λ (b : SpaceMotion). Alike c (compose (motionOf (own i)) (motionOf (own j))) b) (sym e) near in
       (o, subst (λ (n : ℕ). Mem o (operationsOf n items)) same w, alike)
 

@@ -23,9 +23,8 @@ use Rattle.record_writing.specs.declared.Copied.{Copied}
 use Rattle.record_writing.specs.declared.Copied.the-variants.{Written, NoRoom, Refused as NotCopied}
 use Rattle.magnetic_record.specs.SecondEdition.{MagneticItem, secondEdition}
 use Rattle.magnetic_record.specs.Reading.{magneticRules}
-use Rattle.magnetic_record.specs.RoundTrips.{MagneticReads, magnetic-written-again}
+use Rattle.magnetic_record.specs.RoundTrips.{magnetic-written-again}
 use Rattle.magnetic_record.specs.Answers.{readingBy, readingOf, magneticOrderAnswer}
-use Rattle.magnetic_record.specs.declared.MagneticReading.{MagneticReading}
 use Rattle.magnetic_record.specs.declared.MagneticReading.the-variants.{Is, Refused}
 
 -- The refusal of what was read goes first; then there is room for its record, or 20.

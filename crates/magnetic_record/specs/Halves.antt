@@ -27,9 +27,9 @@ abbrev pub withFlag : ℕ → Item → MagneticItem
 withFlag n i = record { plain = i; flag = n }
 
 -- The number of a flag.
-abbrev pub numberOf : Bool → ℕ
-numberOf true = 1
-numberOf false = 0
+abbrev pub flagNumber : Bool → ℕ
+flagNumber true = 1
+flagNumber false = 0
 
 -- ---- members
 -- What is in a half is listed with its flag,
@@ -98,17 +98,17 @@ pub half-form : (c : Centering) (items : List MagneticItem) → GoodMagnetic c i
 half-form c items g n = good-form c (half n items) (half-good c items g n)
 
 -- ---- flags as numbers and as truth values
-pub flag-number : (n : ℕ) → n ≤ 1 → numberOf (eqb n 1) ≡ n
+pub flag-number : (n : ℕ) → n ≤ 1 → flagNumber (eqb n 1) ≡ n
 flag-number zero h = refl
 flag-number (suc zero) h = refl
 flag-number (suc (suc n)) h = absurd (omega arith)
 
-pub number-flag : (b : Bool) → eqb (numberOf b) 1 ≡ b
+pub number-flag : (b : Bool) → eqb (flagNumber b) 1 ≡ b
 number-flag true = refl
 number-flag false = refl
 
 -- The product's flag is the exclusive or.
-pub product-flag : (a b : Bool) → productFlag (numberOf a) (numberOf b) ≡ numberOf (xor a b)
+pub product-flag : (a b : Bool) → productFlag (flagNumber a) (flagNumber b) ≡ flagNumber (xor a b)
 product-flag true true = refl
 product-flag true false = refl
 product-flag false true = refl
@@ -117,18 +117,18 @@ product-flag false false = refl
 -- ---- motions
 module _ (items : List MagneticItem) (flags : (i : MagneticItem) → Mem i items → i .flag ≤ 1) where
   -- A listed flagged motion is that of an operation in the half of its flag,
-  pub motion-half : (b : Bool) (f : SpaceMotion) → Mem (flaggedBy b f) (motionsOf items) → Mem f (map motionOf (operationsOf (numberOf b) items))
+  pub motion-half : (b : Bool) (f : SpaceMotion) → Mem (flaggedBy b f) (motionsOf items) → Mem f (map motionOf (operationsOf (flagNumber b) items))
   motion-half b f m =
       let (i, k, e) = mem-of-map flaggedMotion items m in
       let same-flag : eqb (i .flag) 1 ≡ b = ap (λ g. g .flag) e in
-      let number : i .flag ≡ numberOf b = sym (flag-number (i .flag) (flags i k)) ∙ ap numberOf same-flag in
-      let inside : Mem (i .plain) (half (numberOf b) items) = subst (λ (n : ℕ). Mem (i .plain) (half n items)) number (listed-half items i k) in
+      let number : i .flag ≡ flagNumber b = sym (flag-number (i .flag) (flags i k)) ∙ ap flagNumber same-flag in
+      let inside : Mem (i .plain) (half (flagNumber b) items) = subst (λ (n : ℕ). Mem (i .plain) (half n items)) number (listed-half items i k) in
       mem-cast (sym (ap (λ g. g .element) e)) (mem-map motionOf (mem-map operationOfItem inside))
 
   -- and the other way round.
-  pub half-motion : (b : Bool) (f : SpaceMotion) → Mem f (map motionOf (operationsOf (numberOf b) items)) → Mem (flaggedBy b f) (motionsOf items)
+  pub half-motion : (b : Bool) (f : SpaceMotion) → Mem f (map motionOf (operationsOf (flagNumber b) items)) → Mem (flaggedBy b f) (motionsOf items)
   half-motion b f m =
-      let (o, k, e) = mem-of-map motionOf (operationsOf (numberOf b) items) m in
-      let (i, n, q) = mem-of-map operationOfItem (half (numberOf b) items) k in
-      let same : flaggedMotion (withFlag (numberOf b) i) ≡ flaggedBy b f = λ k. record { element = (ap motionOf q ∙ e) k; flag = number-flag b k } in
-      mem-cast (sym same) (mem-map flaggedMotion (half-listed (numberOf b) items i n))
+      let (o, k, e) = mem-of-map motionOf (operationsOf (flagNumber b) items) m in
+      let (i, n, q) = mem-of-map operationOfItem (half (flagNumber b) items) k in
+      let same : flaggedMotion (withFlag (flagNumber b) i) ≡ flaggedBy b f = λ k. record { element = (ap motionOf q ∙ e) k; flag = number-flag b k } in
+      mem-cast (sym same) (mem-map flaggedMotion (half-listed (flagNumber b) items i n))

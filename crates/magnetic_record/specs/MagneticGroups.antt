@@ -8,7 +8,7 @@ use mathlib.Core.List.{List, map, List·Memᴰ as Mem, Memᴰ·map as mem-map, M
 use Prim.Native.Nat.{_≤_}
 use lib.ListN.{length, length-map}
 use Rattle.laws.specs.Matrix.{Matrix, Vector, act, act-times, act-unit}
-use Rattle.laws.specs.Motion.{SpaceMotion, compose, identity, product, compose-assoc, identity-compose, compose-identity}
+use Rattle.laws.specs.Motion.{SpaceMotion, compose, identity, product, compose-assoc, identity-compose, compose-identity, translationBy}
 use Rattle.laws.specs.Lattice.{InLattice}
 use Rattle.laws.specs.LatticeMaps.{MapsInto, MapsOnto, onto-unimodular}
 use Rattle.group_growth.specs.Flagged.{xor, flagged≡, flaggedBy, held}
@@ -19,12 +19,11 @@ use Rattle.centering.specs.Lattices.{points}
 use Rattle.centering.specs.declared.Centering.{Centering}
 use Rattle.group_record.specs.Groups.{InSet}
 use Rattle.group_record.specs.ListedForm.{alike-reflexive, alike-transitive, form-listing}
-use Rattle.group_record.specs.OneRecord.{translationBy}
 use Rattle.group_record.specs.GroupLaws.{compose-alike, SpaceGroup, Closed, closed-group}
 use Rattle.group_record.specs.Converse.{conjugated, identity-in-form}
 use Rattle.magnetic_record.specs.SecondEdition.{MagneticItem}
 use Rattle.magnetic_record.specs.Groups.{FlaggedMotion, composeFlagged, InMagneticSet, MagneticAllowed, flaggedMotion, motionsOf}
-use Rattle.magnetic_record.specs.Halves.{numberOf, GoodMagnetic, operationsOf, half-form, motion-half, half-motion}
+use Rattle.magnetic_record.specs.Halves.{flagNumber, GoodMagnetic, operationsOf, half-form, motion-half, half-motion}
 
 -- A set of flagged motions that is a group, with the translations of L and no other among those without the flag.
 pub record MagneticGroup (c : Centering) (Inside : FlaggedMotion → Type 0) : Type 0 where
@@ -60,11 +59,11 @@ module _ (c : Centering) (items : List MagneticItem) (g : GoodMagnetic c items) 
   Inside = InMagneticSet c (motionsOf items)
 
   -- A flagged motion is in the set exactly if its motion is in that of the half of its flag.
-  pub half-set : (b : Bool) (m : SpaceMotion) → Inside (flaggedBy b m) ↔ InSet c (map motionOf (operationsOf (numberOf b) items)) m
+  pub half-set : (b : Bool) (m : SpaceMotion) → Inside (flaggedBy b m) ↔ InSet c (map motionOf (operationsOf (flagNumber b) items)) m
   half-set b m = (
     (λ (f, n, (flag, near)).
         let there = motion-half items (g .flag) (f .flag) (f .element) n in
-        (f .element, subst (λ (d : Bool). Mem (f .element) (map motionOf (operationsOf (numberOf d) items))) (sym flag) there, near)),
+        (f .element, subst (λ (d : Bool). Mem (f .element) (map motionOf (operationsOf (flagNumber d) items))) (sym flag) there, near)),
     λ (f, n, near). (flaggedBy b f, half-motion items (g .flag) b f n, (refl, near)),
   )
 

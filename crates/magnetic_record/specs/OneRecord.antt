@@ -10,7 +10,7 @@ use native.Mathlib.Omega.{arith}
 use lib.Dec.{eqb, eqb-refl}
 use borrow.Author.Tests.{eqb-true, eq-eqb, ne-eqb}
 use Rattle.laws.specs.Matrix.{Vector}
-use Rattle.laws.specs.Motion.{SpaceMotion, identity}
+use Rattle.laws.specs.Motion.{SpaceMotion, identity, translationBy}
 use Rattle.laws.specs.Distinct.{has, Distinct, nil, cons, Equivalence, Mem→has, distinct-equal, eqb-equivalence}
 use Rattle.laws.specs.Lattice.{InLattice}
 use Rattle.laws.specs.Sorted.{Sorted, key-strict, key-decides, key-total, unique, sort-member, member-sort, sort-sorted}
@@ -31,12 +31,12 @@ use Rattle.group_record.specs.OperationItems.{itemOf, operationOfItem}
 use Rattle.group_record.specs.Record.{smallestOperation}
 use Rattle.group_record.specs.Groups.{Alike, sameCode}
 use Rattle.group_record.specs.ListedForm.{alike-reflexive, alike-symmetric, alike-transitive, alike-smallest, smallest-alike, form-smallest, form-listing}
-use Rattle.group_record.specs.OneRecord.{translationBy, pure-translations, operation-of-item}
+use Rattle.group_record.specs.OneRecord.{pure-translations, operation-of-item}
 use Rattle.group_record.specs.GroupLaws.{identity-listed}
 use Rattle.group_record.specs.ReadingTests.{item-of-operation, identity-entries, origin-smallest}
 use Rattle.magnetic_record.specs.SecondEdition.{MagneticItem, magnetic≡, magneticKey, secondEdition}
 use Rattle.magnetic_record.specs.Groups.{FlaggedMotion, Near, InMagneticSet, flaggedMotion, motionsOf}
-use Rattle.magnetic_record.specs.Halves.{numberOf, listed-half, GoodMagnetic, half-form, flag-number, number-flag, motion-half}
+use Rattle.magnetic_record.specs.Halves.{flagNumber, listed-half, GoodMagnetic, half-form, flag-number, number-flag, motion-half}
 use Rattle.magnetic_record.specs.Record.{magneticItem, smallestItem, keyBefore, magneticForm, magneticRecord}
 use Rattle.magnetic_record.specs.MagneticGroups.{half-set}
 
@@ -66,7 +66,7 @@ same-item c items others g h into i m =
     let same : f ≡ d = sym (form-smallest c F f inside) ∙ alike-smallest c f d (F .entries f inside) (K .entries d there) alike ∙ form-smallest c K d there in
     let plains : i .plain ≡ j .plain = sym (item-of-operation (i .plain) (g .code i m)) ∙ ap itemOf same ∙ item-of-operation (j .plain) (h .code j k) in
     let truth : eqb (i .flag) 1 ≡ eqb (j .flag) 1 = flag ∙ sym (ap (λ (x : FlaggedMotion). x .flag) e) in
-    let flags : i .flag ≡ j .flag = sym (flag-number (i .flag) (g .flag i m)) ∙ ap numberOf truth ∙ flag-number (j .flag) (h .flag j k) in
+    let flags : i .flag ≡ j .flag = sym (flag-number (i .flag) (g .flag i m)) ∙ ap flagNumber truth ∙ flag-number (j .flag) (h .flag j k) in
     mem-cast (magnetic≡ plains flags) k
 
 -- Records of good items are equal byte for byte exactly when their sets of flagged motions are.
@@ -133,7 +133,7 @@ told-alike x y u v forth back = go (eqb u v) refl (eqb x y) refl
     go false p false q = refl
 
 -- Keys are equal exactly if codes and flags are.
-key-numbers : (a b : ℕ) (m n : Bool) → eqb (2 * a + numberOf m) (2 * b + numberOf n) ≡ sameFlag m n && eqb a b
+key-numbers : (a b : ℕ) (m n : Bool) → eqb (2 * a + flagNumber m) (2 * b + flagNumber n) ≡ sameFlag m n && eqb a b
 key-numbers a b true true = told-alike (2 * a + 1) (2 * b + 1) a b (λ e. omega arith) (λ e. omega arith)
 key-numbers a b true false = ne-eqb (2 * a + 1) (2 * b + 0) (λ e. absurd (omega arith))
 key-numbers a b false true = ne-eqb (2 * a + 0) (2 * b + 1) (λ e. absurd (omega arith))
@@ -184,7 +184,7 @@ module _ (c : Centering) where
       let once = smallest-same c (smallestOf c t) t .0 (smallest-is c t (smallestOf c t) .1 refl .class) in
       smallest-is c (smallestOf c t) (smallestOf c t) .1 (sym once)
 
-  number-small : (b : Bool) → numberOf b ≤ 1
+  number-small : (b : Bool) → flagNumber b ≤ 1
   number-small true = omega arith
   number-small false = omega arith
 

@@ -6,7 +6,7 @@ use mathlib.Core.Path.{refl}
 use Prim.Native.Nat.{ℕ, _+_, _%_}
 use lib.Dec.{eqb, leb}
 use Rattle.laws.specs.Distinct.{has}
-use Rattle.laws.specs.Lattice.{all}
+use Rattle.laws.specs.Truth.{all}
 use Rattle.operation.specs.Product.{identityOperation}
 use Rattle.centering.specs.Letters.{byteOf}
 use Rattle.centering.specs.declared.Centering.{Centering}

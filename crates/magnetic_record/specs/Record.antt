@@ -13,11 +13,11 @@ use Rattle.group_record.specs.Editions.{framed}
 use Rattle.group_record.specs.OperationItems.{itemOf}
 use Rattle.group_record.specs.Record.{smallestOperation}
 use Rattle.magnetic_record.specs.SecondEdition.{MagneticItem, magneticKey, secondEdition}
-use Rattle.magnetic_record.specs.Halves.{numberOf}
+use Rattle.magnetic_record.specs.Halves.{flagNumber}
 
 -- The item of a flagged operation.
 abbrev pub magneticItem : Flagged Operation → MagneticItem
-magneticItem f = record { plain = itemOf (f .element); flag = numberOf (f .flag) }
+magneticItem f = record { plain = itemOf (f .element); flag = flagNumber (f .flag) }
 
 -- Its item with the smallest triple of its translation's class.
 abbrev pub smallestItem : Centering → Flagged Operation → MagneticItem

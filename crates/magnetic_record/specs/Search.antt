@@ -9,21 +9,19 @@ use native.Mathlib.Decide.{ℕ-discrete, decLt}
 use borrow.Author.Tests.{eqb-true, eq-eqb}
 use lib.Dec.{eqb, leb}
 use lib.ListN.{length, drop}
-use Rattle.laws.specs.Distinct.{has}
-use Rattle.laws.specs.Lattice.{same-test}
+use Rattle.laws.specs.Distinct.{has, has-true}
 use Rattle.laws.specs.Sorted.{sorted-places}
-use Rattle.group_growth.specs.Lists.{member-at, member-index}
+use Rattle.laws.specs.Truth.{same-test, both-true, fails, holds}
+use Rattle.laws.specs.Indices.{member-at, member-index}
 use Rattle.operation.specs.Code.{codeOf}
 use Rattle.operation.specs.declared.Operation.{Operation}
 use Rattle.centering.specs.Lattices.{congruentOf}
-use Rattle.centering.specs.LatticeLaws.{holds}
 use Rattle.centering.specs.declared.Centering.{Centering}
 use Rattle.group_record.specs.Items.{itemsIn, items-length, item-at}
 use Rattle.group_record.specs.OperationItems.{itemOf, InRange}
 use Rattle.group_record.specs.declared.items.Item.{Item}
 use Rattle.group_record.specs.Reading.{isItem, alikeItems}
 use Rattle.group_record.specs.Rules.{areGood}
-use Rattle.group_record.specs.Tests.{both-true, has-true, fails}
 use Rattle.group_record.specs.Outcomes.{good-test}
 use Rattle.magnetic_record.specs.SecondEdition.{MagneticItem, magneticIn, magneticKey}
 use Rattle.magnetic_record.specs.Reading.{isMagneticItem, half, magneticRules}

@@ -22,7 +22,7 @@ use Rattle.group_record.specs.ListedForm.{alike-symmetric}
 use Rattle.group_record.specs.GroupLaws.{compose-alike}
 use Rattle.magnetic_group.specs.Acceptance.{MagneticAccepted}
 use Rattle.magnetic_group.specs.Members.{identity-first, at-most-96, ownPair, pair-generated, pairs-once, product-member, member-keeps}
-use Rattle.magnetic_group.specs.SetOfMotions.{InSet, set-exactly}
+use Rattle.magnetic_group.specs.SetOfMotions.{InFlaggedSet, set-exactly}
 use Rattle.magnetic_record.specs.SecondEdition.{secondEdition}
 use Rattle.magnetic_record.specs.Reading.{magneticRules}
 use Rattle.magnetic_record.specs.Groups.{FlaggedMotion, composeFlagged, Near, InMagneticSet, MagneticAllowed, flaggedMotion, motionsOf}
@@ -123,7 +123,7 @@ module _ (c : Centering) (gens operations : List (Flagged Operation)) (steps : L
       magnetic-reads-back c (magneticForm c operations) (form-good c operations accepted-listing) allowed front
 
   -- The set of the generators is that of the list.
-  listed-set : (m : FlaggedMotion) → InSet c gens m ↔ InMagneticSet c (map (imageFlagged motionOf) operations) m
+  listed-set : (m : FlaggedMotion) → InFlaggedSet c gens m ↔ InMagneticSet c (map (imageFlagged motionOf) operations) m
   listed-set m =
       let (forth, back) = set-exactly c gens operations steps A m in (
         (λ s. let (o, k, near) = forth s in (imageFlagged motionOf o, mem-map (imageFlagged motionOf) k, near)),
@@ -133,7 +133,7 @@ module _ (c : Centering) (gens operations : List (Flagged Operation)) (steps : L
 -- Two accepted symbols have one record exactly if their sets of flagged motions, all finite products of generators and translations by L, are equal.
 pub symbols-say-sets : (c d : Centering) (gens others operations answers : List (Flagged Operation)) (steps moves : List ℕ)
     → MagneticAccepted c gens operations steps → MagneticAccepted d others answers moves
-    → (magneticRecord c operations ≡ magneticRecord d answers) ↔ ((m : FlaggedMotion) → InSet c gens m ↔ InSet d others m)
+    → (magneticRecord c operations ≡ magneticRecord d answers) ↔ ((m : FlaggedMotion) → InFlaggedSet c gens m ↔ InFlaggedSet d others m)
 symbols-say-sets c d gens others operations answers steps moves A B =
     let (forth, back) =
     magnetic-records-say-sets c d operations answers (accepted-listing c gens operations steps A) (accepted-listing d others answers moves B)

@@ -15,6 +15,7 @@ use Rattle.operation.specs.Answer.{refused as not-given}
 use Rattle.operation.specs.declared.Operation.{Operation}
 use Rattle.centering.specs.declared.Centering.{Centering}
 use Rattle.hall_symbol.specs.Spelling.{Spells}
+use Rattle.hall_symbol.specs.Agreement.{spells-once}
 use Rattle.space_group.specs.FlaggedGenerators.{withFlags}
 use Rattle.magnetic_symbol.specs.Reversals.{blanked}
 use Rattle.magnetic_symbol.specs.Told.{MagneticSpells}
@@ -22,14 +23,13 @@ use Rattle.magnetic_symbol.specs.Texts.{taken-off-exactly}
 use Rattle.magnetic_group.specs.Generated.{group, refused}
 use Rattle.magnetic_group.specs.Symbols.{SymbolOutcome, made, misread, magneticOutcome, made-spelled, symbol-list}
 use Rattle.magnetic_group.specs.Answers.{orderBy, orderAnswer}
-use Rattle.magnetic_group.specs.SetOfMotions.{InSet}
+use Rattle.magnetic_group.specs.SetOfMotions.{InFlaggedSet}
 use Rattle.magnetic_group.specs.Told.{told}
 use Rattle.group_record.specs.Editions.{totalLength}
 use Rattle.record_writing.specs.Places.{roomFrom, placedIn, placed-end}
 use Rattle.group_record.specs.Rules.{holds, toldBy}
 use Rattle.record_writing.specs.WritingNumbers.{noRoom, orNoRoom, WantsRoom, no-room-exactly, room-as}
 use Rattle.record_writing.specs.SymbolRecords.{symbolRecordAnswer}
-use Rattle.record_writing.specs.SymbolSets.{spells-once}
 use Rattle.record_writing.specs.declared.SymbolRecord.{SymbolRecord}
 use Rattle.record_writing.specs.declared.SymbolRecord.the-variants.{Written, NoRoom, Refused as NotWritten}
 use Rattle.magnetic_record.specs.Reading.{magneticRules}
@@ -150,14 +150,14 @@ magnetic-spells-once text c d gs hs fs es S T =
 
 -- The set of flagged motions of a text: it spells a symbol, and the motion is a finite product of its generators with their flags and translations by L.
 abbrev pub InSetOfText : List ℕ → FlaggedMotion → Type 0
-InSetOfText text m = (c : Centering) × (gs : List Operation) × (fs : List Bool) × MagneticSpells text c gs fs × InSet c (withFlags gs fs) m
+InSetOfText text m = (c : Centering) × (gs : List Operation) × (fs : List Bool) × MagneticSpells text c gs fs × InFlaggedSet c (withFlags gs fs) m
 
 own-set : (text : List ℕ) (c : Centering) (gs : List Operation) (fs : List Bool) → MagneticSpells text c gs fs → (m : FlaggedMotion)
-    → InSetOfText text m ↔ InSet c (withFlags gs fs) m
+    → InSetOfText text m ↔ InFlaggedSet c (withFlags gs fs) m
 own-set text c gs fs S m = (
   (λ (d, hs, es, T, inside).
       let (letters, generators) = magnetic-spells-once text d c hs gs es fs T S in
-      subst (λ (l : List (Flagged Operation)). InSet c l m) generators (subst (λ (x : Centering). InSet x (withFlags hs es) m) letters inside)),
+      subst (λ (l : List (Flagged Operation)). InFlaggedSet c l m) generators (subst (λ (x : Centering). InFlaggedSet x (withFlags hs es) m) letters inside)),
   λ inside. (c, gs, fs, S, inside),
 )
 

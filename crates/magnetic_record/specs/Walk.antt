@@ -8,8 +8,8 @@ use native.Mathlib.Omega.{arith}
 use native.Mathlib.Numerals.{add-one}
 use lib.ListN.{length, drop}
 use lib.Seq.{drop-cons, drop-length}
-use Rattle.laws.specs.Lattice.{all}
 use Rattle.laws.specs.Sorted.{ascending}
+use Rattle.laws.specs.Truth.{all}
 use Rattle.group_record.specs.Items.{itemsIn, items-length, item-at}
 
 module _ {A : Type 0} (width : ℕ) (read : List ℕ → A) (n : ℕ) (bytes : List ℕ) where

@@ -3,7 +3,7 @@ ghost use mathlib.Core.Path.{_≡_};
 ghost use Prim.Native.Nat.{_+_, _*_, _%_, _≤_, _<_};
 ghost use lib.ListN.{length};
 ghost use Rattle.laws.specs.Distinct.{has};
-ghost use Rattle.laws.specs.Lattice.{all};
+ghost use Rattle.laws.specs.Truth.{all};
 ghost use Rattle.operation.specs.Product.{productOf};
 ghost use Rattle.packed_operation.specs.Number.{saidBy, flagOf};
 ghost use Rattle.group_record.specs.OperationItems.{itemOf};

@@ -2,8 +2,9 @@
 ghost use mathlib.Core.Path.{_≡_};
 ghost use Prim.Native.Nat.{_+_, _*_, _≤_};
 ghost use lib.ListN.{length};
-ghost use Rattle.laws.specs.Lattice.{all, sameTriple};
+ghost use Rattle.laws.specs.Lattice.{sameTriple};
 ghost use Rattle.laws.specs.Sorted.{ascending};
+ghost use Rattle.laws.specs.Truth.{all};
 ghost use Rattle.centering.specs.Lattices.{tripleOf};
 ghost use Rattle.group_record.specs.Editions.{fromEnd};
 ghost use Rattle.group_record.specs.Rules.{lengthFits, areGood};

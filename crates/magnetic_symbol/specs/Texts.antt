@@ -3,7 +3,7 @@
 -- The idea: a text is cut at its first token, whose copy is known, and what follows is a shorter text.
 use mathlib.Core.Path.{_≡_, refl, sym, _∙_, ap, ap₂, subst}
 use mathlib.Core.Logic.{_⊎_, inl, inr, _↔_}
-use mathlib.Core.Bool.{Bool, true, false, cond, true≢false}
+use mathlib.Core.Bool.{Bool, true, false, cond, true≢false, and-false}
 use mathlib.Core.List.{List, [], _∷_, _++_, append-assoc, append-nil}
 use Prim.Native.Nat.{ℕ, zero, suc, _+_, _<_}
 use native.Mathlib.Omega.{arith}
@@ -16,11 +16,12 @@ use Rattle.hall_symbol.specs.Cut.{Cut, FirstToken, solid-not-whitespace, whites
 use Rattle.hall_symbol.specs.Cut as cut
 use Rattle.hall_symbol.specs.Spelling.{Opens}
 use Rattle.hall_symbol.specs.Tokens.{tokenAt, tokensFrom, tokens, bytesOf}
+use Rattle.hall_symbol.specs.Agreement.{opens-append}
 use Rattle.magnetic_symbol.specs.TimeReversals.{ReadAs, reversal, same, gapOf, Unreversed, end, shift, token, inversionFlag, TakenOff, blank, first}
 use Rattle.magnetic_symbol.specs.TimeReversals.{TokensReadAs, none, shift-token, token-read, TextReadAs, no-token}
 use Rattle.magnetic_symbol.specs.TimeReversals as rules
 use Rattle.magnetic_symbol.specs.Reversals.{ends, blankedFrom, blanked, flagsFrom, flagsOf}
-use Rattle.magnetic_symbol.specs.TokenCopies.{both-false, not-solid-whitespace, blank-copy, blank-flags, open-copy, open-flags}
+use Rattle.magnetic_symbol.specs.TokenCopies.{not-solid-whitespace, blank-copy, blank-flags, open-copy, open-flags}
 use Rattle.magnetic_symbol.specs.Tokens.{TokenCopy, token-copy, every-left}
 use Rattle.magnetic_symbol.specs.declared.reversals.Mode.the-variants.{Before, First, Between}
 
@@ -141,8 +142,8 @@ first-copy (b ∷ t) after h k = rw (solid-not-whitespace b (h .0)) (ap (λ (l :
 first-flags : (t after : List ℕ) → Every solid t → Stops solid after → flagsFrom First (t ++ after) ≡ flagsFrom Between after
 unfolding flagsFrom
 first-flags [] [] h k = refl
-first-flags [] (b ∷ s) h k = rw (not-solid-whitespace b k, both-false (ends s))
-first-flags (b ∷ t) after h k = rw (solid-not-whitespace b (h .0), both-false (ends (t ++ after))) (first-flags t after (h .1) k)
+first-flags [] (b ∷ s) h k = rw (not-solid-whitespace b k, and-false (ends s))
+first-flags (b ∷ t) after h k = rw (solid-not-whitespace b (h .0), and-false (ends (t ++ after))) (first-flags t after (h .1) k)
 
 minus-solid : whitespace 45 ≡ false
 unfolding whitespace
@@ -158,7 +159,7 @@ no-minus b h = go (eqb b 45) refl
 blank-byte : (b : ℕ) (s : List ℕ) → whitespace b ≡ true
     → (blankedFrom Before (b ∷ s) ≡ b ∷ blankedFrom Before s) × (flagsFrom Before (b ∷ s) ≡ flagsFrom Before s)
 unfolding blankedFrom flagsFrom
-blank-byte b s h = (rw h, rw (h, no-minus b h, both-false (ends s)))
+blank-byte b s h = (rw h, rw (h, no-minus b h, and-false (ends s)))
 
 before-blank : (w s : List ℕ) → Every whitespace w
     → (blankedFrom Before (w ++ s) ≡ w ++ blankedFrom Before s) × (flagsFrom Before (w ++ s) ≡ flagsFrom Before s)
@@ -178,7 +179,7 @@ start-flags b s h = go (eqb b 45) refl
   where
     go : (minus : Bool) → eqb b 45 ≡ minus → flagsFrom Before (b ∷ s) ≡ cond minus (false ∷ []) [] ++ flagsFrom First s
     go true e = rw (e, solid-not-whitespace b h)
-    go false e = rw (e, solid-not-whitespace b h, both-false (ends s))
+    go false e = rw (e, solid-not-whitespace b h, and-false (ends s))
 
 before-token : (t after : List ℕ) → 0 < length t → Every solid t → Stops solid after
     → (blankedFrom Before (t ++ after) ≡ t ++ blankedFrom Between after) × (flagsFrom Before (t ++ after) ≡ inversionFlag t ++ flagsFrom Between after)
@@ -272,10 +273,6 @@ read-cut s w t after u later flag flags cut read rest =
     behind : (f : Bool) → Stops solid (gapOf f ++ later)
     behind true = space-apart
     behind false = stays-apart rest (cut .apart)
-
-opens-append : (t after : List ℕ) → Opens t → Opens (t ++ after)
-opens-append [] after o = absurd o
-opens-append (b ∷ t) after o = o
 
 unreversed-tokens : {s copy : List ℕ} {flags : List Bool} → Unreversed s copy flags → (p : ℕ) (gap : List ℕ) → Every whitespace gap
     → TokensReadAs (tokensFrom (p + length gap) true s) (tokensFrom p true (gap ++ copy)) flags

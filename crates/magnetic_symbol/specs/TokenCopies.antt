@@ -1,6 +1,6 @@
 -- One token's bytes and its copy: a token without a time reversal stays, and one with it loses its last byte; and the flag that it gives.
 use mathlib.Core.Path.{_≡_, refl, sym, _∙_, ap, subst}
-use mathlib.Core.Bool.{Bool, true, false, cond, _&&_, true≢false}
+use mathlib.Core.Bool.{Bool, true, false, cond, true≢false, and-false}
 use mathlib.Core.List.{List, [], _∷_, _++_}
 use Prim.Native.Nat.{ℕ}
 use lib.Dec.{eqb}
@@ -12,10 +12,6 @@ use Rattle.magnetic_symbol.specs.TimeReversals.{prime, unprimed}
 use Rattle.magnetic_symbol.specs.Reversals.{after, ends, reverses, gives, copiedByte, blankedFrom, flagsFrom}
 use Rattle.magnetic_symbol.specs.declared.reversals.Mode.{Mode}
 use Rattle.magnetic_symbol.specs.declared.reversals.Mode.the-variants.{Between, Unmarked, Marked, Rest}
-
-pub both-false : (a : Bool) → a && false ≡ false
-both-false true = refl
-both-false false = refl
 
 pub not-solid-whitespace : (b : ℕ) → solid b ≡ false → whitespace b ≡ true
 unfolding solid
@@ -58,7 +54,7 @@ blank-copy (b ∷ w) s h = rw (h .0) (ap (λ (l : List ℕ). b ∷ l) (blank-cop
 pub blank-flags : (w s : List ℕ) → Every whitespace w → flagsFrom Between (w ++ s) ≡ flagsFrom Between s
 unfolding flagsFrom
 blank-flags [] s h = refl
-blank-flags (b ∷ w) s h = rw (h .0, both-false (ends (w ++ s))) (blank-flags w s (h .1))
+blank-flags (b ∷ w) s h = rw (h .0, and-false (ends (w ++ s))) (blank-flags w s (h .1))
 
 -- ---- from a token that starts with `(` on
 rest-copy : (s : List ℕ) → blankedFrom Rest s ≡ s
@@ -69,7 +65,7 @@ rest-copy (b ∷ s) = ap (λ (l : List ℕ). b ∷ l) (rest-copy s)
 rest-flags : (s : List ℕ) → flagsFrom Rest s ≡ []
 unfolding flagsFrom
 rest-flags [] = refl
-rest-flags (b ∷ s) = rw (both-false (ends s)) (rest-flags s)
+rest-flags (b ∷ s) = rw (and-false (ends s)) (rest-flags s)
 
 pub open-copy : (b : ℕ) (s : List ℕ) → solid b ≡ true → opening b ≡ true → blankedFrom Between (b ∷ s) ≡ b ∷ s
 unfolding blankedFrom
@@ -77,7 +73,7 @@ open-copy b s h k = rw (solid-not-whitespace b h, k) (ap (λ (l : List ℕ). b �
 
 pub open-flags : (b : ℕ) (s : List ℕ) → solid b ≡ true → opening b ≡ true → flagsFrom Between (b ∷ s) ≡ []
 unfolding flagsFrom
-open-flags b s h k = rw (solid-not-whitespace b h, k, both-false (ends s)) (rest-flags s)
+open-flags b s h k = rw (solid-not-whitespace b h, k, and-false (ends s)) (rest-flags s)
 
 -- ---- behind a token
 unmarked-stop : (s : List ℕ) → Stops solid s → (blankedFrom Unmarked s ≡ blankedFrom Between s) × (flagsFrom Unmarked s ≡ flagsFrom Between s)
@@ -86,12 +82,12 @@ unmarked-stop [] h = (refl, refl)
 unmarked-stop (b ∷ s) h =
     let w = not-solid-whitespace b h in
     let u = whitespace-unprimed b w in
-    (rw (w, u), rw (w, both-false (ends s)))
+    (rw (w, u), rw (w, and-false (ends s)))
 
 marked-stop : (s : List ℕ) → Stops solid s → (blankedFrom Marked s ≡ blankedFrom Between s) × (flagsFrom Marked s ≡ flagsFrom Between s)
 unfolding blankedFrom flagsFrom
 marked-stop [] h = (refl, refl)
-marked-stop (b ∷ s) h = let w = not-solid-whitespace b h in (rw w, rw (w, both-false (ends s)))
+marked-stop (b ∷ s) h = let w = not-solid-whitespace b h in (rw w, rw (w, and-false (ends s)))
 
 -- ---- behind a `'`
 pub marked-copy : (t after : List ℕ) → Every solid t → Stops solid after → blankedFrom Marked (t ++ after) ≡ t ++ blankedFrom Between after

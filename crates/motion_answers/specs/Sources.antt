@@ -16,7 +16,7 @@ use Rattle.subgroup_laws.specs.Lists.{subgroupsOf, representativesOf}
 use Rattle.subgroup_laws.specs.Permutations.{permutationOf}
 use Rattle.subgroup_laws.specs.Table.{product, GroupTable}
 use Rattle.group_table_theorems.specs.TableAnswers.{symbol-cells-group}
-use Rattle.group_table.specs.Tables.{symbolCells, recordOrder, recordCells}
+use Rattle.group_table.specs.Tables.{symbolCells, orderOfRecord, recordCells}
 use Rattle.group_table.specs.declared.RecordOrder.the-variants as record-order
 use Rattle.finite_group.specs.Answers.{tableAnswer, identityAnswer, subgroupsAnswer, subgroupsBytes, classesAnswer, classesBytes, conjugateEntry, normalizerEntry, permutationEntry, permutationList, conjugatesEntry, conjugatesList, conjugatorsList}
 use Rattle.table_check.specs.TableVerdict.{checked-table}
@@ -105,15 +105,15 @@ module _ (text : List ℕ) where
 
 -- ---- records
 module _ (bytes : List ℕ) where
-  pub record-refused : (r : record-refusal.Refusal) → recordOrder bytes ≡ record-order.Refused r → (f : ℕ → List ℕ → table.Answer)
+  pub record-refused : (r : record-refusal.Refusal) → orderOfRecord bytes ≡ record-order.Refused r → (f : ℕ → List ℕ → table.Answer)
       → motionAnswer (onRecord bytes f) ≡ told.refused (refusalNumber r) 0 tt
   record-refused r p f = rw p refl
 
-  pub record-untouched : (r : record-refusal.Refusal) → recordOrder bytes ≡ record-order.Refused r → (b : List ℕ) (g : ℕ → List ℕ → List ℕ)
+  pub record-untouched : (r : record-refusal.Refusal) → orderOfRecord bytes ≡ record-order.Refused r → (b : List ℕ) (g : ℕ → List ℕ → List ℕ)
       → bytesOnRecord bytes b g ≡ b
   record-untouched r p b g = rw p refl
 
-  pub record-entries : Bytes bytes → (n : ℕ) → recordOrder bytes ≡ record-order.Is n
+  pub record-entries : Bytes bytes → (n : ℕ) → orderOfRecord bytes ≡ record-order.Is n
       → (e : ℕ) × Entries n (recordCells bytes) e (onRecord bytes) (bytesOnRecord bytes)
   record-entries small n p =
       let (e, accepted) = record-table-accepted bytes small n p in

@@ -11,14 +11,14 @@ use Rattle.group_record.specs.Acceptance.{Bytes}
 use Rattle.group_record.specs.Reading.{readOf}
 use Rattle.group_record.specs.declared.RecordGroup.{RecordGroup}
 use Rattle.subgroup_laws.specs.Table.{GroupTable}
-use Rattle.subgroup_laws.specs.TableLaws.{square-limit}
+use Rattle.subgroup_laws.specs.TableCells.{square-limit}
 use Rattle.group_table.specs.Overlay.{laid-front}
-use Rattle.group_table.specs.Tables.{symbolCells, recordOrderBy, recordOrder, recordCells, laid}
+use Rattle.group_table.specs.Tables.{symbolCells, orderOfRecordBy, orderOfRecord, recordCells, laid}
 use Rattle.group_table_theorems.specs.TableAnswers.{symbol-cells-group, record-cells-group}
 use Rattle.group_table.specs.declared.RecordOrder.{RecordOrder}
 use Rattle.group_table.specs.declared.RecordOrder.the-variants as record-order
 use Rattle.finite_group.specs.Answers.{identityAnswer}
-use Rattle.table_check.specs.TableCheck.{Accepts}
+use Rattle.table_check.specs.CheckAnswers.{Accepts}
 use Rattle.table_check.specs.TableVerdict.{accepted-exactly}
 use Rattle.table_check.specs.declared.Answer.the-variants as group-answers
 use Rattle.motion_group.specs.Answers.{ofSymbol, ofRecord}
@@ -39,13 +39,13 @@ pub symbol-identity-first : (text : List ℕ) (n : ℕ) → orderOf text ≡ sym
 symbol-identity-first text n p = rw (symbol-table-accepted text n p) refl
 
 -- and that of every record that is read.
-pub record-table-accepted : (bytes : List ℕ) → Bytes bytes → (n : ℕ) → recordOrder bytes ≡ record-order.Is n → (e : ℕ) × Accepts n (recordCells bytes) e
+pub record-table-accepted : (bytes : List ℕ) → Bytes bytes → (n : ℕ) → orderOfRecord bytes ≡ record-order.Is n → (e : ℕ) × Accepts n (recordCells bytes) e
 record-table-accepted bytes b n p = (_, table-accepted n _ (recordCells bytes) (record-cells-group bytes b n p))
 
 -- The order of a record is what was read.
-pub order-read : (bytes : List ℕ) (g : RecordGroup) → g ≡ readOf bytes → recordOrder bytes ≡ recordOrderBy (g .answer) (g .count)
-unfolding recordOrder
-order-read bytes g e = ap (λ (h : RecordGroup). recordOrderBy (h .answer) (h .count)) (sym e)
+pub order-read : (bytes : List ℕ) (g : RecordGroup) → g ≡ readOf bytes → orderOfRecord bytes ≡ orderOfRecordBy (g .answer) (g .count)
+unfolding orderOfRecord
+order-read bytes g e = ap (λ (h : RecordGroup). orderOfRecordBy (h .answer) (h .count)) (sym e)
 
 -- ---- the slots
 -- What was filled is what was given.
@@ -75,10 +75,10 @@ symbol-holds text lent wide = record { first = λ n e. by-order n (orderOf text)
 
 -- and of a record that is read.
 pub record-holds : (bytes lent : List ℕ) → Bytes bytes → 2304 ≤ length lent
-    → Holds (ofRecord (recordOrder bytes)) (recordCells bytes) (laid (recordCells bytes) lent)
-record-holds bytes lent b wide = record { first = λ n e. by-order n (recordOrder bytes) refl e }
+    → Holds (ofRecord (orderOfRecord bytes)) (recordCells bytes) (laid (recordCells bytes) lent)
+record-holds bytes lent b wide = record { first = λ n e. by-order n (orderOfRecord bytes) refl e }
   where
-    by-order : (n : ℕ) (o : RecordOrder) → recordOrder bytes ≡ o → ofRecord o ≡ Group n → (n ≤ 48) × (n * n ≤ length (laid (recordCells bytes) lent))
+    by-order : (n : ℕ) (o : RecordOrder) → orderOfRecord bytes ≡ o → ofRecord o ≡ Group n → (n ≤ 48) × (n * n ≤ length (laid (recordCells bytes) lent))
         × (take (n * n) (laid (recordCells bytes) lent) ≡ recordCells bytes)
     by-order n (record-order.Is m) p e =
         let same : m ≡ n = cc in

@@ -9,7 +9,7 @@ use Rattle.symbol_group.specs.declared.SymbolOrder.the-variants as symbol-order
 use Rattle.symbol_group.specs.declared.refusal.Refusal as symbol-refusal
 use Rattle.group_record.specs.Reading.{refusalNumber}
 use Rattle.group_record.specs.declared.Refusal as record-refusal
-use Rattle.group_table.specs.Tables.{symbolCells, recordOrder, recordCells}
+use Rattle.group_table.specs.Tables.{symbolCells, orderOfRecord, recordCells}
 use Rattle.group_table.specs.declared.RecordOrder.{RecordOrder}
 use Rattle.group_table.specs.declared.RecordOrder.the-variants as record-order
 use Rattle.finite_group.specs.Answers as group
@@ -72,7 +72,7 @@ ofRecord (record-order.Is n) = Given n
 ofRecord (record-order.Refused r) = NotGiven (recordRefusal r)
 
 abbrev pub onRecord : List ℕ → (ℕ → List ℕ → group-answer.Answer) → Answer
-onRecord bytes f = onSource (ofRecord (recordOrder bytes)) (λ n. f n (recordCells bytes))
+onRecord bytes f = onSource (ofRecord (orderOfRecord bytes)) (λ n. f n (recordCells bytes))
 
 abbrev pub bytesOnRecord : List ℕ → List ℕ → (ℕ → List ℕ → List ℕ) → List ℕ
-bytesOnRecord bytes lent f = bytesOn (ofRecord (recordOrder bytes)) lent (λ n. f n (recordCells bytes))
+bytesOnRecord bytes lent f = bytesOn (ofRecord (orderOfRecord bytes)) lent (λ n. f n (recordCells bytes))

@@ -4,7 +4,7 @@ use mathlib.Core.List.{List}
 use Prim.Native.Nat.{ℕ, _*_, _-_, _≤_}
 use native.Mathlib.Omega.{arith}
 use lib.ListN.{length, take}
-use Rattle.subgroup_laws.specs.TableLaws.{square-limit}
+use Rattle.subgroup_laws.specs.TableCells.{square-limit}
 use Rattle.table_check.specs.declared.Answer as group-answer
 use Rattle.motion_group.specs.Answers.{ofTable, onSource, bytesOn}
 use Rattle.motion_group.specs.declared.Answer.{Answer}

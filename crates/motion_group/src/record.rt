@@ -4,7 +4,7 @@ ghost use mathlib.Core.Path.{_≡_};
 ghost use mathlib.Core.List.{List};
 ghost use Prim.Native.Nat.{ℕ, _≤_};
 ghost use lib.ListN.{length};
-ghost use Rattle.group_table.specs.Tables.{recordOrder, recordCells};
+ghost use Rattle.group_table.specs.Tables.{orderOfRecord, recordCells};
 ghost use Rattle.finite_group.specs.Answers.{identityAnswer, subgroupsAnswer, subgroupsBytes, classesAnswer, classesBytes, conjugateEntry, normalizerEntry, permutationEntry, permutationList, conjugatesEntry, conjugatesList, conjugatorsList};
 ghost use Rattle.table_check.specs.declared.Answer.the-variants.{Value};
 ghost use Rattle.motion_group.specs.Answers.{recordRefusal, ofRecord, onRecord, bytesOnRecord};
@@ -27,7 +27,7 @@ use record_reading::reader::read_record;
 // The table into the cells, and what it is of.
 fn table(bytes: &[u8], cells: &mut [u8]) -> Source
     requires { ⌜ 2304 ≤ length (now cells) ⌝ }
-    ensures { λ r. ⌜ (r ≡ ofRecord (recordOrder (now (bytes .entry)))) × (Holds r (recordCells (now (bytes .entry))) (now (cells .exit))) ⌝ }
+    ensures { λ r. ⌜ (r ≡ ofRecord (orderOfRecord (now (bytes .entry)))) × (Holds r (recordCells (now (bytes .entry))) (now (cells .exit))) ⌝ }
 {
     match fill_cells(bytes, cells) {
         RecordOrder::Is(order) => Source::Group(order),

@@ -9,10 +9,11 @@ use lib.Dec.{leb, leb·suc-suc}
 use lib.IntN.{ℤ, pos, negsuc, natAbs, one, _+ℤ_, _-ℤ_, _*ℤ_, +ℤ-one, -ℤ-one}
 use Rattle.laws.specs.Integer.{ring, outer, cross, _⊖_}
 use Rattle.laws.specs.Matrix.{Matrix, trace, determinant}
+use Rattle.laws.specs.SameMatrix.{sameInteger, integer-exact}
 use Rattle.operation.specs.Below.{allBelow, below}
 use Rattle.operation.specs.Meaning.{entryOf, digitOf, digitAbove, matrixOf, digitsOf, Digits, inside, rowInside, allInside}
 use Rattle.operation.specs.Entries.{three-true, all-entries, digits-entries, digits-stand}
-use Rattle.operation.specs.RotationType.{same, same-equal, identified}
+use Rattle.operation.specs.RotationType.{identified}
 use Rattle.operation.specs.declared.Rotation.{Rotation}
 
 -- Three numbers that are digits.
@@ -47,13 +48,13 @@ product-range a b h k =
     (leb-true _ _ (t .0), leb-true _ _ (t .1), leb-true _ _ (t .2))
 
 -- The fact of `entry-product`, at all digits.
-entry-test : everyDigit (λ a. everyDigit (λ b. same (entryOf (digitOfProduct a b)) (entryOf a *ℤ entryOf b))) ≡ true
+entry-test : everyDigit (λ a. everyDigit (λ b. sameInteger (entryOf (digitOfProduct a b)) (entryOf a *ℤ entryOf b))) ≡ true
 unfolding allBelow digitOfProduct entryOf one
 entry-test = refl
 
 -- The digits of products are right.
 entry-product : (a b : ℕ) → a ≤ 2 → b ≤ 2 → entryOf (digitOfProduct a b) ≡ entryOf a *ℤ entryOf b
-entry-product a b h k = same-equal _ _ (every _ (every _ entry-test a h) b k)
+entry-product a b h k = integer-exact _ _ .0 (every _ (every _ entry-test a h) b k)
 
 -- So are those of threefold products.
 entry-triple : (a b c : ℕ) → a ≤ 2 → b ≤ 2 → c ≤ 2 → entryOf (digitOfTriple a b c) ≡ entryOf a *ℤ (entryOf b *ℤ entryOf c)

@@ -9,7 +9,7 @@ use borrow.Author.Tests.{ltb-true, lt-ltb, lt-leb}
 use lib.IntN.{ℤ, pos, negsuc, negℤ, sucℤ, one, +ℤ-one, -ℤ-one}
 use Rattle.laws.specs.Integer.{nought}
 use Rattle.laws.specs.Matrix.{Matrix, matrix≡}
-use Rattle.operation.specs.Meaning.{entryOf, digitOf, digitAbove, matrixOf, digitsOf, Digits, inside, rowInside, allInside}
+use Rattle.operation.specs.Meaning.{entryOf, digitOf, digitAbove, matrixOf, digitsOf, Digits, inside, rowInside, allInside, rotation≡}
 use Rattle.operation.specs.declared.Rotation.{Rotation}
 
 -- An entry is −1, 0 or 1.
@@ -165,3 +165,18 @@ digits-stand A e =
     (digit-stands _ (e .zx))
     (digit-stands _ (e .zy))
     (digit-stands _ (e .zz))
+
+-- The digits of a rotation's matrix are the rotation's.
+pub digits-again : (r : Rotation) → Digits r → digitsOf (matrixOf r) ≡ r
+unfolding matrixOf
+digits-again r d =
+    rotation≡
+    (digit-again _ (omega (arith, d .xx)))
+    (digit-again _ (omega (arith, d .xy)))
+    (digit-again _ (omega (arith, d .xz)))
+    (digit-again _ (omega (arith, d .yx)))
+    (digit-again _ (omega (arith, d .yy)))
+    (digit-again _ (omega (arith, d .yz)))
+    (digit-again _ (omega (arith, d .zx)))
+    (digit-again _ (omega (arith, d .zy)))
+    (digit-again _ (omega (arith, d .zz)))

@@ -1,13 +1,12 @@
 -- The rotation types by the ten pairs of trace and determinant, and the handedness by the determinant, both of integer matrices
 -- with entries in −1..1. At the end: each contract leaves one answer, and what a handedness says of the matrix.
-use mathlib.Core.Path.{_≡_, refl, ap}
-use mathlib.Core.Bool.{Bool, true, false, false≢true, cond, _&&_}
+use mathlib.Core.Path.{_≡_, refl}
+use mathlib.Core.Bool.{Bool, true, false, cond, _&&_}
 use mathlib.Core.List.{List, [], _∷_}
 use Prim.Native.Nat.{ℕ}
-use borrow.Author.Tests.{eqb-true}
-use lib.Dec.{eqb}
-use lib.IntN.{ℤ, pos, negsuc, negℤ, one}
+use lib.IntN.{ℤ, pos, negℤ, one}
 use Rattle.laws.specs.Matrix.{Matrix, trace, determinant}
+use Rattle.laws.specs.SameMatrix.{sameInteger, integer-exact}
 use Rattle.operation.specs.Meaning.{allInside}
 use Rattle.operation.specs.Answer.{Answer, Nothing, given, refused}
 use Rattle.operation.specs.declared.rotation_type.RotationType.{RotationType}
@@ -21,20 +20,6 @@ use Rattle.operation.specs.declared.rotation_type.Handedness.the-variant
 abbrev pub rows : ℤ → ℤ → ℤ → ℤ → ℤ → ℤ → ℤ → ℤ → ℤ → Matrix
 rows xx xy xz yx yy yz zx zy zz =
     record { xx = xx; xy = xy; xz = xz; yx = yx; yy = yy; yz = yz; zx = zx; zy = zy; zz = zz }
-
--- Whether two integers are equal.
-abbrev pub same : ℤ → ℤ → Bool
-same (pos a) (pos b) = eqb a b
-same (pos a) (negsuc b) = false
-same (negsuc a) (pos b) = false
-same (negsuc a) (negsuc b) = eqb a b
-
--- Integers that pass the test are equal.
-pub same-equal : (a b : ℤ) → same a b ≡ true → a ≡ b
-same-equal (pos a) (pos b) h = ap pos (eqb-true a b h)
-same-equal (pos a) (negsuc b) h = absurd (false≢true h)
-same-equal (negsuc a) (pos b) h = absurd (false≢true h)
-same-equal (negsuc a) (negsuc b) h = ap negsuc (eqb-true a b h)
 
 -- ---- the rotation type
 -- A pair of trace and determinant, and its type.
@@ -73,7 +58,7 @@ unknown = refused 15 0 tt
 -- The type that a list of pairs gives for trace t and determinant d.
 unfoldable pub lookup : ℤ → ℤ → List Pair → Answer RotationType Nothing
 lookup t d [] = unknown
-lookup t d (p ∷ ps) = cond (same t (p .trace) && same d (p .determinant)) (given (p .type)) (lookup t d ps)
+lookup t d (p ∷ ps) = cond (sameInteger t (p .trace) && sameInteger d (p .determinant)) (given (p .type)) (lookup t d ps)
 
 -- The type by the ten pairs.
 abbrev pub typeOf : ℤ → ℤ → Answer RotationType Nothing
@@ -91,11 +76,17 @@ typeAnswer Refused = unknown
 -- ---- the handedness
 -- 1 keeps the handedness, −1 reverses it.
 unfoldable pub handednessBy : ℤ → Handedness
-handednessBy d = cond (same d one) Proper (cond (same d (negℤ one)) Improper Neither)
+handednessBy d = cond (sameInteger d one) Proper (cond (sameInteger d (negℤ one)) Improper Neither)
 
 -- What is right for a matrix of any integers.
 unfoldable pub handednessOf : Matrix → Handedness
 handednessOf A = cond (allInside A) (handednessBy (determinant A)) Neither
+
+-- A determinant of 1 or −1.
+abbrev pub isTurn : Handedness → Bool
+isTurn Proper = true
+isTurn Improper = true
+isTurn Neither = false
 
 -- What must hold of the three tests of `handednessOf` for each answer.
 abbrev Passed : Bool → Bool → Bool → Handedness → Type 0
@@ -111,20 +102,20 @@ tests-passed true false false = tt
 tests-passed false plus minus = tt
 
 -- The same of a matrix.
-tests-of : (A : Matrix) → Passed (allInside A) (same (determinant A) one) (same (determinant A) (negℤ one)) (handednessOf A)
+tests-of : (A : Matrix) → Passed (allInside A) (sameInteger (determinant A) one) (sameInteger (determinant A) (negℤ one)) (handednessOf A)
 unfolding handednessOf handednessBy
-tests-of A = tests-passed (allInside A) (same (determinant A) one) (same (determinant A) (negℤ one))
+tests-of A = tests-passed (allInside A) (sameInteger (determinant A) one) (sameInteger (determinant A) (negℤ one))
 
 -- A proper matrix is in range and has determinant 1, an improper one is in range and has determinant −1.
 pub proper-determinant : (A : Matrix) → handednessOf A ≡ Proper → (allInside A ≡ true) × (determinant A ≡ one)
 proper-determinant A e =
     let t = rw e at (tests-of A) in
-    (t .0, same-equal (determinant A) one (t .1))
+    (t .0, integer-exact (determinant A) one .0 (t .1))
 
 pub improper-determinant : (A : Matrix) → handednessOf A ≡ Improper → (allInside A ≡ true) × (determinant A ≡ negℤ one)
 improper-determinant A e =
     let t = rw e at (tests-of A) in
-    (t .0, same-equal (determinant A) (negℤ one) (t .1))
+    (t .0, integer-exact (determinant A) (negℤ one) .0 (t .1))
 
 -- And the other way round.
 pub determinant-proper : (A : Matrix) → allInside A ≡ true → determinant A ≡ one → handednessOf A ≡ Proper

@@ -1,15 +1,16 @@
 -- The names of the rotation types held against turns: about z a turn of fold n has order n and is Rotation n, and its negative is
 -- RotoInversion n. A wrong pair of trace and determinant in the table makes one of these computations fail.
 use mathlib.Core.Path.{_≡_, refl}
-use mathlib.Core.Bool.{Bool, cond, _&&_}
+use mathlib.Core.Bool.{cond}
 use mathlib.Core.List.{List, [], _∷_, map}
 use Prim.Native.Nat.{ℕ, zero, suc}
-use lib.IntN.{ℤ, pos, negsuc, one}
-use Rattle.laws.specs.Integer.{_⊖_}
-use Rattle.laws.specs.Matrix.{Matrix, times, scaled, trace, determinant}
+use lib.IntN.{pos, negsuc, one}
+use Rattle.laws.specs.Integer.{_⊖_, nought}
+use Rattle.laws.specs.Matrix.{Matrix, times, scaled, trace, determinant, unit}
+use Rattle.laws.specs.SameMatrix.{sameRow, sameMatrix}
 use Rattle.operation.specs.Answer.{given}
 use Rattle.operation.specs.Meaning.{inside, rowInside, allInside}
-use Rattle.operation.specs.RotationType.{rows, same, pairs, lookup, identified, handednessBy, handednessOf}
+use Rattle.operation.specs.RotationType.{rows, pairs, lookup, identified, handednessBy, handednessOf}
 use Rattle.operation.specs.declared.rotation_type.RotationType.the-variants.{Rotation1, Rotation2, Rotation3, Rotation4, Rotation6, RotoInversion1, RotoInversion2, RotoInversion3, RotoInversion4, RotoInversion6}
 use Rattle.operation.specs.declared.rotation_type.Handedness.the-variants.{Proper, Improper}
 
@@ -27,20 +28,10 @@ turns =
 abbrev pub negative : Matrix → Matrix
 negative = scaled (negsuc 0)
 
--- Whether two rows are equal.
-sameRow : ℤ → ℤ → ℤ → ℤ → ℤ → ℤ → Bool
-sameRow a b c x y z = same a x && same b y && same c z
-
--- Whether a matrix is the unit.
-isUnit : Matrix → Bool
-isUnit A =
-    sameRow (A .xx) (A .xy) (A .xz) (pos 1) (pos 0) (pos 0) && sameRow (A .yx) (A .yy) (A .yz) (pos 0) (pos 1) (pos 0)
-    && sameRow (A .zx) (A .zy) (A .zz) (pos 0) (pos 0) (pos 1)
-
 -- P is A to the power n: the first power from there on that is the unit, or 0 where none is within the steps.
 orderFrom : (steps n : ℕ) → Matrix → Matrix → ℕ
 orderFrom zero n P A = 0
-orderFrom (suc steps) n P A = cond (isUnit P) n (orderFrom steps (suc n) (times P A) A)
+orderFrom (suc steps) n P A = cond (sameMatrix P unit) n (orderFrom steps (suc n) (times P A) A)
 
 -- The least power from 1 to 6 that is the unit.
 pub order : Matrix → ℕ
@@ -48,7 +39,7 @@ order A = orderFrom 6 1 A A
 
 -- The orders of the turns are their folds.
 pub turns-orders : map order turns ≡ 1 ∷ 2 ∷ 3 ∷ 4 ∷ 6 ∷ []
-unfolding turns order orderFrom isUnit sameRow times
+unfolding turns order orderFrom sameMatrix sameRow times unit one nought
 turns-orders = refl
 
 -- Each turn has the type of its fold.

@@ -6,13 +6,13 @@ use mathlib.Core.Bool.{Bool, true, false, cond, _&&_, true≢false, and-eq-true-
 use mathlib.Core.List.{List, [], _∷_, List·Memᴰ as Mem, List·Memᴰ·head as here, List·Memᴰ·tail as there, List·Memᴰ·not-nil as no-member}
 use Prim.Native.Nat.{ℕ, zero, suc, _≤_}
 use native.Mathlib.Omega.{arith}
-use borrow.Author.Tests.{eq-eqb}
 use lib.IntN.{ℤ, pos, negsuc, negℤ}
 use Rattle.laws.specs.Matrix.{Matrix, trace, determinant}
+use Rattle.laws.specs.SameMatrix.{sameInteger, integer-exact}
 use Rattle.operation.specs.Answer.{given, refused}
 use Rattle.operation.specs.Meaning.{allInside}
 use Rattle.operation.specs.Entries.{Entries, all-entries}
-use Rattle.operation.specs.RotationType.{Pair, pairs, same, same-equal, unknown, lookup, identified, typeAnswer, one-type-answer}
+use Rattle.operation.specs.RotationType.{Pair, pairs, unknown, lookup, identified, typeAnswer, one-type-answer}
 use Rattle.operation.specs.declared.rotation_type.RotationType.{RotationType}
 use Rattle.operation.specs.declared.rotation_type.Identified.{Identified}
 use Rattle.operation.specs.declared.rotation_type.Identified.the-variants.{Refused}
@@ -25,24 +25,18 @@ pub data Known : ℤ → ℤ → Type 0 where
   down-to-minus-three : (t : ℕ) → t ≤ 3 → Known (negℤ (pos t)) (negsuc 0)
 
 -- ---- the table
--- Two equal integers pass the test.
-equal-same : (a b : ℤ) → a ≡ b → same a b ≡ true
-equal-same (pos a) (pos b) e = let h : a ≡ b = cc in eq-eqb a b h
-equal-same (pos a) (negsuc b) e = let h : _≡_ {A = ℕ} 0 1 = cc in absurd (omega arith)
-equal-same (negsuc a) (pos b) e = let h : _≡_ {A = ℕ} 0 1 = cc in absurd (omega arith)
-equal-same (negsuc a) (negsuc b) e = let h : a ≡ b = cc in eq-eqb a b h
 
 -- A pair of the table has this trace and this determinant.
 abbrev Has : ℤ → ℤ → List Pair → Type 0
 Has t d l = (p : Pair) × Mem p l × (t ≡ p .trace) × (d ≡ p .determinant)
 
 -- One step of `lookup-has`: the first line fits, or a later one does.
-has-step : (b : Bool) (t d : ℤ) (q p : Pair) (l : List Pair) → same t (q .trace) && same d (q .determinant) ≡ b → Mem p (q ∷ l) → t ≡ p .trace
+has-step : (b : Bool) (t d : ℤ) (q p : Pair) (l : List Pair) → sameInteger t (q .trace) && sameInteger d (q .determinant) ≡ b → Mem p (q ∷ l) → t ≡ p .trace
     → d ≡ p .determinant → (Mem p l → (k : RotationType) × (lookup t d l ≡ given k)) → (k : RotationType) × (cond b (given (q .type)) (lookup t d l) ≡ given k)
 has-step true t d q p l e m x y rest = (q .type, refl)
 has-step false t d q p l e (here h) x y rest =
-    let hit : same t (q .trace) && same d (q .determinant) ≡ true =
-    rw (equal-same t (q .trace) (x ∙ ap (λ (r : Pair). r .trace) h), equal-same d (q .determinant) (y ∙ ap (λ (r : Pair). r .determinant) h)) in
+    let hit : sameInteger t (q .trace) && sameInteger d (q .determinant) ≡ true =
+    rw (integer-exact t (q .trace) .1 (x ∙ ap (λ (r : Pair). r .trace) h), integer-exact d (q .determinant) .1 (y ∙ ap (λ (r : Pair). r .determinant) h)) in
     absurd (true≢false (sym hit ∙ e))
 has-step false t d q p l e (there n) x y rest = rest n
 
@@ -51,14 +45,14 @@ lookup-has : (t d : ℤ) (l : List Pair) → Has t d l → (k : RotationType) ×
 unfolding lookup
 lookup-has t d [] (p, m, x, y) = absurd (no-member m)
 lookup-has t d (q ∷ l) (p, m, x, y) =
-    has-step (same t (q .trace) && same d (q .determinant)) t d q p l refl m x y (λ n. lookup-has t d l (p, n, x, y))
+    has-step (sameInteger t (q .trace) && sameInteger d (q .determinant)) t d q p l refl m x y (λ n. lookup-has t d l (p, n, x, y))
 
 -- One step of `lookup-none`.
-none-step : (b : Bool) (t d : ℤ) (q : Pair) (l : List Pair) → same t (q .trace) && same d (q .determinant) ≡ b → ¬ Has t d (q ∷ l)
+none-step : (b : Bool) (t d : ℤ) (q : Pair) (l : List Pair) → sameInteger t (q .trace) && sameInteger d (q .determinant) ≡ b → ¬ Has t d (q ∷ l)
     → lookup t d l ≡ refused 15 0 tt → cond b (given (q .type)) (lookup t d l) ≡ refused 15 0 tt
 none-step true t d q l e none rest =
-    let (x, y) = and-eq-true-iff (same t (q .trace)) (same d (q .determinant)) .0 e in
-    absurd (none (q, here refl, same-equal t (q .trace) x, same-equal d (q .determinant) y))
+    let (x, y) = and-eq-true-iff (sameInteger t (q .trace)) (sameInteger d (q .determinant)) .0 e in
+    absurd (none (q, here refl, integer-exact t (q .trace) .0 x, integer-exact d (q .determinant) .0 y))
 none-step false t d q l e none rest = rest
 
 -- and where none fits the answer is 15 at 0.
@@ -66,7 +60,7 @@ lookup-none : (t d : ℤ) (l : List Pair) → ¬ Has t d l → lookup t d l ≡ 
 unfolding lookup
 lookup-none t d [] none = refl
 lookup-none t d (q ∷ l) none =
-    none-step (same t (q .trace) && same d (q .determinant)) t d q l refl none (lookup-none t d l (λ (p, m, x, y). none (p, there m, x, y)))
+    none-step (sameInteger t (q .trace) && sameInteger d (q .determinant)) t d q l refl none (lookup-none t d l (λ (p, m, x, y). none (p, there m, x, y)))
 
 -- The table has the pairs of the rule, and no others.
 pub pairs-known : (t d : ℤ) → Has t d pairs ↔ Known t d

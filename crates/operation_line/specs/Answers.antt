@@ -23,7 +23,7 @@ use Rattle.operation_line.specs.declared.ReadLine.the-variants.{Operatio
 use Rattle.operation_line.specs.declared.reader.Mode.{Mode}
 use Rattle.operation_line.specs.declared.reader.Mode.the-variants.{Start, Owed, Told, Numerator, Behind, Twelfth}
 use Rattle.operation_line.specs.Spelling.{Term, Line, Spells, Spelt}
-use Rattle.operation_line.specs.Denoted.{rotationBy, operationBy}
+use Rattle.operation_line.specs.Denoted.{rotationOfLine, operationOfLine}
 use Rattle.operation_line.specs.Reading.{Reading, Reached, at, stopped, reach, begin, turned, decided, lineOf, wholeLine, ended, answered, readLine}
 use Rattle.operation_line.specs.SpeltRead.{read, spelt-read, reads-exact}
 use Rattle.operation_line.specs.Offending.{stopped-offending, ended-offending}
@@ -58,7 +58,7 @@ pub record IsRead (text : List ℕ) (f : operation.Operation) : Type 0 where
   pub short : length text ≤ 64
   pub line : Line
   pub spells : Spells text line
-  pub is : f ≡ operationBy line
+  pub is : f ≡ operationOfLine line
   pub unimodular : Unimodular (matrixOf (f .rotation))
 
 -- 42: spelt by the rules, with another determinant.
@@ -66,7 +66,7 @@ pub record NoMotion (text : List ℕ) : Type 0 where
   pub short : length text ≤ 64
   pub line : Line
   pub spells : Spells text line
-  pub other : ¬ (Unimodular (matrixOf (operationBy line .rotation)))
+  pub other : ¬ (Unimodular (matrixOf (operationOfLine line .rotation)))
 
 -- What holds of a text where an answer is right.
 abbrev pub Answers : List ℕ → ReadLine → Type 0
@@ -77,9 +77,9 @@ Answers text Determinant = NoMotion text
 
 -- ---- the determinant
 
-line-inside : (l : Line) → allInside (matrixOf (operationBy l .rotation)) ≡ true
-unfolding operationBy
-line-inside l = all-entries (matrixOf (rotationBy l)) .1 (digits-entries (rotationBy l) .0 (line-digits l))
+line-inside : (l : Line) → allInside (matrixOf (operationOfLine l .rotation)) ≡ true
+unfolding operationOfLine
+line-inside l = all-entries (matrixOf (rotationOfLine l)) .1 (digits-entries (rotationOfLine l) .0 (line-digits l))
 
 abbrev Handed : Matrix → Handedness → Type 0
 Handed A Proper = Unimodular A
@@ -96,23 +96,23 @@ handed A inside Neither e = go
     go (inr d) = let p = determinant-improper A inside d in let z : _≡_ {A = ℕ} 0 1 = cc in absurd (omega arith)
 
 -- A line's matrix by its own handedness.
-line-handed : (l : Line) (h : Handedness) → handednessOf (matrixOf (operationBy l .rotation)) ≡ h → Handed (matrixOf (operationBy l .rotation)) h
-line-handed l h e = handed (matrixOf (operationBy l .rotation)) (line-inside l) h e
+line-handed : (l : Line) (h : Handedness) → handednessOf (matrixOf (operationOfLine l .rotation)) ≡ h → Handed (matrixOf (operationOfLine l .rotation)) h
+line-handed l h e = handed (matrixOf (operationOfLine l .rotation)) (line-inside l) h e
 
 module _ (text : List ℕ) where
   -- What is spelt is answered by its determinant.
-  pub spelt-answer : (l : Line) → length text ≤ 64 → Spells text l → readLine text ≡ decided (operationBy l)
+  pub spelt-answer : (l : Line) → length text ≤ 64 → Spells text l → readLine text ≡ decided (operationOfLine l)
   unfolding readLine answered ended wholeLine
   spelt-answer l short spells =
       ap (λ (t : Bool). cond t TooLong (answered text (reach text begin))) (le-ltb 64 (length text) short) ∙ ap (answered text) (spelt-read text l spells)
 
   -- ---- the reader's answer holds
 
-  decided-holds : (l : Line) → length text ≤ 64 → Spells text l → Answers text (decided (operationBy l))
+  decided-holds : (l : Line) → length text ≤ 64 → Spells text l → Answers text (decided (operationOfLine l))
   unfolding turned
-  decided-holds l short spells = go (handednessOf (matrixOf (operationBy l .rotation))) refl
+  decided-holds l short spells = go (handednessOf (matrixOf (operationOfLine l .rotation))) refl
     where
-      go : (h : Handedness) → handednessOf (matrixOf (operationBy l .rotation)) ≡ h → Answers text (turned (operationBy l) h)
+      go : (h : Handedness) → handednessOf (matrixOf (operationOfLine l .rotation)) ≡ h → Answers text (turned (operationOfLine l) h)
       go Proper e = record { short = short; line = l; spells = spells; is = refl; unimodular = line-handed l Proper e }
       go Improper e = record { short = short; line = l; spells = spells; is = refl; unimodular = line-handed l Improper e }
       go Neither e = record { short = short; line = l; spells = spells; other = line-handed l Neither e }
@@ -187,7 +187,7 @@ module _ (text : List ℕ) where
   unfolding readLine
   holds-answer (Operation f) h =
       let l = h .line in
-      let g = operationBy l in
+      let g = operationOfLine l in
       let turn = handednessOf (matrixOf (g .rotation)) in
       let u : Unimodular (matrixOf (g .rotation)) = subst (λ (g : operation.Operation). Unimodular (matrixOf (g .rotation))) (h .is) (h .unimodular) in
       spelt-answer l (h .short) (h .spells) ∙ kept g turn (line-handed l turn refl) u
@@ -196,7 +196,7 @@ module _ (text : List ℕ) where
   holds-answer (Misspelt k) h = misspelt-answer k (h .0) (h .1)
   holds-answer Determinant h =
       let l = h .line in
-      let g = operationBy l in
+      let g = operationOfLine l in
       let turn = handednessOf (matrixOf (g .rotation)) in
       spelt-answer l (h .short) (h .spells) ∙ dropped g turn (line-handed l turn refl) (h .other)
 

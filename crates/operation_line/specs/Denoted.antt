@@ -42,8 +42,8 @@ twelfthsIn [] = 0
 twelfthsIn (t ∷ ts) = twelfthsThen (t .negative) (t .body) (twelfthsIn ts)
 
 -- Parts are rows, letters columns.
-unfoldable pub rotationBy : Line → Rotation
-rotationBy l =
+unfoldable pub rotationOfLine : Line → Rotation
+rotationOfLine l =
     record {
       xx = digitIn X (l .x);
       xy = digitIn Y (l .x);
@@ -56,11 +56,11 @@ rotationBy l =
       zz = digitIn Z (l .z);
     }
 
-unfoldable pub translationBy : Line → Translation
-translationBy l = record { x = twelfthsIn (l .x); y = twelfthsIn (l .y); z = twelfthsIn (l .z) }
+unfoldable pub translationOfLine : Line → Translation
+translationOfLine l = record { x = twelfthsIn (l .x); y = twelfthsIn (l .y); z = twelfthsIn (l .z) }
 
-unfoldable pub operationBy : Line → Operation
-operationBy l = record { rotation = rotationBy l; translation = translationBy l }
+unfoldable pub operationOfLine : Line → Operation
+operationOfLine l = record { rotation = rotationOfLine l; translation = translationOfLine l }
 
 -- ---- the value at a vector, in twelfths
 

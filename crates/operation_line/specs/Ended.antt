@@ -11,7 +11,6 @@ use lib.Seq.{take-suc, take-length, split-at, length-take-le}
 use borrow.Author.Tests.{lt-ltb, le-ltb}
 use Rattle.operation.specs.Meaning.{Digits}
 use Rattle.operation.specs.Code.{codeOf, rotationOf, decodedOf, code-lt, rotation-code}
-use Rattle.operation.specs.declared.Operation as operation
 use Rattle.operation.specs.declared.code.Decoded.{Decoded}
 use Rattle.operation.specs.declared.code.Decoded.the-variants.{Inside, Outside}
 use Rattle.operation_line.specs.declared.Letter.the-variants.{X, Y, Z}
@@ -21,7 +20,7 @@ use Rattle.operation_line.specs.declared.reader.Mode.the-variants.{Start
 use Rattle.operation_line.specs.declared.reader.State.{State}
 use Rattle.operation_line.specs.declared.reader.Next.the-variants.{On, Stop}
 use Rattle.operation_line.specs.Spelling.{Term, Line}
-use Rattle.operation_line.specs.Denoted.{digitIn, twelfthsIn, rotationBy, translationBy, operationBy}
+use Rattle.operation_line.specs.Denoted.{digitIn, twelfthsIn, rotationOfLine, translationOfLine, operationOfLine}
 use Rattle.operation_line.specs.Reading.{Reading, Reached, at, stopped, step, onwards, reach, passed, readable, begin, decided, lineOf, wholeLine, ended, answered, readLine}
 use Rattle.operation_line.specs.Numbers.{numbered, decodedThen, decodedLine, wholeNumbers, endedBy, endedNumbers, stepNumbers, Within}
 use Rattle.operation_line.specs.Beginnings.{Done, nothing, more, Ends, Begun, reached-begun}
@@ -31,8 +30,8 @@ use Rattle.operation_line.specs.Held.{rowCode, rowsCode, ranks, numbersO
 -- ---- the end
 
 -- The entries of a line's rotation are −1, 0 and 1.
-pub line-digits : (l : Line) → Digits (rotationBy l)
-unfolding rotationBy
+pub line-digits : (l : Line) → Digits (rotationOfLine l)
+unfolding rotationOfLine
 line-digits l =
     record {
       xx = digit-small X (l .x);
@@ -47,13 +46,13 @@ line-digits l =
     }
 
 module _ (x y z : List Term) where
-  line-code : rowsCode (y ∷ (x ∷ [])) * 27 + rowCode z ≡ codeOf (rotationBy (lineOf x y z))
-  unfolding rowsCode codeOf rotationBy
+  line-code : rowsCode (y ∷ (x ∷ [])) * 27 + rowCode z ≡ codeOf (rotationOfLine (lineOf x y z))
+  unfolding rowsCode codeOf rotationOfLine
   line-code = omega arith
 
-  line-decoded : decodedOf (rowsCode (y ∷ (x ∷ [])) * 27 + rowCode z) ≡ Inside (rotationBy (lineOf x y z))
+  line-decoded : decodedOf (rowsCode (y ∷ (x ∷ [])) * 27 + rowCode z) ≡ Inside (rotationOfLine (lineOf x y z))
   line-decoded =
-      let r = rotationBy (lineOf x y z) in
+      let r = rotationOfLine (lineOf x y z) in
       let d = line-digits (lineOf x y z) in
       ap decodedOf line-code
       ∙ ap (λ (t : Bool). cond t (Inside (rotationOf (codeOf r))) Outside) (lt-ltb (codeOf r) 19683 (code-lt r d)) ∙ ap Inside (rotation-code r d)
@@ -62,9 +61,9 @@ module _ (x y z : List Term) where
     abbrev twelfths : ℕ
     twelfths = ranks (y ∷ (x ∷ [])) * 12 + twelfthsIn z
 
-    line-numbered : numbered (rotationBy (lineOf x y z)) twelfths ≡ operationBy (lineOf x y z)
-    unfolding operationBy translationBy ranks
-    line-numbered = λ i. record { rotation = rotationBy (lineOf x y z); translation = record { x = one i; y = two i; z = three i } }
+    line-numbered : numbered (rotationOfLine (lineOf x y z)) twelfths ≡ operationOfLine (lineOf x y z)
+    unfolding operationOfLine translationOfLine ranks
+    line-numbered = λ i. record { rotation = rotationOfLine (lineOf x y z); translation = record { x = one i; y = two i; z = three i } }
       where
         one : twelfths / 144 % 12 ≡ twelfthsIn x
         one = omega arith
@@ -75,7 +74,7 @@ module _ (x y z : List Term) where
         three : twelfths % 12 ≡ twelfthsIn z
         three = omega arith
 
-    whole-held : decodedLine (rowsCode (y ∷ (x ∷ [])) * 27 + rowCode z) twelfths ≡ decided (operationBy (lineOf x y z))
+    whole-held : decodedLine (rowsCode (y ∷ (x ∷ [])) * 27 + rowCode z) twelfths ≡ decided (operationOfLine (lineOf x y z))
     unfolding decodedThen
     whole-held = ap (λ (d : Decoded). decodedThen d twelfths) line-decoded ∙ ap decided line-numbered
 

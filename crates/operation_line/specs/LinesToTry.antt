@@ -13,7 +13,7 @@ use Rattle.operation.specs.Meaning.{entryOf, matrixOf, inside, rowInside, allIn
 use Rattle.operation.specs.RotationType.{handednessBy, handednessOf}
 use Rattle.operation.specs.declared.Operation.{Operation}
 use Rattle.operation_line.specs.Spelling.{used}
-use Rattle.operation_line.specs.Denoted.{digitThen, digitIn, twelfthsThen, twelfthsIn, rotationBy, translationBy, operationBy}
+use Rattle.operation_line.specs.Denoted.{digitThen, digitIn, twelfthsThen, twelfthsIn, rotationOfLine, translationOfLine, operationOfLine}
 use Rattle.operation_line.specs.Reading as reading
 use Rattle.operation_line.specs.Reading.{readLine}
 use Rattle.operation_line.specs.Answers.{answerOf}
@@ -89,5 +89,5 @@ cases =
     ∷ []
 
 pub lines-to-try : map (λ (c : Case). told (c .line)) cases ≡ map (λ (c : Case). c .answer) cases
-unfolding told codeOf entryOf matrixOf inside rowInside allInside handednessBy handednessOf determinant one _⊖_ used digitThen digitIn twelfthsThen twelfthsIn rotationBy translationBy operationBy reading.symbolIn reading.digitOr reading.symbolOf reading.withLetter reading.withFraction reading.withNumerator reading.begun reading.atStart reading.full reading.afterTerm reading.afterNumerator reading.oneDigit reading.overDigit reading.afterSlash reading.afterOne reading.stepBy reading.onwards reading.reach reading.passed reading.readable reading.turned reading.wholeLine reading.ended reading.answered readLine
+unfolding told codeOf entryOf matrixOf inside rowInside allInside handednessBy handednessOf determinant one _⊖_ used digitThen digitIn twelfthsThen twelfthsIn rotationOfLine translationOfLine operationOfLine reading.symbolIn reading.digitOr reading.symbolOf reading.withLetter reading.withFraction reading.withNumerator reading.begun reading.atStart reading.full reading.afterTerm reading.afterNumerator reading.oneDigit reading.overDigit reading.afterSlash reading.afterOne reading.stepBy reading.onwards reading.reach reading.passed reading.readable reading.turned reading.wholeLine reading.ended reading.answered readLine
 lines-to-try = refl

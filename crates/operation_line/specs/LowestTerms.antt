@@ -72,7 +72,7 @@ lowest-tested p q l =
     all-below 11 (parted p q) (λ d h. not-both _ _ (λ a b. l .coprime (d + 2) (omega arith) (eqb-true _ 0 a) (eqb-true _ 0 b))) in
     rw (le-leb 1 p some, lt-ltb p q less, is-in q denominators in-list, each) refl
 
-at-most-twelve : (q : ℕ) → Mem q denominators → q ≤ 12
+pub at-most-twelve : (q : ℕ) → Mem q denominators → q ≤ 12
 at-most-twelve q (here e) = omega arith
 at-most-twelve q (there (here e)) = omega arith
 at-most-twelve q (there (there (here e))) = omega arith

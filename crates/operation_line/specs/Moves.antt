@@ -18,7 +18,7 @@ use Rattle.operation_line.specs.declared.Letter.{Letter}
 use Rattle.operation_line.specs.declared.Letter.the-variants.{X, Y, Z}
 use Rattle.operation_line.specs.declared.ReadLine.the-variants.{Operation}
 use Rattle.operation_line.specs.Spelling.{Body, letter, fraction, Term, signed, Proper, used, Terms, blank, unsigned, then, Line, Spells}
-use Rattle.operation_line.specs.Denoted.{signDigit, digitThen, digitIn, fractionTwelfths, twelfthsThen, twelfthsIn, rotationBy, translationBy, operationBy, coordinate, bodyValue, signedValue, valueAt}
+use Rattle.operation_line.specs.Denoted.{signDigit, digitThen, digitIn, fractionTwelfths, twelfthsThen, twelfthsIn, rotationOfLine, translationOfLine, operationOfLine, coordinate, bodyValue, signedValue, valueAt}
 use Rattle.operation_line.specs.Reading.{readLine}
 use Rattle.operation_line.specs.Held.{used-letter, used-twelfths, range, Propers, terms-proper}
 use Rattle.operation_line.specs.Answers.{answers-exact}
@@ -142,8 +142,8 @@ module _ (v : Vector) where
 -- ---- lines
 
 -- At every vector the parts of a line take the values of Rv + t, modulo 12, where (R, t) is the motion of its operation.
-pub line-moves : (text : List ℕ) (l : Line) → Spells text l → (v : Vector) → reduced (valuesAt v l) ≡ reduced (movedBy (motionOf (operationBy l)) v)
-unfolding motionOf operationBy matrixOf vectorOf rotationBy translationBy act plus
+pub line-moves : (text : List ℕ) (l : Line) → Spells text l → (v : Vector) → reduced (valuesAt v l) ≡ reduced (movedBy (motionOf (operationOfLine l)) v)
+unfolding motionOf operationOfLine matrixOf vectorOf rotationOfLine translationOfLine act plus
 line-moves text l h v =
     triple≡
     (part-moves v (l .x) (terms-once (h .of-x .spelt)))

@@ -14,7 +14,7 @@ use Rattle.five_bytes.specs.OneForm.{Bytes}
 use Rattle.operation_line.specs.declared.ReadLine.the-variants.{Operation}
 use Rattle.operation_line.specs.declared.writer.WrittenLine.the-variants.{Length}
 use Rattle.operation_line.specs.Spelling.{Line, Spells}
-use Rattle.operation_line.specs.Denoted.{translationBy, operationBy}
+use Rattle.operation_line.specs.Denoted.{translationOfLine, operationOfLine}
 use Rattle.operation_line.specs.Reading.{readLine}
 use Rattle.operation_line.specs.Held.{part-small}
 use Rattle.operation_line.specs.Ended.{line-digits}
@@ -37,8 +37,8 @@ read-back f s u =
     })
 
 -- An operation that is read can be said by five bytes: entries in −1..1, twelfths below 12.
-pub spelt-sayable : (text : List ℕ) (l : Line) → Spells text l → Sayable (operationBy l)
-unfolding operationBy translationBy
+pub spelt-sayable : (text : List ℕ) (l : Line) → Spells text l → Sayable (operationOfLine l)
+unfolding operationOfLine translationOfLine
 spelt-sayable text l s = record { digits = line-digits l; x = part-small (s .of-x); y = part-small (s .of-y); z = part-small (s .of-z) }
 
 pub read-sayable : (text : List ℕ) (f : operation.Operation) → readLine text ≡ Operation f → Sayable f × Unimodular (matrixOf (f .rotation))

@@ -19,7 +19,7 @@ use Rattle.operation_line.specs.declared.reader.Symbol.the-variants.{Spa
 use Rattle.operation_line.specs.declared.reader.Mode.{Mode}
 use Rattle.operation_line.specs.declared.reader.Mode.the-variants.{Start, Owed, Told, Numerator, Behind, Twelfth}
 use Rattle.operation_line.specs.Spelling.{Body, letter, fraction, Term, signed, used, Line}
-use Rattle.operation_line.specs.Denoted.{operationBy}
+use Rattle.operation_line.specs.Denoted.{operationOfLine}
 
 -- ---- bytes
 
@@ -209,7 +209,7 @@ lineOf x y z = record { x = x; y = y; z = z }
 unfoldable pub wholeLine : ℕ → List (List Term) → List Term → ReadLine
 wholeLine size [] z = Misspelt size
 wholeLine size (y ∷ []) z = Misspelt size
-wholeLine size (y ∷ (x ∷ [])) z = decided (operationBy (lineOf x y z))
+wholeLine size (y ∷ (x ∷ [])) z = decided (operationOfLine (lineOf x y z))
 wholeLine size (y ∷ (x ∷ (w ∷ ps))) z = Misspelt size
 
 -- A line ends behind a term.

@@ -17,6 +17,7 @@ use Rattle.operation_line.specs.declared.reader.Mode.the-variants.{Start
 use Rattle.operation_line.specs.Spelling.{Body, letter, fraction, Term, signed, letterByte, signByte, numeral, bodyBytes, denominators, Proper, used, Blank, none, space, Terms, blank, unsigned, then, Part, Line, Spells}
 use Rattle.operation_line.specs.Reading.{symbolIn, digitOr, symbolOf, Reading, Reached, at, stopped, ending, told, withLetter, withFraction, withNumerator, begun, atStart, full, afterTerm, afterNumerator, oneDigit, overDigit, afterSlash, afterOne, stepBy, step, onwards, reach, begin}
 use Rattle.operation_line.specs.Beginnings.{used-fraction, numeral-one, Done, nothing, more, Begun, reached-begun}
+use Rattle.operation_line.specs.LowestTerms.{at-most-twelve}
 
 abbrev pub state : List (List Term) → List Term → Mode → Reading
 state d ts m = record { done = d; terms = ts; mode = m }
@@ -126,14 +127,6 @@ module _ (s : Reading) (n : Bool) (o : Opens s n) where
           let is : 11 ≡ m = omega (arith, ltb-false m 11 k) in
           subst (λ (i : ℕ). reach (numeral i) s ≡ at (state (s .done) (s .terms) (Numerator n i))) is eleven
 
--- A denominator.
-member-most : (d : ℕ) → Mem d denominators → d ≤ 12
-member-most d (here e) = omega arith
-member-most d (there (here e)) = omega arith
-member-most d (there (there (here e))) = omega arith
-member-most d (there (there (there (here e)))) = omega arith
-member-most d (there (there (there (there (here e))))) = omega arith
-
 module _ (done : List (List Term)) (ts : List Term) (n : Bool) (m : ℕ) where
   abbrev Over : ℕ → Type 0
   Over d = m < d → reach (numeral d) (state done ts (Behind n m)) ≡ at (state done (signed n (fraction m d) ∷ ts) Told)
@@ -155,7 +148,7 @@ body-read : (s : Reading) (n : Bool) → Opens s n → (b : Body) → Proper b �
     → reach (bodyBytes b) s ≡ at (state (s .done) (signed n b ∷ s .terms) Told)
 body-read s n o (letter l) proper fresh = letter-read s n o l fresh
 body-read s n o (fraction m d) (least, less, member) fresh =
-    let most = member-most d member in
+    let most = at-most-twelve d member in
     reach-append (numeral m) (47 ∷ numeral d) s (state (s .done) (s .terms) (Numerator n m))
     (numeral-read s n o m least (omega arith) (used-fraction 1 2 m d (s .terms) ∙ fresh))
     ∙ reach-step 47 (numeral d) (state (s .done) (s .terms) (Numerator n m)) (state (s .done) (s .terms) (Behind n m)) (slash-read (s .done) (s .terms) n m)

@@ -7,10 +7,8 @@ use lib.Dec.{ltb}
 use lib.ListN.{length, getD, drop}
 use Rattle.operation.specs.Answer.{Answer, given, refused, Nothing}
 use Rattle.operation.specs.Meaning.{matrixOf}
-use Rattle.operation.specs.RotationType.{handednessOf}
+use Rattle.operation.specs.RotationType.{handednessOf, isTurn}
 use Rattle.operation.specs.declared.Operation.{Operation}
-use Rattle.operation.specs.declared.rotation_type.Handedness.{Handedness}
-use Rattle.operation.specs.declared.rotation_type.Handedness.the-variants.{Proper, Improper, Neither}
 use Rattle.five_bytes.specs.FiveBytes.{fiveBytesOf}
 use Rattle.five_bytes.specs.declared.FiveBytes.{FiveBytes}
 use Rattle.five_bytes.specs.declared.FiveBytes.the-variants.{Is, Wrong}
@@ -98,12 +96,6 @@ fittedAnswer line room = cond (ltb room (length line)) NoRoom (Length (length li
 
 abbrev pub fitted : List ℕ → List ℕ → List ℕ
 fitted line out = cond (ltb (length out) (length line)) out (line ++ drop (length line) out)
-
--- A determinant of 1 or −1.
-abbrev pub isTurn : Handedness → Bool
-isTurn Proper = true
-isTurn Improper = true
-isTurn Neither = false
 
 unfoldable pub writable : Operation → Bool
 writable f = isTurn (handednessOf (matrixOf (f .rotation)))

@@ -8,6 +8,7 @@ use lib.Dec.{ltb}
 use borrow.Author.Tests.{ltb-true, ltb-false, lt-ltb, le-ltb}
 use lib.ListN.{length, drop}
 use Rattle.laws.specs.Matrix.{Unimodular}
+use Rattle.laws.specs.Truth.{not-passing}
 use Rattle.operation.specs.Answer.{Answer, given, refused, Nothing}
 use Rattle.operation.specs.Meaning.{matrixOf}
 use Rattle.operation.specs.declared.Operation.{Operation}
@@ -66,10 +67,6 @@ write-outcome bytes out g = outcome-by bytes out g (fiveBytesOf bytes) refl
 said : (bytes : List ℕ) (f : Operation) → BytesOf bytes f → fiveBytesOf bytes ≡ Is f
 said bytes f b = ap fiveBytesOf (b .same) ∙ operation-again f (b .sayable)
 
-not-true : (t : Bool) → ¬ (t ≡ true) → t ≡ false
-not-true true h = absurd (h refl)
-not-true false h = refl
-
 none-said : (bytes : List ℕ) → Bytes bytes → ((f : Operation) → ¬ BytesOf bytes f) → (five : FiveBytes) → fiveBytesOf bytes ≡ five → five ≡ Wrong
 none-said bytes g h (Is f) e = let (same, sayable) = bytes-again bytes f g e in absurd (h f (record { sayable = sayable; same = same }))
 none-said bytes g h Wrong e = refl
@@ -79,7 +76,7 @@ pub only-outcome : (bytes out : List ℕ) → Bytes bytes → (answer : Answer �
 unfolding writeOf bufferOf
 only-outcome bytes out g answer after (no-operation h) = rw (none-said bytes g h (fiveBytesOf bytes) refl) (refl, refl)
 only-outcome bytes out g answer after (no-determinant f b u) =
-    rw (said bytes f b, not-true (writable f) (λ t. u (writable-exactly f (b .sayable) .0 t))) (refl, refl)
+    rw (said bytes f b, not-passing (writable f) (λ t. u (writable-exactly f (b .sayable) .0 t))) (refl, refl)
 only-outcome bytes out g answer after (no-room f b u l) = rw (said bytes f b, writable-exactly f (b .sayable) .1 u, lt-ltb _ _ l) (refl, refl)
 only-outcome bytes out g answer after (written f b u l) = rw (said bytes f b, writable-exactly f (b .sayable) .1 u, le-ltb _ _ l) (refl, refl)
 

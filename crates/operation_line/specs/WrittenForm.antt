@@ -3,14 +3,14 @@
 use mathlib.Core.Path.{_≡_, refl, ap, ap₂}
 use mathlib.Core.Bool.{Bool, true, false}
 use mathlib.Core.List.{List, [], _∷_, _++_}
-use Prim.Native.Nat.{ℕ, _+_, _<_}
+use Prim.Native.Nat.{ℕ, _<_}
 use native.Mathlib.Omega.{arith}
 use Rattle.operation_line.specs.declared.Letter.{Letter}
 use Rattle.operation_line.specs.declared.Letter.the-variants.{X, Y, Z}
 use Rattle.operation_line.specs.Spelling.{letter, fraction, Term, signed, Line}
 use Rattle.operation_line.specs.Denoted.{signDigit, digitIn, twelfthsIn, digitThen, twelfthsThen}
 use Rattle.operation_line.specs.LowestTerms.{Lowest, lowest-term}
-use Rattle.operation_line.specs.Writing.{letterTerm, twelfths, fractionTerm, lettersOf, rowTerms, plainLine}
+use Rattle.operation_line.specs.Writing.{letterTerm, fractionTerm, lettersOf, rowTerms, plainLine}
 
 -- ---- the form
 -- x before y before z.

@@ -14,7 +14,7 @@ use Rattle.laws.specs.Matrix.{Matrix, determinant, Unimodular}
 use Rattle.operation.specs.Below.{allBelow, below}
 use Rattle.operation.specs.Entries.{all-entries, digits-entries}
 use Rattle.operation.specs.Meaning.{entryOf, matrixOf, Digits, rotation≡}
-use Rattle.operation.specs.RotationType.{handednessOf, proper-determinant, improper-determinant, determinant-proper, determinant-improper}
+use Rattle.operation.specs.RotationType.{handednessOf, proper-determinant, improper-determinant, determinant-proper, determinant-improper, isTurn}
 use Rattle.operation.specs.declared.Operation.{Operation}
 use Rattle.operation.specs.declared.Rotation.{Rotation}
 use Rattle.operation.specs.declared.Translation.{Translation}
@@ -26,8 +26,8 @@ use Rattle.operation_line.specs.declared.Letter.{Letter}
 use Rattle.operation_line.specs.declared.Letter.the-variants.{X, Y, Z}
 use Rattle.operation_line.specs.Spelling.{letter, fraction, Term, signed, bodyBytes, Terms, Line, Spells, used}
 use Rattle.operation_line.specs.Spelling as spelling
-use Rattle.operation_line.specs.Denoted.{digitIn, twelfthsIn, digitThen, twelfthsThen, rotationBy, translationBy, operationBy}
-use Rattle.operation_line.specs.Writing.{letterTerm, lettersOf, rowTerms, lineOf, signBytes, isEmpty, plainBytes, plainLine, writtenLine, isTurn, writable}
+use Rattle.operation_line.specs.Denoted.{digitIn, twelfthsIn, digitThen, twelfthsThen, rotationOfLine, translationOfLine, operationOfLine}
+use Rattle.operation_line.specs.Writing.{letterTerm, lettersOf, rowTerms, lineOf, signBytes, isEmpty, plainBytes, plainLine, writtenLine, writable}
 use Rattle.operation_line.specs.LowestTerms.{Lowest, twelfths-lowest}
 use Rattle.operation_line.specs.WrittenForm.{Before, x-y, x-z, y-z, Ascending, WrittenTerms, WrittenAs, row-told}
 use Rattle.operation_line.specs.WrittenForm as form
@@ -60,8 +60,8 @@ row-denotes a b c k p q r s =
     let (z, last) = and-eq-true-iff (eqb (digitIn Z (rowTerms a b c k)) c) _ .0 rest in
     record { x = eqb-true _ a x; y = eqb-true _ b y; z = eqb-true _ c z; moved = eqb-true _ k last }
 
-pub written-denotes : (f : Operation) → Sayable f → operationBy (lineOf f) ≡ f
-unfolding operationBy rotationBy translationBy lineOf
+pub written-denotes : (f : Operation) → Sayable f → operationOfLine (lineOf f) ≡ f
+unfolding operationOfLine rotationOfLine translationOfLine lineOf
 written-denotes f s =
     let r = f .rotation in
     let t = f .translation in
@@ -179,15 +179,15 @@ written-form f s u =
     A = matrixOf (f .rotation)
 
 -- No other text in written form denotes the operation.
-line-told : (line : Line) (text : List ℕ) → WrittenAs text line → lineOf (operationBy line) ≡ line
-unfolding lineOf operationBy rotationBy translationBy
+line-told : (line : Line) (text : List ℕ) → WrittenAs text line → lineOf (operationOfLine line) ≡ line
+unfolding lineOf operationOfLine rotationOfLine translationOfLine
 line-told line text w =
     let x = row-told (line .x) (w .x) in
     let y = row-told (line .y) (w .y) in
     let z = row-told (line .z) (w .z) in
     λ i. record { x = x i; y = y i; z = z i }
 
-pub written-once : (f : Operation) (text : List ℕ) (line : Line) → WrittenAs text line → operationBy line ≡ f → text ≡ writtenLine f
+pub written-once : (f : Operation) (text : List ℕ) (line : Line) → WrittenAs text line → operationOfLine line ≡ f → text ≡ writtenLine f
 unfolding writtenLine
 written-once f text line w e = w .bytes ∙ ap plainLine (sym (line-told line text w) ∙ ap lineOf e)
 
@@ -262,7 +262,7 @@ pub record WrittenFor (f : Operation) (text : List ℕ) : Type 0 where
   pub line : Line
   pub spells : Spells text line
   pub written : WrittenAs text line
-  pub denotes : operationBy line ≡ f
+  pub denotes : operationOfLine line ≡ f
 
 pub written-spelt : (f : Operation) → Sayable f → Unimodular (matrixOf (f .rotation)) → WrittenFor f (writtenLine f)
 written-spelt f s u =

@@ -17,8 +17,9 @@ use Rattle.laws.specs.Residue.{residue}
 use Rattle.laws.specs.Motion.{SpaceMotion, product, compose, compose-identity}
 use Rattle.laws.specs.Distinct.{has}
 use Rattle.laws.specs.Growth.{place}
-use Rattle.laws.specs.GrowthClosure.{place-test, place-same, true-T, T-true}
-use Rattle.laws.specs.Lattice.{all}
+use Rattle.laws.specs.GrowthClosure.{place-test, place-same}
+use Rattle.laws.specs.Truth.{all, true-T, T-true, both-true, all-true, fails}
+use Rattle.laws.specs.Indices.{member-at, member-index}
 use Rattle.operation.specs.Composed.{identity-motion, product-inside}
 use Rattle.operation.specs.Entries.{Entries}
 use Rattle.operation.specs.Meaning.{matrixOf, vectorOf, motionOf, allInside, rowInside, inside, entryOf, digitOf, digitAbove}
@@ -28,7 +29,6 @@ use Rattle.operation.specs.declared.product.Product.{Product}
 use Rattle.operation.specs.declared.product.Product.the-variants.{Inside, Outside}
 use Rattle.centering.specs.Keeps.{keeps-lattice}
 use Rattle.centering.specs.declared.Centering.{Centering}
-use Rattle.space_group_theorems.specs.Acceptance.{member-at, member-index}
 use Rattle.group_record.specs.Record.{itemOf}
 use Rattle.group_record.specs.declared.items.Item.{Item}
 use Rattle.group_record.specs.Reading.{operationOfItem, alikeItems, productListed, pairListed, keepsItem, memberAllowed, isAllowed}
@@ -36,7 +36,6 @@ use Rattle.group_record.specs.Groups.{Alike}
 use Rattle.group_record.specs.ListedForm.{code-matrix, alike-reflexive, alike-symmetric}
 use Rattle.group_record.specs.OneRecord.{operation-of-item}
 use Rattle.group_record.specs.GroupLaws.{compose-alike}
-use Rattle.group_record.specs.Tests.{both-true, all-true, fails}
 use Rattle.group_record.specs.ReadingTests.{GoodItems, good-form, items-of-operations, item-of-operation, identity-entries, congruent-residues, alike-test, product-test}
 use Rattle.group_record.specs.Criterion.{Right, KeepsInto, right-times}
 use Rattle.group_record.specs.Items.{item-at}

@@ -8,8 +8,8 @@ use native.Mathlib.Numerals.{add-one}
 use borrow.Author.Tests.{lt-ltb, le-ltb, eq-eqb, ne-eqb}
 use lib.ListN.{length, getD, take, drop, set, replicate, length-map, length-append, length-replicate}
 use lib.Seq.{drop-cons, drop-length, getD-drop, take-suc, take-length, set-at, length-take-le}
-use Rattle.laws.specs.Lattice.{all}
 use Rattle.laws.specs.Sorted.{ascending}
+use Rattle.laws.specs.Truth.{all}
 use Rattle.operation.specs.Product.{identityOperation}
 use Rattle.operation.specs.declared.Operation.{Operation}
 use Rattle.centering.specs.Keeps.{keepsOf}

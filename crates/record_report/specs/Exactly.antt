@@ -2,13 +2,14 @@
 -- translations that differ by no vector of the lattice; and only one list of entries says so in the order of codes.
 use mathlib.Core.Path.{_≡_, refl, sym, _∙_, ap, subst}
 use mathlib.Core.Logic.{_↔_}
-use mathlib.Core.Bool.{Bool, true, false, true≢false}
+use mathlib.Core.Bool.{true, false, true≢false}
 use mathlib.Core.List.{List, map, List·Memᴰ as Mem, Memᴰ·map as mem-map, Memᴰ·of-map as mem-of-map}
 use Prim.Native.Nat.{ℕ}
 use Rattle.laws.specs.Lattice.{Congruent}
 use Rattle.laws.specs.Matrix.{Matrix}
 use Rattle.laws.specs.Motion.{SpaceMotion}
 use Rattle.laws.specs.Sorted.{Sorted}
+use Rattle.laws.specs.Truth.{not-passing}
 use Rattle.operation.specs.Code.{codeOf}
 use Rattle.operation.specs.Entries.{Entries}
 use Rattle.operation.specs.Meaning.{matrixOf, motionOf}
@@ -80,12 +81,8 @@ not-congruent : (c : Centering) (f g : Operation)
 unfolding motionOf
 not-congruent c f g = (
   (λ e h. true≢false (sym (congruent-lattice c (f .translation) (g .translation) .1 h) ∙ e)),
-  λ h. fails (congruentOf c (f .translation) (g .translation)) (λ e. h (congruent-lattice c (f .translation) (g .translation) .0 e)),
+  λ h. not-passing (congruentOf c (f .translation) (g .translation)) (λ e. h (congruent-lattice c (f .translation) (g .translation) .0 e)),
 )
-  where
-    fails : (b : Bool) → ¬ (b ≡ true) → b ≡ false
-    fails true n = absurd (n refl)
-    fails false n = refl
 
 module _ (c d : Centering) (l k : List Operation) (F : Form c l) (G : Form d k) where
   found-difference : (e : Entry) → Found (congruentOf c) (map itemOf l) (map itemOf k) e → Difference c d l k e

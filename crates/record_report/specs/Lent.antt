@@ -2,7 +2,7 @@
 -- triples that are the smallest of their classes modulo one lattice are in one class exactly if they are equal.
 use mathlib.Core.Path.{_≡_, refl, sym, _∙_, ap, ap₂, subst}
 use mathlib.Core.Logic.{_↔_}
-use mathlib.Core.Bool.{Bool, true, false, true≢false}
+use mathlib.Core.Bool.{Bool, true}
 use mathlib.Core.Option.{some}
 use mathlib.Core.List.{List, [], _∷_, _++_, map, append-assoc, List·Memᴰ as Mem, List·Memᴰ·head as here, List·Memᴰ·tail as there}
 use Prim.Native.Nat.{ℕ, _+_, _*_, _-_, _≤_}
@@ -13,11 +13,12 @@ use lib.ListN.{length, getD, take, drop, replicate, length-append, length-drop, 
 use lib.Seq.{take-at, drop-at}
 use Rattle.laws.specs.LentParts.{tail-part}
 use Rattle.laws.specs.Lattice.{sameTriple, triple-decides}
+use Rattle.laws.specs.Truth.{holds, same-truth}
 use Rattle.operation.specs.Meaning.{motionOf}
 use Rattle.operation.specs.Product.{identityOperation}
 use Rattle.operation.specs.declared.Translation.{Translation}
 use Rattle.centering.specs.Lattices.{tripleOf, translationOf, smallestOf, congruentOf}
-use Rattle.centering.specs.LatticeLaws.{holds, congruent-lattice, Smallest, smallest-is, smallest-same}
+use Rattle.centering.specs.LatticeLaws.{congruent-lattice, Smallest, smallest-is, smallest-same}
 use Rattle.centering.specs.declared.Centering.{Centering}
 use Rattle.group_record.specs.Acceptance.{Holds, tells-exactly}
 use Rattle.group_record.specs.Editions.{fromEnd, from-end, trailerBytes, framed, framed-length, framed-items}
@@ -218,12 +219,6 @@ same-exactly s t = (
   λ e. holds .0 (subst (λ (u : Translation). T (sameTriple (tripleOf s) (tripleOf u))) e (triple-decides .reflexive (tripleOf s))),
 )
 
--- Tests that hold together are equal.
-both-ways : (a b : Bool) → (a ≡ true → b ≡ true) → (b ≡ true → a ≡ true) → a ≡ b
-both-ways true b h k = sym (h refl)
-both-ways false true h k = absurd (true≢false (sym (k refl)))
-both-ways false false h k = refl
-
 -- Smallest triples are in one class exactly if they are equal.
 pub smallest-equal : (c : Centering) (s t : Translation) → Smallest c s s → Smallest c t t → (congruentOf c s t ≡ true) ↔ (s ≡ t)
 smallest-equal c s t h k =
@@ -263,7 +258,7 @@ module _ (first second : List ℕ) (R : Read first) (S : Read second) where
         → congruentOf (sheetOf first .lattice) (i .translation) (j .translation) ≡ sameTranslation (i .translation) (j .translation)
     same-tests i j m k =
         let equal = congruent-equal first second R S letters-agree i j m k in
-        both-ways (congruentOf (sheetOf first .lattice) (i .translation) (j .translation)) (sameTranslation (i .translation) (j .translation))
+        same-truth (congruentOf (sheetOf first .lattice) (i .translation) (j .translation)) (sameTranslation (i .translation) (j .translation))
         (λ h. same-exactly (i .translation) (j .translation) .1 (equal .0 h)) (λ h. equal .1 (same-exactly (i .translation) (j .translation) .0 h))
 
     -- and where not, the entries.

@@ -13,6 +13,7 @@ use borrow.Author.Tests.{eqb-true, eq-eqb, ne-eqb}
 use lib.ListN.{length}
 use Rattle.laws.specs.Distinct.{has, has→Mem, Mem→has, eqb-decides, eqb-equivalence}
 use Rattle.laws.specs.Sorted.{sorted-nil, sorted-cons, keep, kept-member, member-kept, sorted-keep, sorted-map, sorted-nodup, key-strict, key-decides, key-total, unique, sort-member, member-sort, sort-sorted}
+use Rattle.laws.specs.Truth.{passes-or-fails}
 use Rattle.operation.specs.declared.Translation.{Translation}
 use Rattle.centering.specs.Lattices.{congruentOf}
 use Rattle.group_record.specs.Editions.{fromEnd, framed, framed-injective}
@@ -81,14 +82,10 @@ module _ (same : Translation → Translation → Bool) (f s : List Item) (F : As
       by true h = absurd (h tt)
       by false h = refl
 
-  same-or-not : (b : Bool) → (b ≡ true) ⊎ (b ≡ false)
-  same-or-not true = inl refl
-  same-or-not false = inr refl
-
   -- An item of the first that stays is in the second,
   stayed : (z : Item) → Mem z f → stays D z ≡ true → Mem z s
   stayed z m h = elim (among s (z .code)) [
-    | inl (j, n, q) ↦ elim (same-or-not (same (z .translation) (j .translation))) [
+    | inl (j, n, q) ↦ elim (passes-or-fails (same (z .translation) (j .translation))) [
       | inl e ↦ mem-cast (item≡ (sym q) (exact z j m n e)) n
       | inr e ↦ absurd (spoken (inBoth z j) (found-listed same f s F S _ (in-both z j m n (sym q) e)) z refl h)
     ]
@@ -126,7 +123,7 @@ module _ (same : Translation → Translation → Bool) (f s : List Item) (F : As
 
   back : (z : Item) → Mem z s → Mem z (keep (stays D) f ++ map brought (keep brings D))
   back z n = elim (among f (z .code)) [
-    | inl (i, m, q) ↦ elim (same-or-not (same (i .translation) (z .translation))) [
+    | inl (i, m, q) ↦ elim (passes-or-fails (same (i .translation) (z .translation))) [
       | inl h ↦
           let one : i ≡ z = item≡ q (exact i z m n h) in
           mem-left {s = keep (stays D) f} (map brought (keep brings D))

@@ -2,7 +2,7 @@
 use mathlib.Core.Path.{_≡_, refl}
 use mathlib.Core.List.{[], _∷_}
 use Rattle.laws.specs.Residue.{residue, turned, _⊕_}
-use Rattle.laws.specs.Lattice.{all, sameTriple, smallest, leastRank, rank, unrank}
+use Rattle.laws.specs.Lattice.{sameTriple, smallest, leastRank, rank, unrank}
 use Rattle.laws.specs.Sorted.{sort, insert}
 use lib.IntN.{one}
 use Rattle.laws.specs.Integer.{nought, _⊖_}
@@ -11,9 +11,10 @@ use Rattle.laws.specs.Motion.{product}
 use Rattle.laws.specs.Distinct.{has}
 use Rattle.laws.specs.LatticeMaps.{keepsPoints}
 use Rattle.laws.specs.Closure.{fresh, run, closure}
-use Rattle.laws.specs.SameMatrix.{sameInteger, sameMatrix}
+use Rattle.laws.specs.SameMatrix.{sameMatrix}
 use Rattle.laws.specs.Growth.{place}
 use Rattle.laws.specs.GrowthClosure.{agrees, stepsFrom, steadyFrom}
+use Rattle.laws.specs.Truth.{all}
 use Rattle.operation.specs.Meaning.{entryOf, matrixOf, vectorOf, motionOf, digitAbove, digitOf, inside, rowInside, allInside}
 use Rattle.operation.specs.Product.{operationOf}
 use Rattle.operation.specs.RotationType.{handednessBy, handednessOf}
@@ -46,7 +47,7 @@ use Rattle.record_writing.specs.SymbolRecords.{textRecord}
 pub text-example : textRecord (45 ∷ 80 ∷ 32 ∷ 49 ∷ []) ≡ 12 ∷ 126 ∷ 0 ∷ 0 ∷ 0 ∷ 64 ∷ 100 ∷ 0 ∷ 0 ∷ 0 ∷ 80 ∷ 1 ∷ 2 ∷ 0 ∷ 15 ∷ []
 unfolding textRecord recordOf recordIn writtenIn listedForm smallestOperation smallestOf smallest leastRank rank unrank _⊕_ sort insert bytesOf itemBytes
     symbolAnswer outcomeOf firstOff listing isSmall sameVectorClass onList keepsOf letterAmong letterOf handednessBy handednessOf operationOf entryOf
-    matrixOf vectorOf motionOf digitAbove digitOf inside rowInside allInside codeOf agrees stepsFrom steadyFrom place sameInteger sameMatrix fresh run
+    matrixOf vectorOf motionOf digitAbove digitOf inside rowInside allInside codeOf agrees stepsFrom steadyFrom place sameMatrix fresh run
     closure keepsPoints all sameTriple has residue turned product times act plus opposite unit origin determinant nought _⊖_ one whitespace solid allowed
     unclosed opening runs.run tokensFrom letterToken latticeToken shifts.oneDigit shifts.twoDigits shifts.digitsOf shifts.shiftNumber shifts.numbersOf
     shifts.closedShift shiftedCoordinate shifted atShift atEnd operations readSymbol token-reader.readRun token-reader.letterThen token-reader.readLetter

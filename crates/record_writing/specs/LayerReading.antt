@@ -40,7 +40,8 @@ use Rattle.group_record.specs.Groups.{InSet, Allowed, Listing}
 use Rattle.group_record.specs.ListedForm.{form-length, form-member, form-set, smallest-alike}
 use Rattle.record_writing.specs.RoundTrips.{reads-back-in}
 use Rattle.record_writing.specs.AcceptedSymbols.{accepted-listing, accepted-allowed}
-use Rattle.record_writing.specs.SymbolSets.{spells-once, set-of-list}
+use Rattle.record_writing.specs.SymbolSets.{set-of-list}
+use Rattle.hall_symbol.specs.Agreement.{spells-once}
 use Rattle.record_writing.specs.LayerRecords.{smallRecord, capital-byte, layerTextRecord, InLayerSet, capital-set, capital-accepted, layer-record-of-list}
 use Rattle.group_record.specs.declared.Edition.the-variants.{First}
 use Rattle.group_record.specs.declared.Reading.the-variants.{Accepted}

@@ -121,7 +121,7 @@ module _ (text : List ℕ) where
 -- ---- what it says
 -- The set of motions of a layer text: it spells a layer symbol, and the motion is a finite product of the symbol's generators and translations by L.
 abbrev pub InLayerSet : List ℕ → SpaceMotion → Type 0
-InLayerSet text m = (c : Centering) × (gens : List Operation) × LayerSpells text c gens × generated.InSet c gens m
+InLayerSet text m = (c : Centering) × (gens : List Operation) × LayerSpells text c gens × generated.InGeneratedSet c gens m
 
 -- It is that of the text with the capital letter.
 pub capital-set : (text : List ℕ) (m : SpaceMotion) → InLayerSet text m ↔ InSetOf (capitalised text) m

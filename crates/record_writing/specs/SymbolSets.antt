@@ -9,9 +9,8 @@ use Rattle.laws.specs.Motion.{SpaceMotion}
 use Rattle.operation.specs.Meaning.{motionOf}
 use Rattle.operation.specs.declared.Operation.{Operation}
 use Rattle.centering.specs.declared.Centering.{Centering}
-use Rattle.hall_symbol.specs.Reader.{symbol}
 use Rattle.hall_symbol.specs.Spelling.{Spells}
-use Rattle.hall_symbol.specs.Agreement.{symbol-exactly}
+use Rattle.hall_symbol.specs.Agreement.{spells-once}
 use Rattle.space_group_theorems.specs.SetOfMotions as generated
 use Rattle.symbol_group.specs.AcceptedTexts.{AcceptedText, accepted-text}
 use Rattle.symbol_group.specs.Answers.{symbolAnswer}
@@ -26,13 +25,7 @@ use Rattle.group_record.specs.declared.Edition.the-variants.{First, Third}
 
 -- The set of motions of a text: it spells a symbol, and the motion is a finite product of the symbol's generators and translations by L.
 abbrev pub InSetOf : List ℕ → SpaceMotion → Type 0
-InSetOf text m = (c : Centering) × (gens : List Operation) × Spells text c gens × generated.InSet c gens m
-
--- A text spells one symbol.
-pub spells-once : (text : List ℕ) (c d : Centering) (gens hens : List Operation) → Spells text c gens → Spells text d hens → (c ≡ d) × (gens ≡ hens)
-spells-once text c d gens hens s t =
-    let same : symbol c gens ≡ symbol d hens = sym (symbol-exactly text c gens .1 s) ∙ symbol-exactly text d hens .1 t in
-    (cc, cc)
+InSetOf text m = (c : Centering) × (gens : List Operation) × Spells text c gens × generated.InGeneratedSet c gens m
 
 -- The record of a text's group in an edition.
 unfoldable pub textRecordIn : Known → List ℕ → List ℕ
@@ -57,7 +50,7 @@ module _ (text : List ℕ) (A : AcceptedText text) where
   pub set-of-list : (m : SpaceMotion) → InSetOf text m ↔ InSet (A .letter) (map motionOf (A .operations)) m
   set-of-list m = (forth, back)
     where
-      exactly : generated.InSet (A .letter) (A .generators) m ↔ ((o : Operation) × Mem o (A .operations) × Alike (A .letter) m (motionOf o))
+      exactly : generated.InGeneratedSet (A .letter) (A .generators) m ↔ ((o : Operation) × Mem o (A .operations) × Alike (A .letter) m (motionOf o))
       exactly = generated.set-exactly (A .letter) (A .generators) (A .operations) (A .steps) (A .accepted) m
 
       forth : InSetOf text m → InSet (A .letter) (map motionOf (A .operations)) m

@@ -33,14 +33,14 @@ abbrev pub afterOff : {A : Type 0} → ℕ → ℕ → ListOutcome A → ListOut
 afterOff off count answer = cond (ltb off count) (refused (Lattice off)) answer
 
 -- The generators without their flags.
-abbrev pub elements : List (Flagged Operation) → List Operation
-elements gens = map (λ (g : Flagged Operation). g .element) gens
+abbrev pub plainOf : List (Flagged Operation) → List Operation
+plainOf gens = map (λ (g : Flagged Operation). g .element) gens
 
 -- The numbers in list order, or why there are none.
 unfoldable pub numberOutcome : Centering → List (Flagged Operation) → ListOutcome ℕ
 numberOutcome c gens =
     let answer = ofVerdict (onGrowth (numberGrowth c 96 (map flaggedNumber gens))) in
-    afterOff (firstOff c (elements gens)) (length gens) answer
+    afterOff (firstOff c (plainOf gens)) (length gens) answer
 
 -- How many are listed,
 abbrev pub answerBy : {A : Type 0} → ListOutcome A → FlaggedAnswer

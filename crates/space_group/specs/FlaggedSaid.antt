@@ -28,7 +28,7 @@ use Rattle.space_group.specs.Traversal.{sameTurn, productInside}
 use Rattle.space_group.specs.OperationGrowth.{motionGrowth, operationForms, identity-operation}
 use Rattle.space_group.specs.NumberGrowth.{AllDigits, reducedOperation, generatorNumber, narrowed-narrow, narrowed-short, generator-says, reduced-times, flaggedSaid, sameFlaggedClass, timesSaid, unit-said, numberGrowth, flagged-growth}
 use Rattle.space_group.specs.FlaggedGenerators.{bitOf, flaggedNumber}
-use Rattle.space_group.specs.FlaggedOutcomes.{elements}
+use Rattle.space_group.specs.FlaggedOutcomes.{plainOf}
 
 -- ---- one growth by equal products
 module _ {A G : Type 0} (same alike : A → A → Bool) (_·_ _∘_ : A → G → Option A) (limit : ℕ) (unit : A) where
@@ -100,7 +100,7 @@ flagged-congruence gens f g h _ _ _ t =
     flagged-key sameRotation (timesFlagged compose f h) (timesFlagged compose g h) (ap (λ b. xor b (h .flag)) (key-flag sameRotation f g t))
     (rotation-same (compose (f .element) (h .element)) (compose (g .element) (h .element)) turn)
 
-module _ (c : Centering) (gens : List (Flagged Operation)) (digits : AllDigits (elements gens)) where
+module _ (c : Centering) (gens : List (Flagged Operation)) (digits : AllDigits (plainOf gens)) where
   abbrev flaggedGrown : Flagged Operation → Option (Growth (Flagged Operation))
   flaggedGrown unit = grown (sameFlagged sameTurn) (sameFlaggedClass c) (flaggedTimes productInside) 96 unit gens
 

@@ -21,7 +21,7 @@ use Rattle.space_group.specs.Generated.{firstOff}
 use Rattle.space_group.specs.NumberGrowth.{unitNumber, numberGrowth}
 use Rattle.space_group.specs.NumberSlots.{Ends, Holds, ended-none, ended-some}
 use Rattle.space_group.specs.FlaggedGenerators.{withFlags, flaggedNumber, with-length, plain-with}
-use Rattle.space_group.specs.FlaggedOutcomes.{ListOutcome, group, refused, ofVerdict, elements, numberOutcome, answerBy, slotsBy}
+use Rattle.space_group.specs.FlaggedOutcomes.{ListOutcome, group, refused, ofVerdict, plainOf, numberOutcome, answerBy, slotsBy}
 use Rattle.space_group.specs.declared.refusal.Refusal.{Refusal}
 use Rattle.space_group.specs.declared.refusal.Refusal.the-variants.{Lattice, Rotations, Translations}
 use Rattle.space_group.specs.declared.flagged.FlaggedAnswer.{FlaggedAnswer}
@@ -77,13 +77,13 @@ begins-group o s e ended before numbers noughts steps h first long =
 
 -- ---- what the numbers come to
 module _ (c : Centering) (gens : List (Flagged Operation)) where
-  pub numbers-off : firstOff c (elements gens) < length gens → numberOutcome c gens ≡ refused (Lattice (firstOff c (elements gens)))
+  pub numbers-off : firstOff c (plainOf gens) < length gens → numberOutcome c gens ≡ refused (Lattice (firstOff c (plainOf gens)))
   unfolding numberOutcome
-  numbers-off h = rw (lt-ltb (firstOff c (elements gens)) (length gens) h)
+  numbers-off h = rw (lt-ltb (firstOff c (plainOf gens)) (length gens) h)
 
-  pub numbers-grown : length gens ≤ firstOff c (elements gens) → numberOutcome c gens ≡ ofVerdict (onGrowth (numberGrowth c 96 (map flaggedNumber gens)))
+  pub numbers-grown : length gens ≤ firstOff c (plainOf gens) → numberOutcome c gens ≡ ofVerdict (onGrowth (numberGrowth c 96 (map flaggedNumber gens)))
   unfolding numberOutcome
-  numbers-grown h = rw (le-ltb (firstOff c (elements gens)) (length gens) h)
+  numbers-grown h = rw (le-ltb (firstOff c (plainOf gens)) (length gens) h)
 
 -- ---- the first n of nine generators
 module _ (c : Centering) (n : ℕ) (generators : List Operation) (flags : List Bool) (nine : length generators ≡ 9) where
@@ -115,7 +115,7 @@ module _ (c : Centering) (n : ℕ) (generators : List Operation) (flags : List B
     long : length gens ≡ n
     long = with-length (take n generators) (take n flags) ∙ length-take-le n generators (omega arith)
 
-    found-elements : off ≡ firstOff c (elements gens)
+    found-elements : off ≡ firstOff c (plainOf gens)
     found-elements = found ∙ ap (firstOff c) (sym (plain-with (take n generators) (take n flags)))
 
     pub begins-off : off < n → (slots : List ℕ) → length slots ≡ 96 → Begins (numberOutcome c gens) (Refused (Lattice off)) slots

@@ -12,8 +12,8 @@ use lib.IntN.{pos}
 use Rattle.laws.specs.Matrix.{act, times}
 use Rattle.laws.specs.Motion.{SpaceMotion, compose, product}
 use Rattle.laws.specs.Residue.{residue, reduced, reduced-plus, reduced-act, residue-pos, triple≡, turned, _⊕_}
-use Rattle.laws.specs.Lattice.{same-test}
 use Rattle.laws.specs.Growth.{Growth, turns, grow, grown, takenUp, imageGrowth, Image, grown-image}
+use Rattle.laws.specs.Truth.{same-test}
 use Rattle.group_growth.specs.Flagged.{xor, Flagged, flagged≡, flaggedBy, held, sameFlagged, key-flag, key-element, flagged-key}
 use Rattle.group_growth.specs.FlaggedGrowth.{flaggedTimes}
 use Rattle.operation.specs.Meaning.{vectorOf, matrixOf, motionOf, Digits, allInside, rotation≡}

@@ -10,12 +10,12 @@ use lib.Dec.{eqb}
 use lib.ListN.{length, getD, take, drop, set, replicate, length-append, length-drop, length-map, List·getD-append}
 use lib.Seq.{set-at, take-at, drop-cons, append-snoc}
 use Rattle.laws.specs.Growth.{Growth, place, place-le, recurring, lengthened}
+use Rattle.laws.specs.Indices.{at-any}
 use Rattle.group_growth.specs.Resuming as growing
 use Rattle.group_growth.specs.Resuming.{seed}
 use Rattle.packed_operation.specs.Number.{keyOf, rowDigits, flagOf}
 use Rattle.centering.specs.declared.Centering.{Centering}
 use Rattle.space_group.specs.Places.{place-key}
-use Rattle.space_group.specs.Resuming.{at-any}
 use Rattle.space_group.specs.Traversal.{padded}
 use Rattle.space_group.specs.Hints.{Hinted, hint-more, hint-start}
 use Rattle.space_group.specs.NumberGrowth.{signOf, sameSign, sameShift, numberTimes, unitNumber, numberGrowth}
@@ -52,12 +52,6 @@ front-at l before i d e h = List·getD-append l (drop (length l) before) d i h �
 -- As many slots as before.
 pub front-length : {A : Type 0} (l before : List A) → length l ≤ length before → length (l ++ drop (length l) before) ≡ length before
 front-length l before h = simp (length-append, length-drop) (omega arith)
-
--- An element of an image.
-pub image-at : {A B : Type 0} (f : A → B) (l : List A) (i : ℕ) (d : A) (e : B) → i < length l → getD (map f l) i e ≡ f (getD l i d)
-image-at f [] i d e h = absurd (omega arith)
-image-at f (x ∷ l) zero d e h = refl
-image-at f (x ∷ l) (suc i) d e h = image-at f l i d e (omega arith)
 
 -- Images laid into slots one by one.
 filled-next : {A B : Type 0} (f : A → B) (l : List A) (before : List B) (i : ℕ) (d : A) → i < length l → i < length before

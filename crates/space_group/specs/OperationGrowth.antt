@@ -13,11 +13,12 @@ use Rattle.laws.specs.Matrix.{Vector, times, act, plus, opposite, unit, origin}
 use Rattle.laws.specs.Motion.{SpaceMotion, product, compose, identity}
 use Rattle.laws.specs.Residue.{residue, reduced, reduced-plus, reduced-opposite, reduced-again, _⊕_}
 use Rattle.laws.specs.Distinct.{has, has↔Mem}
-use Rattle.laws.specs.Lattice.{sameTriple, triple-decides, Congruent, same-test, congruent-reflexive}
+use Rattle.laws.specs.Lattice.{sameTriple, triple-decides, Congruent, congruent-reflexive}
 use Rattle.laws.specs.Closure.{Congruence}
 use Rattle.laws.specs.SameMatrix.{sameRotation, same-rotation, rotation-same}
 use Rattle.laws.specs.MotionsModulo.{Alike, Keeps, motions-keyed}
-use Rattle.laws.specs.GrowthClosure.{T-true, true-T, allowed}
+use Rattle.laws.specs.GrowthClosure.{allowed}
+use Rattle.laws.specs.Truth.{same-test, T-true, true-T}
 use Rattle.group_growth.specs.Verdicts.{imageVerdict, onGrowth}
 use Rattle.group_growth.specs.Growing.{Growing, verdict}
 use Rattle.group_growth.specs.Forms.{Forms, growth-verdict}

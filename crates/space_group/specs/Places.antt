@@ -11,7 +11,7 @@ use borrow.Author.Tests.{eq-eqb, ne-eqb}
 use Rattle.laws.specs.Distinct.{Mem→has, equality-equivalence}
 use Rattle.laws.specs.Lattice.{sameTriple, triple-decides, congruent-reflexive}
 use Rattle.laws.specs.Growth.{place}
-use Rattle.laws.specs.GrowthClosure.{T-true}
+use Rattle.laws.specs.Truth.{T-true}
 use Rattle.operation.specs.Meaning.{vectorOf}
 use Rattle.operation.specs.declared.Translation.{Translation}
 use Rattle.centering.specs.Letters.{pointsOf}

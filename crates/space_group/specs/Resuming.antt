@@ -1,10 +1,11 @@
 -- Lists in slots: one element more, what stands in a slot, and a generator among those that are used.
 use mathlib.Core.Path.{_≡_, refl, sym, _∙_}
 use mathlib.Core.List.{List, [], _∷_, _++_}
-use Prim.Native.Nat.{ℕ, zero, suc, _-_, _≤_, _<_}
+use Prim.Native.Nat.{ℕ, suc, _-_, _≤_, _<_}
 use native.Mathlib.Omega.{arith}
 use lib.ListN.{length, getD, take, set, replicate, length-append, length-replicate, List·getD-append}
 use lib.Seq.{set-at, getD-take, length-take-le, append-snoc}
+use Rattle.laws.specs.Indices.{at-any}
 use Rattle.operation.specs.declared.Operation.{Operation}
 use Rattle.space_group.specs.Traversal.{padded}
 
@@ -23,12 +24,6 @@ padded-at n e l i d h = List·getD-append l (replicate (n - length l) e) d i h
 -- As many slots as there should be.
 pub padded-length : {A : Type 0} (n : ℕ) (e : A) (l : List A) → length l ≤ n → length (padded n e l) ≡ n
 padded-length n e l h = simp (length-append, length-replicate) (omega arith)
-
--- Inside a list it does not matter what would stand past its end.
-pub at-any : {A : Type 0} (l : List A) (i : ℕ) (d e : A) → i < length l → getD l i d ≡ getD l i e
-at-any [] i d e h = absurd (omega arith)
-at-any (x ∷ l) zero d e h = refl
-at-any (x ∷ l) (suc i) d e h = at-any l i d e (omega arith)
 
 -- A generator among those that are used.
 pub generator-at : (n : ℕ) (l : List Operation) (j : ℕ) (d e : Operation) → j < n → n ≤ length l → getD l j d ≡ getD (take n l) j e

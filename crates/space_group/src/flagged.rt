@@ -1,5 +1,6 @@
 // The group of generators with flags (time reversals): its list as numbers in lent slots, or why there is none. The traversal is that of plain generators;
-// a rotation may be listed once with the flag and once without it, so the limit is 96.
+// a rotation may be listed once with the flag and once without it, so the limit is 96. Ported from `MagneticHallSymbol` of data/hall_symbol.rs of moyo
+// 0.21.0, and changed: numbers in lent slots, and refusals.
 ghost use mathlib.Core.Path.{_≡_};
 ghost use mathlib.Core.List.{_++_, map};
 ghost use Prim.Native.Nat.{_≤_};

@@ -18,10 +18,10 @@ use Rattle.laws.specs.LatticeMaps.{MapsOnto}
 use Rattle.laws.specs.SameMatrix.{sameMatrix, sameRotation, same-rotation, rotation-same, rotation-equivalence}
 use Rattle.laws.specs.MotionsModulo.{alike-identity}
 use Rattle.laws.specs.GrowthClosure.{stepsFrom}
+use Rattle.laws.specs.Indices.{member-at, member-index}
 use Rattle.group_growth.specs.Verdicts.{overgrown, torn, imageVerdict}
 use Rattle.group_growth.specs.Growing.{OkGenerators, Few, AllFine, OneToUnit}
 use Rattle.group_growth.specs.Acceptance.{Whole, listed-exactly, listed-whole, overgrown-exactly, torn-exactly}
-pub use Rattle.group_growth.specs.Lists.{member-at, member-index}
 use Rattle.operation.specs.Meaning.{matrixOf, motionOf}
 use Rattle.operation.specs.Entries.{Entries}
 use Rattle.operation.specs.Product.{identityOperation, operationOf}

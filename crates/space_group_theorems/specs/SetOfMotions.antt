@@ -4,7 +4,7 @@ use mathlib.Core.Logic.{_↔_}
 use mathlib.Core.List.{List, List·Memᴰ as Mem}
 use Prim.Native.Nat.{ℕ}
 use Rattle.laws.specs.Matrix.{Vector, times, act, unit, plus, opposite, times-unit, plus-assoc, plus-comm, plus-opposite, plus-origin}
-use Rattle.laws.specs.Motion.{SpaceMotion, product, compose, identity}
+use Rattle.laws.specs.Motion.{SpaceMotion, product, compose, identity, translationBy}
 use Rattle.laws.specs.Lattice.{InLattice}
 use Rattle.laws.specs.MotionsModulo.{Alike, Keeps}
 use Rattle.group_growth.specs.WholeSet as growing
@@ -18,15 +18,11 @@ use Rattle.space_group.specs.OperationGrowth.{motionGrowth, operationForms}
 use Rattle.space_group_theorems.specs.Acceptance.{Accepted, accepted-whole, motions-keep}
 use Rattle.space_group_theorems.specs.Members.{listed-member, member-listed}
 
--- The translation by a vector.
-abbrev pub translationBy : Vector → SpaceMotion
-translationBy v = record { rotation = unit; translation = v }
-
 -- The least set with the identity and closed under a generator, or a translation by a vector of L, as right factor.
-pub data InSet (c : Centering) (gens : List Operation) : SpaceMotion → Type 0 where
-  origin : InSet c gens identity
-  by-generator : {f g : SpaceMotion} → InSet c gens f → Mem g (motions gens) → InSet c gens (compose f g)
-  by-lattice : {f : SpaceMotion} (v : Vector) → InSet c gens f → InLattice (pointsOf c) v → InSet c gens (compose f (translationBy v))
+pub data InGeneratedSet (c : Centering) (gens : List Operation) : SpaceMotion → Type 0 where
+  origin : InGeneratedSet c gens identity
+  by-generator : {f g : SpaceMotion} → InGeneratedSet c gens f → Mem g (motions gens) → InGeneratedSet c gens (compose f g)
+  by-lattice : {f : SpaceMotion} (v : Vector) → InGeneratedSet c gens f → InLattice (pointsOf c) v → InGeneratedSet c gens (compose f (translationBy v))
 
 -- A sum less one of its summands.
 sum-less : (v w : Vector) → plus (plus v w) (opposite w) ≡ v
@@ -68,19 +64,19 @@ module _ (c : Centering) where
 
   module _ (gens : List Operation) where
     -- The set is that of the generators and what is free.
-    in-growing : {f : SpaceMotion} → InSet c gens f → growing.InSet (motionGrowth c) (LatticeTranslation c) (motions gens) f
+    in-growing : {f : SpaceMotion} → InGeneratedSet c gens f → growing.InWholeSet (motionGrowth c) (LatticeTranslation c) (motions gens) f
     in-growing origin = growing.origin
     in-growing (by-generator s m) = growing.by-generator (in-growing s) m
     in-growing (by-lattice v s m) = growing.by-free (in-growing s) (v, m, refl)
 
-    growing-in : {f : SpaceMotion} → growing.InSet (motionGrowth c) (LatticeTranslation c) (motions gens) f → InSet c gens f
+    growing-in : {f : SpaceMotion} → growing.InWholeSet (motionGrowth c) (LatticeTranslation c) (motions gens) f → InGeneratedSet c gens f
     growing-in growing.origin = origin
     growing-in (growing.by-generator s m) = by-generator (growing-in s) m
-    growing-in (growing.by-free {x} s (v, m, e)) = subst (λ t. InSet c gens (compose x t)) (sym e) (by-lattice v (growing-in s) m)
+    growing-in (growing.by-free {x} s (v, m, e)) = subst (λ t. InGeneratedSet c gens (compose x t)) (sym e) (by-lattice v (growing-in s) m)
 
 module _ (c : Centering) (gens operations : List Operation) (steps : List ℕ) (A : Accepted c gens operations steps) where
   -- The set of motions is the listed operations with L added.
-  pub set-exactly : (f : SpaceMotion) → InSet c gens f ↔ ((o : Operation) × Mem o operations × Alike (pointsOf c) f (motionOf o))
+  pub set-exactly : (f : SpaceMotion) → InGeneratedSet c gens f ↔ ((o : Operation) × Mem o operations × Alike (pointsOf c) f (motionOf o))
   set-exactly f =
       let exactly =
       growing.set-exactly (motionGrowth c) (LatticeTranslation c) (motions gens) (translations-free c) (motions-keep c gens (A .keep)) 48 (A .list) steps

@@ -12,7 +12,7 @@ use Rattle.laws.specs.SameMatrix.{sameRotation, same-rotation}
 use Rattle.laws.specs.MotionsModulo.{Alike, motions-keyed}
 use Rattle.laws.specs.Growth.{place}
 use Rattle.laws.specs.GrowthClosure.{place-lt, place-same, stepsFrom}
-use Rattle.group_growth.specs.Lists.{member-at, image-at}
+use Rattle.laws.specs.Indices.{member-at, image-at}
 use Rattle.operation.specs.Meaning.{motionOf}
 use Rattle.operation.specs.Product.{identityOperation, operationOf}
 use Rattle.operation.specs.declared.Operation.{Operation}

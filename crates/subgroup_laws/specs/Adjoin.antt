@@ -3,15 +3,17 @@
 -- for a set that would hold an element below a bound that h does not hold, so such a set is given up early.
 use mathlib.Core.Path.{_≡_, refl, sym, ap, _∙_}
 use mathlib.Core.Logic.{_⊎_, inl, inr}
-use mathlib.Core.Bool.{Bool, true, false, cond, true≢false}
+use mathlib.Core.Bool.{true, false, cond, true≢false}
 use Prim.Native.Nat.{ℕ, suc, _+_, _^_, _<_, _≤_}
 use native.Mathlib.Omega.{arith}
 use lib.Bits.{bitOr, or-lt}
 use lib.Count.{ones}
 use lib.Dec.{eqb}
 use borrow.Author.Tests.{eq-eqb, eqb-true}
+use lib.Pow.{pow-lt}
 use Rattle.laws.specs.Sets.{member, member-below, member-empty, member-singleton, bounded, member-or, with-member, Subset, setOf, setOf-below, member-setOf, or-new, ones-add, ones-proper}
-use Rattle.subgroup_laws.specs.Bounded.{or-either, or-holds-left, or-holds-right, not-passing, every, passes-every, every-passes}
+use Rattle.laws.specs.Truth.{or-either, or-holds-left, or-holds-right, not-passing, asked-passes, passes-asked}
+use Rattle.subgroup_laws.specs.Bounded.{every, passes-every, every-passes}
 use Rattle.subgroup_laws.specs.Conjugation.{inverse-below, inverse-left}
 use Rattle.subgroup_laws.specs.Cosets.{cosetOf, coset-below, coset-source, coset-holds, coset-new}
 use Rattle.subgroup_laws.specs.Groups.{Group, inverseOf}
@@ -25,6 +27,11 @@ singleton-self i = member-singleton i i ∙ eq-eqb i i refl
 -- and nothing else
 pub singleton-only : (i j : ℕ) → member (2 ^ i) j ≡ true → j ≡ i
 singleton-only i j m = sym (eqb-true i j (sym (member-singleton i j) ∙ m))
+
+-- the set of the identity is a subgroup
+pub trivial-subgroup : (n : ℕ) (_·_ : ℕ → ℕ → ℕ) (e : ℕ) → Group n _·_ e → Subgroup n _·_ e (2 ^ e)
+trivial-subgroup n _·_ e G = closed-set n _·_ e G (2 ^ e) (pow-lt (G .identity-below)) (singleton-self e)
+    (λ x y i j. rw (singleton-only e x i, singleton-only e y j, G .left-identity e (G .identity-below)) (singleton-self e))
 
 module _ (n : ℕ) (_·_ : ℕ → ℕ → ℕ) (e : ℕ) (h g : ℕ) where
   infixl 70 _·_
@@ -238,11 +245,7 @@ module _ (n : ℕ) (_·_ : ℕ → ℕ → ℕ) (e : ℕ) (h g : ℕ) where
       -- what keeps every member is among them
       keeper-passes : (u : ℕ) → u < n → ((x : ℕ) → member k x ≡ true → member k (x · u) ≡ true) → member keepers u ≡ true
       unfolding keepers
-      keeper-passes u l f = member-setOf n _ u l ∙ passes-every _ n (λ x m. either (member k x) (f x))
-        where
-          either : (a : Bool) {b : Bool} → (a ≡ true → b ≡ true) → cond a b true ≡ true
-          either true f = f refl
-          either false f = refl
+      keeper-passes u l f = member-setOf n _ u l ∙ passes-every _ n (λ x m. passes-asked (member k x) (f x))
 
       -- they are elements
       keeper-below : (u : ℕ) → member keepers u ≡ true → u < n
@@ -253,10 +256,7 @@ module _ (n : ℕ) (_·_ : ℕ → ℕ → ℕ) (e : ℕ) (h g : ℕ) where
       keeper-keeps : (u : ℕ) → member keepers u ≡ true → (x : ℕ) → member k x ≡ true → member k (x · u) ≡ true
       unfolding keepers
       keeper-keeps u i x m =
-          kept m (every-passes _ n (sym (member-setOf n _ u (keeper-below u i)) ∙ i) x (member-below n k x (W .small) m))
-        where
-          kept : {a b : Bool} → a ≡ true → cond a b true ≡ true → b ≡ true
-          kept p q = rw p at q
+          asked-passes m (every-passes _ n (sym (member-setOf n _ u (keeper-below u i)) ∙ i) x (member-below n k x (W .small) m))
 
       -- they are a subgroup
       keepers-subgroup : Subgroup n _·_ e keepers

@@ -16,7 +16,7 @@ use Rattle.subgroup_laws.specs.SameConjugates.{conjugate-as-sorted, conj
 use Rattle.subgroup_laws.specs.SameSubgroups.{subgroups-as-enumerated, search-ends}
 use Rattle.subgroup_laws.specs.Subsets.{Subgroup, conjugateOf, normalizerOf}
 use Rattle.subgroup_laws.specs.Table.{product, goodCells, GroupTable}
-use Rattle.subgroup_laws.specs.TableLaws.{cells-good}
+use Rattle.subgroup_laws.specs.TableCells.{cells-good}
 
 module _ (n : ℕ) (t : List ℕ) (e : ℕ) where
   -- what the Rust makes of the table

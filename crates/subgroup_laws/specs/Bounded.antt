@@ -1,57 +1,13 @@
 -- What a loop over the numbers below a bound decides: whether all of them pass a test, whether one of them does, and which is the first.
 use mathlib.Core.Path.{_≡_, refl, sym, ap, _∙_}
 use mathlib.Core.Logic.{_⊎_, inl, inr}
-use mathlib.Core.Bool.{Bool, true, false, cond, _&&_, _||_, true≢false, and-eq-true-iff}
+use mathlib.Core.Bool.{Bool, true, false, cond, _&&_, _||_, true≢false}
 use Prim.Native.Nat.{ℕ, zero, suc, _<_}
 use native.Mathlib.Decide.{ℕ-discrete, decLt}
 use native.Mathlib.Omega.{arith}
 use lib.Dec.{ltb}
 use borrow.Author.Tests.{lt-ltb, le-ltb}
-
--- ---- Booleans
-
--- a conjunction that holds holds on both sides
-pub and-both : (a b : Bool) → (a && b) ≡ true → (a ≡ true) × (b ≡ true)
-and-both a b e = and-eq-true-iff a b .0 e
-
--- two tests that pass make a conjunction that does
-pub both-and : (a b : Bool) → a ≡ true → b ≡ true → (a && b) ≡ true
-both-and a b e f = and-eq-true-iff a b .1 (e, f)
-
--- a conjunction fails if its second test does
-pub and-fails : (a b : Bool) → b ≡ false → (a && b) ≡ false
-and-fails true b e = e
-and-fails false b e = refl
-
--- a conjunction fails if its first test does
-pub and-fails-left : (a b : Bool) → a ≡ false → (a && b) ≡ false
-and-fails-left true b e = absurd (true≢false e)
-and-fails-left false b e = refl
-
--- a disjunction that holds holds on one side
-pub or-either : (a b : Bool) → (a || b) ≡ true → (a ≡ true) ⊎ (b ≡ true)
-or-either true b e = inl refl
-or-either false b e = inr e
-
--- a disjunction holds if its first test passes
-pub or-holds-left : (a b : Bool) → a ≡ true → (a || b) ≡ true
-or-holds-left true b e = refl
-or-holds-left false b e = absurd (true≢false (sym e))
-
--- a disjunction holds if its second test passes
-pub or-holds-right : (a b : Bool) → b ≡ true → (a || b) ≡ true
-or-holds-right true b e = refl
-or-holds-right false b e = e
-
--- a test passes or fails
-pub passes-or-fails : (a : Bool) → (a ≡ true) ⊎ (a ≡ false)
-passes-or-fails true = inl refl
-passes-or-fails false = inr refl
-
--- what does not pass fails
-pub not-passing : (a : Bool) → (a ≡ true → ⊥) → a ≡ false
-not-passing true f = absurd (f refl)
-not-passing false f = refl
+use Rattle.laws.specs.Truth.{and-both, both-and, or-either, or-holds-left, or-holds-right, passes-or-fails, not-passing}
 
 -- ---- all
 

@@ -5,7 +5,7 @@ use mathlib.Core.List.{List, _∷_, map}
 use Prim.Native.Nat.{ℕ}
 use lib.Dec.{eqb}
 use Rattle.subgroup_laws.specs.Bounded.{some, first}
-use Rattle.subgroup_laws.specs.Listing.{listed}
+use Rattle.subgroup_laws.specs.ListedSets.{listed}
 use Rattle.subgroup_laws.specs.Subsets.{conjugateOf}
 
 module _ (n : ℕ) (_·_ : ℕ → ℕ → ℕ) (e h : ℕ) where

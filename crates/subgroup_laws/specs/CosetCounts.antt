@@ -19,7 +19,7 @@ use Rattle.subgroup_laws.specs.Conjugation.{inverse-below, inverse-left,
 use Rattle.subgroup_laws.specs.Cosets.{cosetOf, coset-below, coset-source, coset-holds, coset-new}
 use Rattle.subgroup_laws.specs.Groups.{Group, inverseOf}
 use Rattle.subgroup_laws.specs.Images.{image-holds, image-source, image-ones, sorted-distinct}
-use Rattle.subgroup_laws.specs.Listing.{listed, listed-passes, passes-listed, listed-sorted}
+use Rattle.subgroup_laws.specs.ListedSets.{listed, listed-passes, passes-listed, listed-sorted}
 use Rattle.subgroup_laws.specs.ListedConjugates.{listed-conjugate, conjugate-listed, conjugates-distinct, normalizer-member, normalizer-subgroup}
 use Rattle.subgroup_laws.specs.Subsets.{Subgroup, imageOf, conjugateOf, normalizerOf}
 

@@ -9,7 +9,7 @@ use lib.Bits.{bitOr, or-lt}
 use lib.Pow.{pow-lt, pow-pos}
 use borrow.Author.Tests.{eq-eqb, eqb-true}
 use Rattle.laws.specs.Sets.{member, member-below, member-empty, member-or, with-member, member-singleton, Subset, subset-le}
-use Rattle.subgroup_laws.specs.Bounded.{or-either, or-holds-left, or-holds-right}
+use Rattle.laws.specs.Truth.{or-either, or-holds-left, or-holds-right}
 use Rattle.subgroup_laws.specs.GroupLaws.{TwoSidedIdentity, passes-associative}
 use Rattle.subgroup_laws.specs.Groups.{associates}
 use Rattle.subgroup_laws.specs.Images.{image-below, image-source}

@@ -4,7 +4,8 @@ use mathlib.Core.Bool.{true}
 use Prim.Native.Nat.{ℕ, _<_}
 use lib.Dec.{eqb}
 use borrow.Author.Tests.{eq-eqb, lt-ltb, ltb-true, eqb-true}
-use Rattle.subgroup_laws.specs.Bounded.{passes-every, every-passes, and-both, both-and, first-least, first-passing}
+use Rattle.subgroup_laws.specs.Bounded.{passes-every, every-passes, first-least, first-passing}
+use Rattle.laws.specs.Truth.{and-both, both-and}
 use Rattle.subgroup_laws.specs.Groups.{Group, isIdentity, identityOf, isInverse, inverseOf, hasInverses, associatesAt, associates}
 
 module _ (n : ℕ) (_·_ : ℕ → ℕ → ℕ) where

@@ -8,7 +8,7 @@ use lib.Dec.{eqb}
 use lib.Pow.{pow-lt, pow-pos}
 use borrow.Author.Tests.{eq-eqb, eqb-true}
 use Rattle.laws.specs.Sets.{member, member-empty, with-member, Subset}
-use Rattle.subgroup_laws.specs.Bounded.{or-either, or-holds-left, or-holds-right}
+use Rattle.laws.specs.Truth.{or-either, or-holds-left, or-holds-right}
 use Rattle.subgroup_laws.specs.Images.{image-unique}
 use Rattle.subgroup_laws.specs.Removal.{Without, without-old, without-cases}
 use Rattle.subgroup_laws.specs.Subsets.{imageOf}

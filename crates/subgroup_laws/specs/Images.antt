@@ -11,7 +11,8 @@ use borrow.Author.Tests.{eq-eqb, eqb-true}
 use Rattle.laws.specs.Distinct.{has, Distinct, nil, cons, eqb-equivalence, has-member, Mem→has, pigeonhole}
 use Rattle.laws.specs.Sets.{member, member-below, setOf-below, member-setOf, members, member-listed, listed-member, members-sorted, ones-members, subset-antisymmetric}
 use Rattle.laws.specs.Sorted.{Sorted, sorted-nil, sorted-cons, StrictOrder, key-strict}
-use Rattle.subgroup_laws.specs.Bounded.{passes-some, some-passes, both-and, and-both}
+use Rattle.laws.specs.Truth.{both-and, and-both}
+use Rattle.subgroup_laws.specs.Bounded.{passes-some, some-passes}
 use Rattle.subgroup_laws.specs.Subsets.{imageOf}
 
 -- a strictly sorted list of numbers is without repeats

@@ -5,7 +5,7 @@ pub mod Bounded
 pub mod Groups
 pub mod GroupLaws
 pub mod Table
-pub mod TableLaws
+pub mod TableCells
 pub mod Rows
 -- Sets of elements: subgroups, images, conjugates.
 pub mod Subsets
@@ -23,7 +23,7 @@ pub mod Adjoin
 -- Lists of sets in lent slots, and the list order.
 pub mod Slots
 pub mod SlotBytes
-pub mod Listing
+pub mod ListedSets
 pub mod Lists
 -- The search for subgroups and for representatives of their classes.
 pub mod Search

@@ -17,7 +17,7 @@ use Rattle.subgroup_laws.specs.Conjugates.{isOther, othersOf, conjugates
 use Rattle.subgroup_laws.specs.Conjugation.{conjugate-below, conjugate-set-by-identity, conjugate-set-twice}
 use Rattle.subgroup_laws.specs.Groups.{Group}
 use Rattle.subgroup_laws.specs.Images.{sorted-distinct}
-use Rattle.subgroup_laws.specs.Listing.{listed-passes, passes-listed, listed-sorted}
+use Rattle.subgroup_laws.specs.ListedSets.{listed-passes, passes-listed, listed-sorted}
 use Rattle.subgroup_laws.specs.SubgroupLaws.{closed-set}
 use Rattle.subgroup_laws.specs.Subsets.{Subgroup, conjugateOf, normalizerOf}
 

@@ -11,7 +11,7 @@ use Rattle.laws.specs.Sets.{member, member-below, setOf, setOf-below, member-se
 use Rattle.laws.specs.Sorted.{Sorted}
 use Rattle.subgroup_laws.specs.Conjugation.{conjugate-below, conjugate-set-back, inverse-below}
 use Rattle.subgroup_laws.specs.Groups.{Group, inverseOf}
-use Rattle.subgroup_laws.specs.Listing.{listed-passes, passes-listed, listed-sorted, listed-unique}
+use Rattle.subgroup_laws.specs.ListedSets.{listed-passes, passes-listed, listed-sorted, listed-unique}
 use Rattle.subgroup_laws.specs.Lists.{chosen, Chosen, chosen-passes, passes-chosen, subgroupsOf, representativesOf}
 use Rattle.subgroup_laws.specs.Representatives.{FirstConjugate, first-start, first-next, first-end, first-represented}
 use Rattle.subgroup_laws.specs.SubgroupLaws.{closed-set}

@@ -5,10 +5,11 @@ use mathlib.Core.List.{List}
 use Prim.Native.Nat.{ℕ, _<_}
 use borrow.Author.Tests.{not-true}
 use Rattle.laws.specs.ListOrder.{Precedes, earlier, earlier-precedes, precedes-earlier}
-use Rattle.subgroup_laws.specs.Bounded.{every, every-passes, passes-every, and-both, both-and, not-passing}
+use Rattle.laws.specs.Truth.{and-both, both-and, not-passing}
+use Rattle.subgroup_laws.specs.Bounded.{every, every-passes, passes-every}
 use Rattle.subgroup_laws.specs.Conjugation.{conjugate-below}
 use Rattle.subgroup_laws.specs.Groups.{Group}
-use Rattle.subgroup_laws.specs.Listing.{listed}
+use Rattle.subgroup_laws.specs.ListedSets.{listed}
 use Rattle.subgroup_laws.specs.SubgroupLaws.{test-subgroup, subgroup-test}
 use Rattle.subgroup_laws.specs.Subsets.{Subgroup, isSubgroup, conjugateOf}
 

@@ -9,7 +9,8 @@ use lib.Bits.{bitAnd, and-mask}
 use lib.Dec.{eqb}
 use lib.Pow.{pow-pos}
 use Rattle.laws.specs.Sets.{member, member-below, member-and, member-setOf, setOf, subset-test}
-use Rattle.subgroup_laws.specs.Bounded.{every, every-passes, every-fails, passes-or-fails}
+use Rattle.laws.specs.Truth.{passes-or-fails, asked-passes}
+use Rattle.subgroup_laws.specs.Bounded.{every, every-passes, every-fails}
 
 -- all numbers below b, as a set
 full-set : (b : ℕ) → setOf b (λ i. true) + 1 ≡ 2 ^ b
@@ -41,13 +42,10 @@ within-passes b c h t i l m = subset-test (c % 2 ^ b) h .0 t i (member-remainder
 pub within-fails : (b c h : ℕ) → eqb (bitAnd (c % 2 ^ b) h) (c % 2 ^ b) ≡ false → (i : ℕ) × (i < b) × (member c i ≡ true) × (member h i ≡ false)
 within-fails b c h t = elim (passes-or-fails (every (λ i. cond (member c i) (member h i) true) b)) [
   | inl all ↦ absurd (true≢false (sym (subset-test (c % 2 ^ b) h .1 (λ i m.
-      let l = remainder-below b c i m in kept (sym (member-remainder b c i l) ∙ m) (every-passes _ b all i l))) ∙ t))
+      let l = remainder-below b c i m in asked-passes (sym (member-remainder b c i l) ∙ m) (every-passes _ b all i l))) ∙ t))
   | inr some ↦ let (i, l, f) = every-fails _ b some in let (m, new) = failing (member c i) f in (i, l, m, new)
 ]
   where
-    kept : {a b : Bool} → a ≡ true → cond a b true ≡ true → b ≡ true
-    kept p q = rw p at q
-
     failing : (a : Bool) {b : Bool} → cond a b true ≡ false → (a ≡ true) × (b ≡ false)
     failing true f = (refl, f)
     failing false f = absurd (true≢false f)

@@ -6,10 +6,11 @@ use native.Mathlib.Omega.{arith}
 use lib.Count.{ones, onesIn}
 use lib.ListN.{length, getD}
 use Rattle.laws.specs.Sets.{member, members, members-length, members-sorted, members-position, position-below, ones-below, listed-member}
-use Rattle.laws.specs.Sorted.{StrictOrder, at-member, one-place}
+use Rattle.laws.specs.Sorted.{StrictOrder, one-place}
+use Rattle.laws.specs.Indices.{member-at, image-at}
 use Rattle.subgroup_laws.specs.Conjugation.{conjugate-product, conjugate-source, conjugate-holds, conjugate-element-below, conjugate-back}
 use Rattle.subgroup_laws.specs.Groups.{Group, inverseOf}
-use Rattle.subgroup_laws.specs.Permutations.{permutationOf, positionOf, permutation-entry, value-at}
+use Rattle.subgroup_laws.specs.Permutations.{permutationOf, positionOf, permutation-entry}
 use Rattle.subgroup_laws.specs.Subsets.{Subgroup, conjugateElement, conjugateOf}
 
 -- the numbers ascend
@@ -31,8 +32,8 @@ module _ (n : ℕ) (_·_ : ℕ → ℕ → ℕ) (e : ℕ) (G : Group n _·_ e) (
   size = members-length n h ∙ sym (ones-below n h (H .small))
 
   -- a member's place in the list is that of an element of the subgroup
-  member-at : (i : ℕ) → i < ones h → (memberAt i < n) × (member h (memberAt i) ≡ true)
-  member-at i k = listed-member n h (memberAt i) (at-member _<_ (members n h) i 0 (let q = size in omega arith))
+  listed-at : (i : ℕ) → i < ones h → (memberAt i < n) × (member h (memberAt i) ≡ true)
+  listed-at i k = listed-member n h (memberAt i) (member-at (members n h) i 0 (let q = size in omega arith))
 
   -- what entry i names is member i, conjugated
   entry-named : (i : ℕ) → i < ones h → memberAt (entryAt i) ≡ conjugateElement n _·_ e (memberAt i) g
@@ -43,17 +44,17 @@ module _ (n : ℕ) (_·_ : ℕ → ℕ → ℕ) (e : ℕ) (G : Group n _·_ e) (
       → memberAt i · memberAt j ≡ memberAt k → memberAt (entryAt i) · memberAt (entryAt j) ≡ memberAt (entryAt k)
   permutation-product i j k p q r s =
       ap₂ (λ (x y : ℕ). x · y) (entry-named i p) (entry-named j q)
-      ∙ sym (conjugate-product n _·_ e G (memberAt i) (memberAt j) g (member-at i p .0) (member-at j q .0) l)
+      ∙ sym (conjugate-product n _·_ e G (memberAt i) (memberAt j) g (listed-at i p .0) (listed-at j q .0) l)
       ∙ ap (λ (x : ℕ). conjugateElement n _·_ e x g) s ∙ sym (entry-named k r)
 
   -- a position of a member
   pub permutation-below : (i : ℕ) → i < ones h → entryAt i < ones h
   unfolding permutationOf positionOf
   permutation-below i k =
-      let (m, j) = member-at i k in
+      let (m, j) = listed-at i k in
       let long : i < length (members n h) = let q = size in omega arith in
       let named = conjugateElement n _·_ e (memberAt i) g in
-      let at = value-at (positionOf n _·_ e h g) (members n h) i long in
+      let at = image-at (positionOf n _·_ e h g) (members n h) i 0 0 long in
       let low = position-below n h named (conjugate-element-below n _·_ e G (memberAt i) g m l)
       (subst (λ (s : ℕ). member s named ≡ true) keeps (conjugate-holds n _·_ e G h g (memberAt i) (H .small) l j)) in
       let q = size in omega arith
@@ -66,8 +67,8 @@ module _ (n : ℕ) (_·_ : ℕ → ℕ → ℕ) (e : ℕ) (G : Group n _·_ e) (
   -- no two entries are equal
   pub permutation-once : (i j : ℕ) → i < ones h → j < ones h → entryAt i ≡ entryAt j → i ≡ j
   permutation-once i j k m q =
-      let (a, u) = member-at i k in
-      let (b, v) = member-at j m in
+      let (a, u) = listed-at i k in
+      let (b, v) = listed-at j m in
       same-place i j k m
       (sym (conjugate-back n _·_ e G (memberAt i) g a l)
       ∙ ap (λ (x : ℕ). conjugateElement n _·_ e x (inverseOf n _·_ e g)) (sym (entry-named i k) ∙ ap memberAt q ∙ entry-named j m)
@@ -76,7 +77,7 @@ module _ (n : ℕ) (_·_ : ℕ → ℕ → ℕ) (e : ℕ) (G : Group n _·_ e) (
   -- each position is an entry
   pub permutation-onto : (j : ℕ) → j < ones h → (i : ℕ) × (i < ones h) × (entryAt i ≡ j)
   permutation-onto j k =
-      let (a, u) = member-at j k in
+      let (a, u) = listed-at j k in
       let (x, b, v, q) = conjugate-source n _·_ e G h g (memberAt j) (subst (λ (s : ℕ). member s (memberAt j) ≡ true) (sym keeps) u) in
       let place = onesIn x h in
       let low : place < ones h = let p = position-below n h x b v in let s = size in omega arith in (

@@ -5,24 +5,18 @@ use mathlib.Core.Bool.{Bool, true, false, cond}
 use mathlib.Core.List.{List, [], _∷_, _++_, map, map-append, append-assoc}
 use Prim.Native.Nat.{ℕ, zero, suc, _+_, _^_, _%_, _<_}
 use native.Mathlib.Numerals.{add-one}
-use native.Mathlib.Nat.{mod-lt, le-of-suc-le-suc}
+use native.Mathlib.Nat.{mod-lt}
 use native.Mathlib.Omega.{arith}
 use lib.Count.{ones, onesIn}
 use lib.ListN.{length, getD, drop, set, length-map}
 use lib.Pow.{pow-pos}
 use lib.Seq.{drop-cons, set-at}
 use Rattle.laws.specs.Sets.{member, members, members-in, members-out, members-length, members-position, position-below, listed-member, onesIn-suc, ones-below}
-use Rattle.laws.specs.Sorted.{at-member}
+use Rattle.laws.specs.Indices.{member-at, image-at}
 use Rattle.subgroup_laws.specs.Conjugation.{conjugate-holds, conjugate-element-below}
 use Rattle.subgroup_laws.specs.Groups.{Group}
 use Rattle.subgroup_laws.specs.LowMembers.{member-remainder}
 use Rattle.subgroup_laws.specs.Subsets.{conjugateElement, conjugateOf}
-
--- the value at a place
-pub value-at : (f : ℕ → ℕ) (l : List ℕ) (i : ℕ) → i < length l → getD (map f l) i 0 ≡ f (getD l i 0)
-value-at f [] i h = absurd (omega arith)
-value-at f (x ∷ l) zero h = refl
-value-at f (x ∷ l) (suc i) h = value-at f l i (le-of-suc-le-suc h)
 
 module _ (n : ℕ) (_·_ : ℕ → ℕ → ℕ) (e : ℕ) where
   -- the position of g⁻¹ x g among the members of s: how many of them are lower
@@ -45,9 +39,9 @@ module _ (n : ℕ) (_·_ : ℕ → ℕ → ℕ) (e : ℕ) where
   permutation-entry G s g i small h keeps k =
       let long : i < length (members n s) = let q = ones-below n s small in let r = members-length n s in omega arith in
       let x = getD (members n s) i 0 in
-      let (l, m) = listed-member n s x (at-member _<_ (members n s) i 0 long) in
+      let (l, m) = listed-member n s x (member-at (members n s) i 0 long) in
       let y = conjugateElement n _·_ e x g in
-      ap (λ (j : ℕ). getD (members n s) j 0) (value-at (positionOf s g) (members n s) i long)
+      ap (λ (j : ℕ). getD (members n s) j 0) (image-at (positionOf s g) (members n s) i 0 0 long)
       ∙ members-position n s y 0 (conjugate-element-below n _·_ e G x g l h)
       (subst (λ (z : ℕ). member z y ≡ true) keeps (conjugate-holds n _·_ e G s g x small h m))
 

@@ -11,7 +11,7 @@ use lib.Dec.{eqb}
 use lib.Pow.{pow-pos}
 use borrow.Author.Tests.{eq-eqb, ne-eqb, eqb-true, not-true}
 use Rattle.laws.specs.Sets.{member, member-and, member-singleton, member-difference, subset-le, same-sets, or-new, member-add, ones-add, with-member, Subset}
-use Rattle.subgroup_laws.specs.Bounded.{and-both, both-and, and-fails, or-either, or-holds-left, passes-or-fails}
+use Rattle.laws.specs.Truth.{and-both, both-and, and-fails, or-either, or-holds-left, passes-or-fails}
 use Rattle.subgroup_laws.specs.LowMembers.{member-all}
 
 -- r is s without its member i

@@ -10,7 +10,8 @@ use Rattle.laws.specs.Distinct.{has}
 use Rattle.laws.specs.ListOrder.{Precedes, precedes-irreflexive, precedes-transitive, earlier, earlier-precedes, one-list}
 use Rattle.laws.specs.Sets.{members}
 use Rattle.laws.specs.Sorted.{Sorted, head-first, append-sorted-right, append-sorted-across, keep, kept-member, member-kept, sorted-keep}
-use Rattle.subgroup_laws.specs.Bounded.{every-fails, not-passing}
+use Rattle.laws.specs.Truth.{not-passing}
+use Rattle.subgroup_laws.specs.Bounded.{every-fails}
 use Rattle.subgroup_laws.specs.Conjugation.{inverse-below, conjugate-subgroup, conjugate-set-back, conjugate-set-twice}
 use Rattle.subgroup_laws.specs.Groups.{Group, inverseOf}
 use Rattle.subgroup_laws.specs.ListedSubgroups.{only-subgroups, subgroup-listed, subgroups-sorted, representatives, representatives-sorted}

@@ -14,10 +14,10 @@ use lib.Dec.{eqb, eqb→eq, eqb-refl, ltb}
 use lib.ListN.{length, getD}
 use borrow.Author.Tests.{eq-eqb, ne-eqb}
 use Rattle.laws.specs.Distinct.{has, Distinct, nil, cons, eqb-equivalence, Mem→has, distinct-map}
-use Rattle.laws.specs.GrowthClosure.{T-true}
 use Rattle.laws.specs.ListOrder.{Precedes, precedes-compare}
-use Rattle.laws.specs.Sets.{member, members, members-unique, members-sorted, members-position, position-below, listed-member, member-listed, ones-members, same-truth}
+use Rattle.laws.specs.Sets.{member, members, members-unique, members-sorted, members-position, position-below, listed-member, member-listed, ones-members}
 use Rattle.laws.specs.Sorted.{StrictOrder, Sorted, sorted-nil, sorted-cons, unique, one-place, key-strict, key-decides, key-total, sort, sort-member, member-sort, sort-sorted}
+use Rattle.laws.specs.Truth.{T-true, same-truth}
 use Rattle.subgroup_laws.specs.Conjugates.{othersOf, conjugatesOf, conjugatorOf, conjugatorsOf}
 use Rattle.subgroup_laws.specs.Conjugation.{conjugate-below, conjugate-element-below, conjugate-holds, conjugate-source, conjugate-back, conjugate-ones, conjugate-set-by-identity}
 use Rattle.subgroup_laws.specs.Groups.{Group, inverseOf}

@@ -11,15 +11,14 @@ use native.Mathlib.Omega.{arith}
 use lib.Count.{ones, onesIn}
 use lib.Dec.{T, eqb}
 use lib.ListN.{length, length-append, length-map}
-use lib.Pow.{pow-lt}
 use borrow.Author.Tests.{eq-eqb, ne-eqb, eqb-true}
 use Rattle.laws.specs.Distinct.{has, Distinct, nil, cons, DecidesEquality, eqb-decides, eqb-equivalence, equality-equivalence, has→Mem, Mem→has, pigeonhole}
-use Rattle.laws.specs.GrowthClosure.{T-true}
 use Rattle.laws.specs.ListOrder.{Precedes, precedes-compare, LongerOrSmaller}
-use Rattle.laws.specs.Sets.{member, member-below, member-singleton, members, members-unique, listed-member, member-listed, onesIn-suc, ones-below, ones-proper, Subset, setOf, setOf-below, setOf-same, setOf-member, member-setOf, same-truth}
+use Rattle.laws.specs.Sets.{member, member-below, member-singleton, members, members-unique, listed-member, member-listed, onesIn-suc, ones-below, ones-proper, Subset, setOf, setOf-below, setOf-same, setOf-member, member-setOf}
 use Rattle.laws.specs.Sorted.{StrictOrder, Sorted, sorted-nil, sorted-cons, sorted-one, unique}
-use Rattle.subgroup_laws.specs.Adjoin.{Extension, singleton-self, singleton-only}
-use Rattle.subgroup_laws.specs.Bounded.{some, passes-some, some-passes, passes-or-fails, and-both, both-and, or-either, or-holds-left, or-holds-right}
+use Rattle.laws.specs.Truth.{T-true, same-truth, passes-or-fails, and-both, both-and, or-either, or-holds-left, or-holds-right}
+use Rattle.subgroup_laws.specs.Adjoin.{Extension, trivial-subgroup}
+use Rattle.subgroup_laws.specs.Bounded.{some, passes-some, some-passes}
 use Rattle.subgroup_laws.specs.Groups.{Group}
 use Rattle.subgroup_laws.specs.ListedSubgroups.{only-subgroups, subgroup-listed, subgroups-sorted}
 use Rattle.subgroup_laws.specs.Lists.{subgroupsOf}
@@ -142,11 +141,6 @@ module _ (n : ℕ) (_·_ : ℕ → ℕ → ℕ) (e : ℕ) (G : Group n _·_ e) w
     ],
     λ p. here (sym (eqb-true e i (sym (member-singleton e i) ∙ p .1))),
   )))
-
-  -- the trivial subgroup
-  trivial-subgroup : Subgroup n _·_ e (2 ^ e)
-  trivial-subgroup = closed-set n _·_ e G (2 ^ e) (pow-lt (G .identity-below)) (singleton-self e)
-      (λ x y i j. rw (singleton-only e x i, singleton-only e y j, G .left-identity e (G .identity-below)) (singleton-self e))
 
   -- ---- rounds
 
@@ -430,7 +424,7 @@ module _ (n : ℕ) (_·_ : ℕ → ℕ → ℕ) (e : ℕ) (G : Group n _·_ e) w
   unfolding has
   explore-start = record {
     trivial = here refl;
-    known = λ x m. elim (cases m) [ inl w ↦ (2 ^ e, trivial-subgroup, w ∙ sym trivial-list) | inr j ↦ absurd (not-nil j) ];
+    known = λ x m. elim (cases m) [ inl w ↦ (2 ^ e, (trivial-subgroup n _·_ e G), w ∙ sym trivial-list) | inr j ↦ absurd (not-nil j) ];
     distinct = cons (λ t. t) nil;
     queued = λ x m. m;
     settled = λ x m. inl m;
@@ -478,7 +472,7 @@ module _ (n : ℕ) (_·_ : ℕ → ℕ → ℕ) (e : ℕ) (G : Group n _·_ e) w
     -- so it is complete
     seen-complete : Complete n _·_ e false G (numbers all)
     seen-complete = record {
-      trivial = seen-number (2 ^ e) (trivial-subgroup .small) (rw trivial-list (E .trivial));
+      trivial = seen-number (2 ^ e) ((trivial-subgroup n _·_ e G) .small) (rw trivial-list (E .trivial));
       chosen = λ s m. record { subgroup = number-seen s m .0; first = λ q. absurd (true≢false (sym q)) };
       settled = settled-all;
     }

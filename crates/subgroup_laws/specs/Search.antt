@@ -17,9 +17,11 @@ use borrow.Author.Tests.{eqb-true, not-true}
 use lib.Seq.{drop-cons, drop-drop, getD-take, take-append-le, drop-append-le, length-take-le}
 use Rattle.laws.specs.ListOrder.{Precedes, more-members, precedes-transitive, precedes-total, precedes-strict, earlier, earlier-precedes, precedes-earlier}
 use Rattle.laws.specs.Sets.{member, member-below, Subset, subset-antisymmetric, ones-subset, ones-proper, member-singleton}
-use Rattle.laws.specs.Sorted.{Sorted, sorted-cons, sorted-append, append-sorted-left, append-sorted-right, append-sorted-across, at-member, before-all, sorted-places}
+use Rattle.laws.specs.Sorted.{Sorted, sorted-cons, sorted-append, append-sorted-left, append-sorted-right, append-sorted-across, before-all, sorted-places}
+use Rattle.laws.specs.Truth.{passes-or-fails, and-both, both-and}
+use Rattle.laws.specs.Indices.{member-at}
 use Rattle.subgroup_laws.specs.Adjoin.{Barred, Extension}
-use Rattle.subgroup_laws.specs.Bounded.{FirstPassing, first-cases, passes-or-fails, and-both, both-and}
+use Rattle.subgroup_laws.specs.Bounded.{FirstPassing, first-cases}
 use Rattle.subgroup_laws.specs.Conjugation.{conjugate-ones, conjugate-subset, conjugate-set-by-identity, conjugate-set-twice, conjugate-set-back, conjugate-set-forth, conjugate-subgroup, inverse-below}
 use Rattle.subgroup_laws.specs.Groups.{Group, inverseOf}
 use Rattle.subgroup_laws.specs.Lists.{Chosen}
@@ -188,7 +190,7 @@ module _ (n : ℕ) (_·_ : ℕ → ℕ → ℕ) (e : ℕ) (classes : Bool) where
         place-after h =
             let k : p < count = let q = H .size in omega arith in
             let s : slotAt b p ≡ getD l p 0 = holding-slot p k in
-            let word = holding-words _ (at-member Precedes l p 0 h) in
+            let word = holding-words _ (member-at l p 0 h) in
             elim (precedes-total m (getD l p 0) (λ q. apart k (s ∙ sym q))) [
               | inl f ↦ f
               | inr f ↦ absurd (true≢false (sym (precedes-earlier 64 _ m word f) ∙ subst (λ (z : ℕ). earlier 64 z m ≡ false) s (P .after k)))
@@ -234,7 +236,7 @@ module _ (n : ℕ) (_·_ : ℕ → ℕ → ℕ) (e : ℕ) (classes : Bool) where
       -- a set that is there is listed
       pub holding-present : (m p : ℕ) → p < count → slotAt b p ≡ m → Mem m l
       holding-present m p h q =
-          mem-cast (sym q ∙ holding-slot p h) (at-member Precedes l p 0 (let r = H .size in omega arith))
+          mem-cast (sym q ∙ holding-slot p h) (member-at l p 0 (let r = H .size in omega arith))
 
   -- ---- completeness
 

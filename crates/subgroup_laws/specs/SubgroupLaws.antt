@@ -1,6 +1,6 @@
 -- A set of elements that holds the identity and products is a subgroup: inverses follow. The test of a subgroup says exactly that.
-use mathlib.Core.Path.{_≡_, refl}
-use mathlib.Core.Bool.{Bool, true, false, cond}
+use mathlib.Core.Path.{_≡_}
+use mathlib.Core.Bool.{true}
 use mathlib.Core.List.{List, [], _∷_, List·Memᴰ as Mem, List·Memᴰ·head as here, List·Memᴰ·tail as there}
 use Prim.Native.Nat.{ℕ, zero, suc, _^_, _<_}
 use native.Mathlib.Decide.{ℕ-discrete}
@@ -10,7 +10,8 @@ use borrow.Author.Tests.{lt-ltb, ltb-true}
 use Rattle.laws.specs.Distinct.{Distinct, nil, cons, eqb-decides, has-member}
 use Rattle.laws.specs.FiniteGroup.{Group as ListedGroup, closed-inverse}
 use Rattle.laws.specs.Sets.{member, member-below}
-use Rattle.subgroup_laws.specs.Bounded.{and-both, both-and, every-passes, passes-every}
+use Rattle.laws.specs.Truth.{and-both, both-and, asked-passes, passes-asked}
+use Rattle.subgroup_laws.specs.Bounded.{every-passes, passes-every}
 use Rattle.subgroup_laws.specs.Groups.{Group}
 use Rattle.subgroup_laws.specs.Subsets.{Subgroup, holdsRow, isSubgroup}
 
@@ -75,17 +76,11 @@ module _ (n : ℕ) (_·_ : ℕ → ℕ → ℕ) (e : ℕ) (G : Group n _·_ e) w
       let (small, rest) = and-both (ltb s (2 ^ n)) _ t in
       let (unit, rows) = and-both (member s e) _ rest in
       let l : s < 2 ^ n = ltb-true _ _ small in
-      closed-set s l unit (λ x y i j. kept j (every-passes _ n (kept i (every-passes _ n rows x (member-below n s x l i))) y (member-below n s y l j)))
-    where
-      kept : {a b : Bool} → a ≡ true → cond a b true ≡ true → b ≡ true
-      kept p q = rw p at q
+      closed-set s l unit
+      (λ x y i j. asked-passes j (every-passes _ n (asked-passes i (every-passes _ n rows x (member-below n s x l i))) y (member-below n s y l j)))
 
   -- a subgroup passes it
   pub subgroup-test : (s : ℕ) → Subgroup n _·_ e s → isSubgroup n _·_ e s ≡ true
   unfolding isSubgroup holdsRow
   subgroup-test s S = both-and _ _ (lt-ltb _ _ (S .small)) (both-and _ _ (S .holds-identity)
-      (passes-every _ n (λ x h. either (member s x) (λ i. passes-every _ n (λ y k. either (member s y) (λ j. S .holds-products x y i j))))))
-    where
-      either : (a : Bool) {b : Bool} → (a ≡ true → b ≡ true) → cond a b true ≡ true
-      either true f = f refl
-      either false f = refl
+      (passes-every _ n (λ x h. passes-asked (member s x) (λ i. passes-every _ n (λ y k. passes-asked (member s y) (λ j. S .holds-products x y i j))))))

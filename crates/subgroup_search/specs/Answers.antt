@@ -8,7 +8,7 @@ use Rattle.subgroup_laws.specs.Lists.{subgroupsOf, representativesOf}
 use Rattle.subgroup_laws.specs.Slots.{written, cleared}
 use Rattle.subgroup_laws.specs.Table.{product}
 use Rattle.table_check.specs.OnGroup.{onGroup, onBytes}
-use Rattle.table_check.specs.TableCheck.{checkOf}
+use Rattle.table_check.specs.CheckAnswers.{checkOf}
 use Rattle.table_check.specs.declared.Answer.{Answer}
 use Rattle.table_check.specs.declared.Answer.the-variants.{Value, Refused}
 use Rattle.table_check.specs.declared.Refusal.the-variants.{Slots}

@@ -7,4 +7,4 @@ pub mod Growth
 pub mod Progress
 pub mod SearchLoop
 -- From the result of the search to the answer.
-pub mod ListAnswers
+pub mod SearchAnswers

@@ -7,22 +7,21 @@ use Prim.Native.Nat.{ℕ, suc, _+_, _*_, _-_, _/_, _^_, _<_, _≤_}
 use native.Mathlib.Decide.{ℕ-discrete, decLt}
 use native.Mathlib.Omega.{arith}
 use lib.ListN.{length, getD, take, drop, length-append, length-drop}
-use lib.Pow.{pow-lt}
 use lib.Seq.{split-at, drop-at, drop-append-add, drop-drop}
 use Rattle.laws.specs.ListOrder.{Precedes, precedes-irreflexive}
 use Rattle.laws.specs.Sets.{member, member-empty, subset-antisymmetric}
-use Rattle.laws.specs.Sorted.{sorted-one, at-member}
-use Rattle.subgroup_laws.specs.Adjoin.{Barred, Extension, higher-barred, singleton-self, singleton-only}
+use Rattle.laws.specs.Sorted.{sorted-one}
+use Rattle.laws.specs.Indices.{member-at}
+use Rattle.subgroup_laws.specs.Adjoin.{Barred, Extension, higher-barred, singleton-self, singleton-only, trivial-subgroup}
 use Rattle.subgroup_laws.specs.Conjugation.{conjugate-source, conjugate-holds, conjugate-of-identity}
 use Rattle.subgroup_laws.specs.Cosets.{cosetOf}
 use Rattle.subgroup_laws.specs.Groups.{Group}
-use Rattle.subgroup_laws.specs.Listing.{listed, listed-unique, listed-longest}
+use Rattle.subgroup_laws.specs.ListedSets.{listed, listed-unique, listed-longest}
 use Rattle.subgroup_laws.specs.Lists.{Chosen, chosen, chosen-passes, passes-chosen}
 use Rattle.subgroup_laws.specs.Removal.{outsideOf, outside-cases, restOf, rest-cases}
 use Rattle.subgroup_laws.specs.Representatives.{Represented}
 use Rattle.subgroup_laws.specs.Search.{Holding, holding-slot, Complete, complete-listed, Settled, TooMany, settled-more, own-extension, listed-itself, extension-precedes}
 use Rattle.subgroup_laws.specs.Slots.{packed, packed-left-over, bytesOf, slotAt, written}
-use Rattle.subgroup_laws.specs.SubgroupLaws.{closed-set}
 use Rattle.subgroup_laws.specs.Subsets.{Subgroup, conjugateOf}
 use Rattle.element_sets.specs.Insertion.{Inserted, added}
 use Rattle.subgroup_search.specs.Progress.{Progress, counted, overflow, inserted-present, inserted-full, inserted-added}
@@ -210,11 +209,6 @@ module _ (n : ℕ) (_·_ : ℕ → ℕ → ℕ) (e : ℕ) (classes : Bool) where
     pub settled : (h : ℕ) → Mem h (drop (count - done) list) → (g : ℕ) → g < n → Settled n _·_ e classes list h g
 
   module _ (G : Group n _·_ e) (limit : n ≤ 48) where
-    -- the set of the identity is a subgroup
-    trivial-subgroup : Subgroup n _·_ e (2 ^ e)
-    trivial-subgroup = closed-set n _·_ e G (2 ^ e) (pow-lt (G .identity-below)) (singleton-self e)
-        (λ x y i j. rw (singleton-only e x i, singleton-only e y j, G .left-identity e (G .identity-below)) (singleton-self e))
-
     -- it is its only conjugate
     trivial-conjugate : (g : ℕ) → g < n → conjugateOf n _·_ e (2 ^ e) g ≡ 2 ^ e
     trivial-conjugate g h = subset-antisymmetric _ _
@@ -222,12 +216,12 @@ module _ (n : ℕ) (_·_ : ℕ → ℕ → ℕ) (e : ℕ) (classes : Bool) where
         rw (← q, singleton-only e x m, conjugate-of-identity n _·_ e G g h) (singleton-self e))
         (λ y i. rw (singleton-only e y i)
         (subst (λ (z : ℕ). member (conjugateOf n _·_ e (2 ^ e) g) z ≡ true) (conjugate-of-identity n _·_ e G g h)
-        (conjugate-holds n _·_ e G (2 ^ e) g e (trivial-subgroup .small) h (singleton-self e))))
+        (conjugate-holds n _·_ e G (2 ^ e) g e ((trivial-subgroup n _·_ e G) .small) h (singleton-self e))))
 
     -- so it is chosen
     trivial-chosen : Chosen n _·_ e classes (2 ^ e)
     trivial-chosen = record {
-      subgroup = trivial-subgroup;
+      subgroup = (trivial-subgroup n _·_ e G);
       first = λ q g h p. precedes-irreflexive (2 ^ e) (subst (λ (z : ℕ). Precedes z (2 ^ e)) (trivial-conjugate g h) p);
     }
 
@@ -280,7 +274,7 @@ module _ (n : ℕ) (_·_ : ℕ → ℕ → ℕ) (e : ℕ) (classes : Bool) where
 
       -- the set there is a subgroup
       pub searching-subgroup : Subgroup n _·_ e (slotAt b at)
-      searching-subgroup = rw searching-slot (S .holding .chosen _ (at-member Precedes (S .list) at 0 at-below) .subgroup)
+      searching-subgroup = rw searching-slot (S .holding .chosen _ (member-at (S .list) at 0 at-below) .subgroup)
 
       -- the list around it
       around : S .list ≡ take at (S .list) ++ slotAt b at ∷ drop (suc at) (S .list)

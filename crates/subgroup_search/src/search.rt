@@ -5,7 +5,7 @@ ghost use mathlib.Core.Bool.{false};
 ghost use Prim.Native.Nat.{_<_, _≤_, _*_};
 ghost use lib.ListN.{length};
 ghost use Rattle.laws.specs.Sets.{member};
-ghost use Rattle.subgroup_laws.specs.Listing.{listed};
+ghost use Rattle.subgroup_laws.specs.ListedSets.{listed};
 ghost use Rattle.subgroup_laws.specs.Lists.{chosen};
 ghost use Rattle.subgroup_laws.specs.Subsets.{Subgroup};
 ghost use Rattle.subgroup_laws.specs.Table.{product, GroupTable};

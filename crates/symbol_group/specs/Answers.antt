@@ -1,10 +1,12 @@
 -- What is answered for a text: its group slot by slot, its order, an operation of it, a translation; or a refusal.
 use mathlib.Core.Bool.{cond}
 use mathlib.Core.List.{List}
-use Prim.Native.Nat.{ℕ}
+use Prim.Native.Nat.{ℕ, _<_}
 use lib.Dec.{ltb}
 use lib.ListN.{length, getD, replicate, take}
 use Rattle.operation.specs.Answer as answer
+use mathlib.Core.Path.{_≡_}
+use borrow.Author.Tests.{lt-ltb}
 use Rattle.operation.specs.Doubles.{doublesOf}
 use Rattle.operation.specs.Product.{identityOperation}
 use Rattle.operation.specs.declared.Operation.{Operation}
@@ -26,6 +28,7 @@ use Rattle.symbol_group.specs.declared.SymbolOperation.{SymbolOperation}
 use Rattle.symbol_group.specs.declared.SymbolOperation.the-variants.{Operation as FoundOperation, PastEnd, Refused as FoundRefused}
 use Rattle.symbol_group.specs.declared.SymbolTranslation.{SymbolTranslation}
 use Rattle.symbol_group.specs.declared.SymbolTranslation.the-variants.{Doubles as FoundDoubles, PastEnd as PastLast, Refused as TranslationRefused}
+use Rattle.hall_symbol.specs.declared.refusal.Refusal.the-variants.{TooLong}
 
 -- ---- the group, slot by slot
 -- A refusal carries number and place and no other data: letter P, no operations, no generators.
@@ -60,6 +63,11 @@ readingAnswer (refusal r) = refusedAnswer (Text r)
 unfoldable pub symbolAnswer : List ℕ → SymbolGroup
 symbolAnswer text = readingAnswer (readSymbol text)
 
+-- A text over 80 bytes is refused, whatever they are.
+pub long-refused : (text : List ℕ) → 80 < length text → symbolAnswer text ≡ refusedAnswer (Text TooLong)
+unfolding symbolAnswer readSymbol
+long-refused text h = rw (lt-ltb 80 (length text) h)
+
 -- ---- order, operation, translation
 abbrev pub orderBy : Answer → ℕ → SymbolOrder
 orderBy Group count = Is count
@@ -76,13 +84,13 @@ operationBy (Refused r) count operations i = FoundRefused r
 unfoldable pub operationAt : List ℕ → ℕ → SymbolOperation
 operationAt text i = let g = symbolAnswer text in operationBy (g .answer) (g .count) (g .operations) i
 
-abbrev pub translationBy : SymbolOperation → SymbolTranslation
-translationBy (FoundOperation o) = FoundDoubles (doublesOf (o .translation))
-translationBy PastEnd = PastLast
-translationBy (FoundRefused r) = TranslationRefused r
+abbrev pub translationOfFound : SymbolOperation → SymbolTranslation
+translationOfFound (FoundOperation o) = FoundDoubles (doublesOf (o .translation))
+translationOfFound PastEnd = PastLast
+translationOfFound (FoundRefused r) = TranslationRefused r
 
 unfoldable pub translationAt : List ℕ → ℕ → SymbolTranslation
-translationAt text i = translationBy (operationAt text i)
+translationAt text i = translationOfFound (operationAt text i)
 
 -- ---- in numbers
 -- Each answer with what was asked for, or with the refusal's number and place. Of the group: its operations in list order.

@@ -9,11 +9,12 @@ use lib.IntN.{one}
 use Rattle.laws.specs.Integer.{nought}
 use Rattle.laws.specs.Matrix.{unit, origin}
 use Rattle.laws.specs.Residue.{residue}
-use Rattle.laws.specs.Lattice.{all}
 use Rattle.laws.specs.Closure.{fresh, run, closure}
-use Rattle.laws.specs.SameMatrix.{sameInteger, sameMatrix}
+use Rattle.laws.specs.SameMatrix.{sameMatrix}
 use Rattle.laws.specs.Growth.{place}
 use Rattle.laws.specs.GrowthClosure.{agrees, stepsFrom, steadyFrom}
+use Rattle.laws.specs.Truth.{all}
+use Rattle.laws.specs.Indices.{at-any}
 use Rattle.operation.specs.Meaning.{entryOf, matrixOf, vectorOf, motionOf, digitAbove, digitOf, inside, rowInside, allInside}
 use Rattle.operation.specs.Product.{identityOperation, operationOf}
 use Rattle.operation.specs.declared.Operation.{Operation}
@@ -25,12 +26,12 @@ use Rattle.hall_symbol.specs.declared.Answer as text-type
 use Rattle.hall_symbol.specs.declared.Answer.the-variants as text-answer
 use Rattle.hall_symbol.specs.declared.HallSymbol.{HallSymbol}
 use Rattle.space_group.specs.Generated.{firstOff, listing, isSmall, sameVectorClass, onList, Outcome, group, refused, outcomeOf}
-use Rattle.space_group.specs.Resuming.{padded-length, at-any}
+use Rattle.space_group.specs.Resuming.{padded-length}
 use Rattle.space_group.specs.Slots.{answerOf, groupAnswer, outcome-few}
 use Rattle.space_group.specs.declared.Answer as group-type
 use Rattle.space_group.specs.declared.Answer.the-variants as group-answer
 use Rattle.space_group.specs.declared.SpaceGroup.{SpaceGroup}
-use Rattle.symbol_group.specs.Answers.{outcomeAnswer, readingAnswer, symbolAnswer, orderOf, operationAt, translationBy, translationAt}
+use Rattle.symbol_group.specs.Answers.{outcomeAnswer, readingAnswer, symbolAnswer, orderOf, operationAt, translationOfFound, translationAt}
 use Rattle.symbol_group.specs.declared.refusal.Refusal.{Refusal}
 use Rattle.symbol_group.specs.declared.refusal.Refusal.the-variants.{Text, Group as NoGroup}
 use Rattle.symbol_group.specs.declared.Answer.{Answer}
@@ -87,7 +88,7 @@ laid head g =
 -- No generators make the identity alone.
 no-generators : outcomeOf P [] ≡ group (identityOperation ∷ []) []
 unfolding outcomeOf firstOff listing isSmall sameVectorClass onList operationOf motionOf matrixOf vectorOf entryOf digitAbove digitOf inside rowInside allInside
-    agrees stepsFrom steadyFrom place sameInteger sameMatrix fresh run closure all residue unit origin nought one
+    agrees stepsFrom steadyFrom place sameMatrix fresh run closure all residue unit origin nought one
 no-generators = refl
 
 alone : groupAnswer P [] ≡ answerOf P 0 (group (identityOperation ∷ []) [])
@@ -164,6 +165,6 @@ module _ (bytes : List ℕ) (g : SymbolGroup) (e : g ≡ symbolAnswer bytes) whe
         rw (← e, a, lt-ltb i (g .count) h, at-any (g .operations) i d identityOperation within)
 
 -- The translation of what was found.
-pub translation-found : (bytes : List ℕ) (i : ℕ) (f g : SymbolOperation) → f ≡ operationAt bytes i → f ≡ g → translationBy g ≡ translationAt bytes i
+pub translation-found : (bytes : List ℕ) (i : ℕ) (f g : SymbolOperation) → f ≡ operationAt bytes i → f ≡ g → translationOfFound g ≡ translationAt bytes i
 unfolding translationAt
-translation-found bytes i f g p q = ap translationBy (sym q ∙ p)
+translation-found bytes i f g p q = ap translationOfFound (sym q ∙ p)

@@ -10,12 +10,13 @@ use Rattle.laws.specs.Matrix.{times, act, plus, opposite, unit, origin, determi
 use Rattle.laws.specs.Motion.{product}
 use Rattle.laws.specs.Residue.{residue, turned}
 use Rattle.laws.specs.Distinct.{has}
-use Rattle.laws.specs.Lattice.{all, sameTriple}
+use Rattle.laws.specs.Lattice.{sameTriple}
 use Rattle.laws.specs.LatticeMaps.{keepsPoints}
 use Rattle.laws.specs.Closure.{fresh, run, closure}
-use Rattle.laws.specs.SameMatrix.{sameInteger, sameMatrix}
+use Rattle.laws.specs.SameMatrix.{sameMatrix}
 use Rattle.laws.specs.Growth.{place}
 use Rattle.laws.specs.GrowthClosure.{agrees, stepsFrom, steadyFrom}
+use Rattle.laws.specs.Truth.{all}
 use Rattle.operation.specs.Meaning.{entryOf, matrixOf, vectorOf, motionOf, digitAbove, digitOf, inside, rowInside, allInside}
 use Rattle.operation.specs.Product.{operationOf}
 use Rattle.operation.specs.RotationType.{handednessBy, handednessOf}
@@ -110,5 +111,5 @@ cases =
 
 -- The definitions answer what the rules say.
 pub symbols-to-try : map (λ c. told (c .symbol)) cases ≡ map (λ c. c .answer) cases
-unfolding told symbolAnswer outcomeOf firstOff listing isSmall sameVectorClass onList keepsOf letterAmong letterOf handednessBy handednessOf operationOf entryOf matrixOf vectorOf motionOf digitAbove digitOf inside rowInside allInside codeOf agrees stepsFrom steadyFrom place sameInteger sameMatrix fresh run closure keepsPoints all sameTriple has residue turned product times act plus opposite unit origin determinant nought _⊖_ one whitespace solid allowed unclosed opening runs.run tokensFrom letterToken latticeToken shifts.oneDigit shifts.twoDigits shifts.digitsOf shifts.shiftNumber shifts.numbersOf shifts.closedShift shiftedCoordinate shifted atShift atEnd operations readSymbol token-reader.readRun token-reader.letterThen token-reader.readLetter token-reader.markThen token-reader.readMark token-reader.foldThen token-reader.readFold token-reader.readToken token-reader.movedThen token-reader.turnThen token-reader.axisThen token-reader.operationOfParts token-reader.operationToken token-bytes.valueAt token-bytes.foldOf token-bytes.markOf token-bytes.letterOf token-bytes.runByteOf token-bytes.passes token-runs.every token-axes.tokenPlace token-matrices.turns token-matrices.isFor token-matrices.turnAmong token-matrices.turnOf token-matrices.signed token-translations.screwRight token-translations.frontRight token-translations.digitsRight token-translations.sumX token-translations.sumY token-translations.sumZ token-translations.rise token-translations.translationOf token-translations.movedBy token-offsets.passing token-offsets.wrongDigitAt token-letters.occurs token-letters.repeats token-letters.repeatFrom token-reader.onceThen
+unfolding told symbolAnswer outcomeOf firstOff listing isSmall sameVectorClass onList keepsOf letterAmong letterOf handednessBy handednessOf operationOf entryOf matrixOf vectorOf motionOf digitAbove digitOf inside rowInside allInside codeOf agrees stepsFrom steadyFrom place sameMatrix fresh run closure keepsPoints all sameTriple has residue turned product times act plus opposite unit origin determinant nought _⊖_ one whitespace solid allowed unclosed opening runs.run tokensFrom letterToken latticeToken shifts.oneDigit shifts.twoDigits shifts.digitsOf shifts.shiftNumber shifts.numbersOf shifts.closedShift shiftedCoordinate shifted atShift atEnd operations readSymbol token-reader.readRun token-reader.letterThen token-reader.readLetter token-reader.markThen token-reader.readMark token-reader.foldThen token-reader.readFold token-reader.readToken token-reader.movedThen token-reader.turnThen token-reader.axisThen token-reader.operationOfParts token-reader.operationToken token-bytes.valueAt token-bytes.foldOf token-bytes.markOf token-bytes.letterOf token-bytes.runByteOf token-bytes.passes token-runs.every token-axes.tokenPlace token-matrices.turns token-matrices.isFor token-matrices.turnAmong token-matrices.turnOf token-matrices.signed token-translations.screwRight token-translations.frontRight token-translations.digitsRight token-translations.sumX token-translations.sumY token-translations.sumZ token-translations.rise token-translations.translationOf token-translations.movedBy token-offsets.passing token-offsets.wrongDigitAt token-letters.occurs token-letters.repeats token-letters.repeatFrom token-reader.onceThen
 symbols-to-try = refl

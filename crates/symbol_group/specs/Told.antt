@@ -27,7 +27,7 @@ use Rattle.space_group.specs.Told as generators
 use Rattle.space_group_theorems.specs.Witnesses.{ManyRotations, LargeRotation, TwoTranslations, rotations-refused, translations-refused}
 use Rattle.space_group.specs.declared.refusal.Refusal.the-variants.{Lattice, Rotations, Translations}
 use Rattle.symbol_group.specs.Refusals.{numberOf, placeOf}
-use Rattle.symbol_group.specs.Answers.{outcomeAnswer, readingAnswer, symbolAnswer, orderBy, orderOf, operationBy, operationAt, translationBy, translationAt, operationsBy, operationsAnswer, orderAnswer, operationAnswer, translationAnswer}
+use Rattle.symbol_group.specs.Answers.{outcomeAnswer, readingAnswer, symbolAnswer, orderBy, orderOf, operationBy, operationAt, translationOfFound, translationAt, operationsBy, operationsAnswer, orderAnswer, operationAnswer, translationAnswer}
 use Rattle.symbol_group.specs.Slots.{symbol-slots}
 use Rattle.symbol_group.specs.Exactly.{symbol-small, group-exactly, lattice-exactly, generators-refused}
 use Rattle.symbol_group.specs.AcceptedTexts.{accepted-text}
@@ -286,7 +286,7 @@ module _ (count : ℕ) (slots : List Operation) (fits : count ≤ length slots) 
   operation-not (Refused r) n k h = (same-told r n k, same-told r n k)
 
 -- ---- a translation
-translation-given : (f : SymbolOperation) (d : Doubles) → (translationAnswer (translationBy f) ≡ answer.given d)
+translation-given : (f : SymbolOperation) (d : Doubles) → (translationAnswer (translationOfFound f) ≡ answer.given d)
     ↔ ((o : Operation) × (operationAnswer f ≡ answer.given o) × (doublesOf (o .translation) ≡ d))
 translation-given (FoundOperation o) d = (
   (λ e. let z : doublesOf (o .translation) ≡ d = cc in (o, refl, z)),
@@ -298,7 +298,8 @@ translation-given (FoundRefused r) d = (
   λ (_, e, _). let z : _≡_ {A = ℕ} 0 1 = cc in absurd (omega arith),
 )
 
-translation-not : (f : SymbolOperation) (n k : ℕ) → (translationAnswer (translationBy f) ≡ answer.refused n k tt) ↔ (operationAnswer f ≡ answer.refused n k tt)
+translation-not : (f : SymbolOperation) (n k : ℕ)
+    → (translationAnswer (translationOfFound f) ≡ answer.refused n k tt) ↔ (operationAnswer f ≡ answer.refused n k tt)
 translation-not (FoundOperation o) n k = (
   (λ e. let z : _≡_ {A = ℕ} 0 1 = cc in absurd (omega arith)),
   λ e. let z : _≡_ {A = ℕ} 0 1 = cc in absurd (omega arith),

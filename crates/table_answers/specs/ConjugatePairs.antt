@@ -1,13 +1,11 @@
 -- The two lists of conjugates and conjugators, place by place (R7.5): the subgroup first with the identity, and at every
 -- other place a conjugate with the smallest element that conjugates to it.
 use mathlib.Core.Path.{_≡_, refl, sym, subst}
-use mathlib.Core.List.{List, [], _∷_, map, List·Memᴰ·tail as there}
-use Prim.Native.Nat.{ℕ, zero, suc, _<_}
+use mathlib.Core.List.{List·Memᴰ·tail as there}
+use Prim.Native.Nat.{ℕ, suc, _<_}
 use native.Mathlib.Nat.{le-of-suc-le-suc}
-use native.Mathlib.Omega.{arith}
 use lib.ListN.{length, getD}
-use Rattle.laws.specs.ListOrder.{Precedes}
-use Rattle.laws.specs.Sorted.{at-member}
+use Rattle.laws.specs.Indices.{member-at, image-at}
 use Rattle.subgroup_laws.specs.Conjugates.{othersOf, conjugatorOf, conjugatesOf, conjugatorsOf}
 use Rattle.subgroup_laws.specs.Groups.{Group}
 use Rattle.subgroup_laws.specs.ListedConjugates.{listed-conjugate, smallest-conjugator}
@@ -18,12 +16,6 @@ pub record SmallestConjugator (n : ℕ) (times : ℕ → ℕ → ℕ) (e h s g :
   pub below : g < n
   pub conjugates : conjugateOf n times e h g ≡ s
   pub smallest : (j : ℕ) → j < g → conjugateOf n times e h j ≡ s → ⊥
-
--- the value at a place
-value-at : (f : ℕ → ℕ) (l : List ℕ) (k : ℕ) → k < length l → getD (map f l) k 0 ≡ f (getD l k 0)
-value-at f [] k h = absurd (omega arith)
-value-at f (x ∷ l) zero h = refl
-value-at f (x ∷ l) (suc k) h = value-at f l k (le-of-suc-le-suc h)
 
 module _ (n : ℕ) (times : ℕ → ℕ → ℕ) (e h : ℕ) where
   pub subgroup-first : (getD (conjugatesOf n times e h) 0 0 ≡ h) × (getD (conjugatorsOf n times e h) 0 0 ≡ e)
@@ -37,7 +29,7 @@ module _ (n : ℕ) (times : ℕ → ℕ → ℕ) (e h : ℕ) where
       let others = othersOf n times e h in
       let s = getD others k 0 in
       let inside : k < length others = le-of-suc-le-suc l in
-      let (g, low, reached) = listed-conjugate n times e h G H s (there (at-member Precedes others k 0 inside)) in
+      let (g, low, reached) = listed-conjugate n times e h G H s (there (member-at others k 0 inside)) in
       let (below, conjugates, smallest) = smallest-conjugator n times e h G H s g low reached in
-      subst (λ (c : ℕ). SmallestConjugator n times e h s c) (sym (value-at (conjugatorOf n times e h) others k inside))
+      subst (λ (c : ℕ). SmallestConjugator n times e h s c) (sym (image-at (conjugatorOf n times e h) others k 0 0 inside))
       (record { below = below; conjugates = conjugates; smallest = smallest })

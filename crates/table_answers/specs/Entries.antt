@@ -24,7 +24,7 @@ use Rattle.subgroup_laws.specs.SubgroupLaws.{test-subgroup, subgroup-test}
 use Rattle.subgroup_laws.specs.Subsets.{Subgroup, isSubgroup, conjugateElement, conjugateOf, normalizerOf}
 use Rattle.subgroup_laws.specs.Table.{product, GroupTable}
 use Rattle.finite_group.specs.Answers.{tableAnswer, orderAnswer, identityAnswer, listAnswer, listBytes, subgroupsAnswer, subgroupsBytes, classesAnswer, classesBytes, conjugateAnswer, conjugateEntry, normalizerAnswer, normalizerEntry, permutationAnswer, permutationBytes, permutationEntry, permutationList, conjugatesAnswer, conjugatesBytes, conjugatorsBytes, conjugatesEntry, conjugatesList, conjugatorsList}
-use Rattle.conjugation.specs.ConjugateLists.{tooShort}
+use Rattle.conjugation.specs.LentConjugates.{tooShort}
 use Rattle.table_answers.specs.LentLists.{sets-once, bytes-once, sets-cleared, bytes-cleared, sets-written, bytes-written}
 use Rattle.table_answers.specs.Reasons.{Question, Exactly, Leaves, leaves}
 use Rattle.table_answers.specs.Tested.{Decides, Lacks, Tested, answered-exactly, list-left}

@@ -8,7 +8,7 @@ use native.Mathlib.Omega.{arith}
 use Rattle.operation.specs.Answer as told
 use Rattle.subgroup_laws.specs.Table.{GroupTable}
 use Rattle.finite_group.specs.Answers.{numberOf, placeOf, tableAnswer, onGroup, onBytes}
-use Rattle.table_check.specs.TableCheck.{checkOf}
+use Rattle.table_check.specs.CheckAnswers.{checkOf}
 use Rattle.table_check.specs.TableVerdict.{Verdict, order-refused, cells-refused, identity-refused, inverse-refused, associativity-refused, accepted, verdict-checked, checked-verdict}
 use Rattle.table_check.specs.declared.Answer.{Answer}
 use Rattle.table_check.specs.declared.Answer.the-variants.{Value, Refused}

@@ -1,5 +1,5 @@
 -- The check of a table, and what its verdict means.
-pub mod TableCheck
+pub mod CheckAnswers
 pub mod TableVerdict
 -- What is answered on a table.
 pub mod OnGroup

@@ -9,12 +9,13 @@ use native.Mathlib.Decide.{ℕ-discrete, decLt}
 use native.Mathlib.Omega.{arith}
 use lib.Dec.{ltb}
 use borrow.Author.Tests.{eq-eqb, ne-eqb, lt-ltb, le-ltb, eqb-false, ltb-true}
-use Rattle.subgroup_laws.specs.Bounded.{every-passes, passes-every, every-fails, fails-every, passes-or-fails, not-passing}
+use Rattle.subgroup_laws.specs.Bounded.{every-passes, passes-every, every-fails, fails-every}
+use Rattle.laws.specs.Truth.{passes-or-fails, not-passing}
 use Rattle.subgroup_laws.specs.GroupLaws.{TwoSidedIdentity, TwoSidedInverse, identity-found, found-identity, found-inverse, inverse-found, associative-passes, passes-associative, group-made, group-identity, group-inverses}
 use Rattle.subgroup_laws.specs.Groups.{Group, identityOf, hasInverses, associatesAt, associates}
 use Rattle.subgroup_laws.specs.Table.{product, Cells, goodCells, GroupTable}
-use Rattle.subgroup_laws.specs.TableLaws.{good-cells, cells-good, product-below}
-use Rattle.table_check.specs.TableCheck.{checkOf, Accepts}
+use Rattle.subgroup_laws.specs.TableCells.{good-cells, cells-good, product-below}
+use Rattle.table_check.specs.CheckAnswers.{checkOf, Accepts}
 use Rattle.table_check.specs.declared.Checked.{Checked}
 use Rattle.table_check.specs.declared.Checked.the-variants.{Group as IsGroup, NoGroup}
 use Rattle.table_check.specs.declared.Refusal.the-variants.{Order, «Cells» as NoCells, Identity, Inverse, Associativity}

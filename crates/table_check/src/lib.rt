@@ -1,7 +1,7 @@
 // The check that bytes are the table of a group: refusals 21 to 25, or the group's identity.
 // Ported from subgroup/finite_group.rs of moyo 0.21.0 (`from_table`), and changed: the order is limited and associativity is checked.
 ghost use mathlib.Core.Path.{_≡_};
-ghost use Rattle.table_check.specs.TableCheck.{checkOf};
+ghost use Rattle.table_check.specs.CheckAnswers.{checkOf};
 use associativity::is_associative;
 use table::good_cells;
 use table::has_inverses;

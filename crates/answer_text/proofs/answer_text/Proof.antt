@@ -8,10 +8,6 @@ use Rattle.placed_text.specs.Placing.{put-then}
 use borrow.Author.Needs.{needs}
 use Rattle.answer_text.proofs.answer_text.Statement.{statement}
 use Rattle.answer_text.proofs.answer_text.Tie as tie
-use Rattle.answer_text.proofs.answer_text.Reads as reads
-use Rattle.answer_text.proofs.answer_text.Lts as lts
-use Rattle.answer_text.proofs.put_answer.Reads as put-answer-reads
-use Rattle.answer_text.proofs.put_symbol.Reads as put-symbol-reads
 
 slice-aggregate-put-symbol : tie.Need-slice-aggregate-put-symbol
 slice-aggregate-put-symbol c = search needs

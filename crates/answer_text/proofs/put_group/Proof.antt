@@ -7,10 +7,6 @@ use Rattle.placed_text.specs.Placing.{put-two, put-then}
 use borrow.Author.Needs.{needs}
 use Rattle.answer_text.proofs.put_group.Statement.{statement}
 use Rattle.answer_text.proofs.put_group.Tie as tie
-use Rattle.answer_text.proofs.put_group.Reads as reads
-use Rattle.answer_text.proofs.put_group.Lts as lts
-use Rattle.answer_text.proofs.operations.put_operations.Reads as put-operations-reads
-use Rattle.answer_text.proofs.placing.put_number.Reads as put-number-reads
 
 mul-out : tie.Need-mul-out
 mul-out c = search needs

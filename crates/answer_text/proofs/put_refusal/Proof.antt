@@ -8,12 +8,6 @@ use Rattle.placed_text.specs.Placing.{put-then, put-named}
 use borrow.Author.Needs.{needs}
 use Rattle.answer_text.proofs.put_refusal.Statement.{statement}
 use Rattle.answer_text.proofs.put_refusal.Tie as tie
-use Rattle.answer_text.proofs.put_refusal.Reads as reads
-use Rattle.answer_text.proofs.put_refusal.Lts as lts
-use Rattle.answer_text.proofs.placing.put_bytes.Reads as put-bytes-reads
-use Rattle.answer_text.proofs.placing.put_number.Reads as put-number-reads
-use Rattle.symbol_group.proofs.refusal.Refusal.number.Reads as number-reads
-use Rattle.symbol_group.proofs.refusal.Refusal.place.Reads as place-reads
 
 number-requires : tie.Need-number-requires
 number-requires c κs = search needs

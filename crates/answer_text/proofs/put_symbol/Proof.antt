@@ -6,10 +6,6 @@ use Rattle.placed_text.specs.Placing.{put-byte, put-then, put-named}
 use borrow.Author.Needs.{needs}
 use Rattle.answer_text.proofs.put_symbol.Statement.{statement}
 use Rattle.answer_text.proofs.put_symbol.Tie as tie
-use Rattle.answer_text.proofs.put_symbol.Reads as reads
-use Rattle.answer_text.proofs.put_symbol.Lts as lts
-use Rattle.answer_text.proofs.symbol_bytes.Reads as symbol-bytes-reads
-use Rattle.answer_text.proofs.placing.put_bytes.Reads as put-bytes-reads
 
 symbol-bytes-requires : tie.Need-symbol-bytes-requires
 symbol-bytes-requires c κs = search needs

@@ -5,8 +5,6 @@ use lib.Seq.{take-all, length-take-le}
 use borrow.Author.Needs.{needs}
 use Rattle.answer_text.proofs.symbol_bytes.Statement.{statement}
 use Rattle.answer_text.proofs.symbol_bytes.Tie as tie
-use Rattle.answer_text.proofs.symbol_bytes.Reads as reads
-use Rattle.answer_text.proofs.symbol_bytes.Lts as lts
 
 returns : tie.Need-returns
 returns c = sym (take-all 80 (c .before .args .line .now) (c .if1 .taken))

@@ -8,9 +8,6 @@ use borrow.Author.Needs.{needs}
 use Rattle.catalogue.specs.declared.Answer.the-variants.{Told}
 use Rattle.catalogue.proofs.told.Statement.{statement}
 use Rattle.catalogue.proofs.told.Tie as tie
-use Rattle.catalogue.proofs.told.Reads as reads
-use Rattle.catalogue.proofs.told.Lts as lts
-use Rattle.record_writing.proofs.symbol.write_record.Reads as write-record-reads
 
 returns : tie.Need-returns
 returns c =

@@ -6,8 +6,6 @@ use Rattle.centering.specs.Lattices.{differenceOf}
 use borrow.Author.Needs.{needs}
 use Rattle.centering.proofs.difference.Statement.{statement}
 use Rattle.centering.proofs.difference.Tie as tie
-use Rattle.centering.proofs.difference.Reads as reads
-use Rattle.centering.proofs.difference.Lts as lts
 
 cast-t3 : tie.Need-cast-t3
 cast-t3 c = search needs

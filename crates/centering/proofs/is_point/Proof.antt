@@ -5,10 +5,6 @@ use Rattle.centering.specs.PointSearch.{search-found, search-fourth}
 use borrow.Author.Needs.{needs}
 use Rattle.centering.proofs.is_point.Statement.{statement}
 use Rattle.centering.proofs.is_point.Tie as tie
-use Rattle.centering.proofs.is_point.Reads as reads
-use Rattle.centering.proofs.is_point.Lts as lts
-use Rattle.centering.proofs.Centering.lattice_points.Reads as lattice-points-reads
-use Rattle.centering.proofs.same.Reads as same-reads
 
 lattice-points-requires : tie.Need-lattice-points-requires
 lattice-points-requires c κs = search needs

@@ -5,19 +5,15 @@ use native.Mathlib.Omega.{arith}
 use lib.ListN.{length, drop}
 use borrow.Author.Needs.{needs}
 use borrow.Author.Tests.{not-true, not-false}
-use Rattle.laws.specs.Lattice.{all, zeroTriple}
+use Rattle.laws.specs.Lattice.{zeroTriple}
 use Rattle.laws.specs.LatticeMaps.{keepsPoints}
+use Rattle.laws.specs.Truth.{all}
 use Rattle.operation.specs.Meaning.{matrixOf}
 use Rattle.centering.specs.Letters.{pointsOf}
 use Rattle.centering.specs.Lattices.{containsOf}
 use Rattle.centering.specs.Keeps.{staysIn, stays-contains, count-range, count-is, point-at, keeps-start, all-step, all-fails, all-done}
 use Rattle.centering.proofs.keeps_points.Statement.{statement}
 use Rattle.centering.proofs.keeps_points.Tie as tie
-use Rattle.centering.proofs.keeps_points.Reads as reads
-use Rattle.centering.proofs.keeps_points.Lts as lts
-use Rattle.centering.proofs.Centering.contains.Reads as contains-reads
-use Rattle.centering.proofs.Centering.lattice_points.Reads as lattice-points-reads
-use Rattle.operation.proofs.product.rotated.Reads as rotated-reads
 
 abbrev Inv-loop : tie.InvT-loop
 Inv-loop c r count points i₀ i =

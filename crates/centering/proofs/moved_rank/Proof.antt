@@ -6,8 +6,6 @@ use Rattle.laws.specs.Residue.{_⊕_}
 use borrow.Author.Needs.{needs}
 use Rattle.centering.proofs.moved_rank.Statement.{statement}
 use Rattle.centering.proofs.moved_rank.Tie as tie
-use Rattle.centering.proofs.moved_rank.Reads as reads
-use Rattle.centering.proofs.moved_rank.Lts as lts
 
 cast-x : tie.Need-cast-x
 cast-x c = search needs

@@ -4,8 +4,6 @@ use Rattle.laws.specs.Lattice.{unrank}
 use borrow.Author.Needs.{needs}
 use Rattle.centering.proofs.of_rank.Statement.{statement}
 use Rattle.centering.proofs.of_rank.Tie as tie
-use Rattle.centering.proofs.of_rank.Reads as reads
-use Rattle.centering.proofs.of_rank.Lts as lts
 
 cast-t3 : tie.Need-cast-t3
 cast-t3 c = search needs

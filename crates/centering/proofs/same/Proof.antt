@@ -4,8 +4,6 @@ use Rattle.laws.specs.Lattice.{sameTriple}
 use Rattle.centering.specs.PointSearch.{same-by-last}
 use Rattle.centering.proofs.same.Statement.{statement}
 use Rattle.centering.proofs.same.Tie as tie
-use Rattle.centering.proofs.same.Reads as reads
-use Rattle.centering.proofs.same.Lts as lts
 
 returns : tie.Need-returns
 unfolding sameTriple

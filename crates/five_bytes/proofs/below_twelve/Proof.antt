@@ -4,8 +4,6 @@ use Rattle.five_bytes.specs.FiveBytes.{belowTwelve}
 use Rattle.five_bytes.specs.OneForm.{twelve-last}
 use Rattle.five_bytes.proofs.below_twelve.Statement.{statement}
 use Rattle.five_bytes.proofs.below_twelve.Tie as tie
-use Rattle.five_bytes.proofs.below_twelve.Reads as reads
-use Rattle.five_bytes.proofs.below_twelve.Lts as lts
 
 returns : tie.Need-returns
 unfolding belowTwelve

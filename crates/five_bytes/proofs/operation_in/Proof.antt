@@ -7,11 +7,6 @@ use Rattle.five_bytes.specs.OneForm.{code-decides}
 use borrow.Author.Needs.{needs}
 use Rattle.five_bytes.proofs.operation_in.Statement.{statement}
 use Rattle.five_bytes.proofs.operation_in.Tie as tie
-use Rattle.five_bytes.proofs.operation_in.Reads as reads
-use Rattle.five_bytes.proofs.operation_in.Lts as lts
-use Rattle.five_bytes.proofs.below_twelve.Reads as below-twelve-reads
-use Rattle.five_bytes.proofs.with_translation.Reads as with-translation-reads
-use Rattle.operation.proofs.code.rotation_of_code.Reads as rotation-of-code-reads
 
 returns : tie.Need-returns
 unfolding fiveBytesOf

@@ -4,8 +4,6 @@ use Rattle.five_bytes.specs.FiveBytes.{withTranslation}
 use borrow.Author.Needs.{needs}
 use Rattle.five_bytes.proofs.with_translation.Statement.{statement}
 use Rattle.five_bytes.proofs.with_translation.Tie as tie
-use Rattle.five_bytes.proofs.with_translation.Reads as reads
-use Rattle.five_bytes.proofs.with_translation.Lts as lts
 
 enum-known-decoded : tie.Need-enum-known-decoded
 enum-known-decoded c = search needs

@@ -6,9 +6,6 @@ use Rattle.layer_group.specs.Slots.{small-fits}
 use borrow.Author.Needs.{needs}
 use Rattle.group_record.proofs.letter_byte.Statement.{statement}
 use Rattle.group_record.proofs.letter_byte.Tie as tie
-use Rattle.group_record.proofs.letter_byte.Reads as reads
-use Rattle.group_record.proofs.letter_byte.Lts as lts
-use Rattle.centering.proofs.Centering.byte.Reads as byte-reads
 
 byte-requires : tie.Need-byte-requires
 byte-requires c κs = search needs

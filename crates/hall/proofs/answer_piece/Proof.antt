@@ -10,11 +10,6 @@ use Rattle.hall.specs.Answers.{answered-writable, next-places, next-with
 use borrow.Author.Needs.{needs}
 use Rattle.hall.proofs.answer_piece.Statement.{statement}
 use Rattle.hall.proofs.answer_piece.Tie as tie
-use Rattle.hall.proofs.answer_piece.Reads as reads
-use Rattle.hall.proofs.answer_piece.Lts as lts
-use Rattle.hall.proofs.answers.answer_next.Reads as answer-next-reads
-use Rattle.lines.proofs.fresh.Reads as fresh-reads
-use Rattle.hall.proofs.write_text.Reads as write-text-reads
 
 abbrev Inv-loop : tie.InvT-loop
 Inv-loop piece line₀ from₀ line from =

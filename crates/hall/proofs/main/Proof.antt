@@ -3,11 +3,6 @@ use Rattle.hall.specs.Answers.{last-writable}
 use borrow.Author.Needs.{needs}
 use Rattle.hall.proofs.main.Statement.{statement}
 use Rattle.hall.proofs.main.Tie as tie
-use Rattle.hall.proofs.main.Reads as reads
-use Rattle.hall.proofs.main.Lts as lts
-use Rattle.hall.proofs.answers.last_text.Reads as last-text-reads
-use Rattle.hall.proofs.read_all.Reads as read-all-reads
-use Rattle.hall.proofs.write_text.Reads as write-text-reads
 
 read-all-requires : tie.Need-read-all-requires
 read-all-requires c κs = search needs

@@ -3,10 +3,6 @@ use native.Mathlib.Omega.{arith}
 use borrow.Author.Needs.{needs}
 use Rattle.hall.proofs.read_all.Statement.{statement}
 use Rattle.hall.proofs.read_all.Tie as tie
-use Rattle.hall.proofs.read_all.Reads as reads
-use Rattle.hall.proofs.read_all.Lts as lts
-use Rattle.hall.proofs.read_some.Reads as read-some-reads
-use Rattle.lines.proofs.fresh.Reads as fresh-reads
 
 abbrev Inv-loop : tie.InvT-loop
 Inv-loop kept₀ turns₀ kept turns = Unit {0}

@@ -5,9 +5,6 @@ use lib.Seq.{length-take-le}
 use borrow.Author.Needs.{needs}
 use Rattle.hall.proofs.write_text.Statement.{statement}
 use Rattle.hall.proofs.write_text.Tie as tie
-use Rattle.hall.proofs.write_text.Reads as reads
-use Rattle.hall.proofs.write_text.Lts as lts
-use Rattle.io.proofs.write_all.Reads as write-all-reads
 
 array-share-prefix-text : tie.Need-array-share-prefix-text
 array-share-prefix-text c = search needs

@@ -11,9 +11,6 @@ use Rattle.space_group.specs.Resuming.{generator-at}
 use Rattle.layer_group.specs.Layers.{isLayer, front, front-hit, front-miss, front-end}
 use Rattle.layer_group.proofs.first_off.Statement.{statement}
 use Rattle.layer_group.proofs.first_off.Tie as tie
-use Rattle.layer_group.proofs.first_off.Reads as reads
-use Rattle.layer_group.proofs.first_off.Lts as lts
-use Rattle.layer_group.proofs.is_layer.Reads as is-layer-reads
 
 abbrev Inv-loop : tie.InvT-loop
 Inv-loop n operations i₀ i = (i ≤ n) × (front (take n operations) ≡ i + front (drop i (take n operations)))

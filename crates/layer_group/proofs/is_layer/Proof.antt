@@ -4,8 +4,6 @@ use borrow.Author.Tests.{eq-eqb, ne-eqb}
 use Rattle.layer_group.specs.Layers.{isLayer}
 use Rattle.layer_group.proofs.is_layer.Statement.{statement}
 use Rattle.layer_group.proofs.is_layer.Tie as tie
-use Rattle.layer_group.proofs.is_layer.Reads as reads
-use Rattle.layer_group.proofs.is_layer.Lts as lts
 
 returns : tie.Need-returns
 unfolding isLayer

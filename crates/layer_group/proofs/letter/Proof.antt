@@ -8,11 +8,6 @@ use Rattle.layer_group.specs.declared.LayerLetter.the-variants.{Is}
 use borrow.Author.Needs.{needs}
 use Rattle.layer_group.proofs.letter.Statement.{statement}
 use Rattle.layer_group.proofs.letter.Tie as tie
-use Rattle.layer_group.proofs.letter.Reads as reads
-use Rattle.layer_group.proofs.letter.Lts as lts
-use Rattle.centering.proofs.Centering.byte.Reads as byte-reads
-use Rattle.layer_group.proofs.first_off.Reads as first-off-reads
-use Rattle.layer_group.proofs.plain.Reads as plain-reads
 
 plain-requires : tie.Need-plain-requires
 plain-requires c κs = search needs

@@ -5,10 +5,6 @@ use Rattle.layer_group.specs.declared.refusal.Refusal.the-variants.{Symb
 use borrow.Author.Needs.{needs}
 use Rattle.layer_group.proofs.order.Statement.{statement}
 use Rattle.layer_group.proofs.order.Tie as tie
-use Rattle.layer_group.proofs.order.Reads as reads
-use Rattle.layer_group.proofs.order.Lts as lts
-use Rattle.layer_group.proofs.first_off.Reads as first-off-reads
-use Rattle.layer_group.proofs.plain.Reads as plain-reads
 
 plain-requires : tie.Need-plain-requires
 plain-requires c κs = search needs

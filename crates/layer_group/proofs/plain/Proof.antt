@@ -6,10 +6,6 @@ use Rattle.layer_group.specs.Slots.{capitalised-length, plain-long}
 use borrow.Author.Needs.{needs}
 use Rattle.layer_group.proofs.plain.Statement.{statement}
 use Rattle.layer_group.proofs.plain.Tie as tie
-use Rattle.layer_group.proofs.plain.Reads as reads
-use Rattle.layer_group.proofs.plain.Lts as lts
-use Rattle.layer_group.proofs.capitals.capitals.Reads as capitals-reads
-use Rattle.symbol_group.proofs.SymbolGroup.new.Reads as new-reads
 
 new-requires : tie.Need-new-requires
 new-requires c κs = search needs

@@ -2,9 +2,6 @@
 use borrow.Author.Needs.{needs}
 use Rattle.layer_group.proofs.refused.Statement.{statement}
 use Rattle.layer_group.proofs.refused.Tie as tie
-use Rattle.layer_group.proofs.refused.Reads as reads
-use Rattle.layer_group.proofs.refused.Lts as lts
-use Rattle.operation.proofs.product.identity.Reads as identity-reads
 
 identity-requires : tie.Need-identity-requires
 identity-requires c κs = search needs

@@ -1,13 +1,10 @@
 -- By the status.
 use mathlib.Core.Path.{_≡_}
-use native.Mathlib.Omega.{arith}
 use lib.ListN.{length}
 use Rattle.lines.specs.Storing.{counted-over, counted-few}
 use borrow.Author.Needs.{needs}
 use Rattle.lines.proofs.counted.Statement.{statement}
 use Rattle.lines.proofs.counted.Tie as tie
-use Rattle.lines.proofs.counted.Reads as reads
-use Rattle.lines.proofs.counted.Lts as lts
 
 returns : tie.Need-returns
 returns c =

@@ -1,16 +1,12 @@
 -- Nothing is kept, and the line is handed over.
-use mathlib.Core.Path.{_≡_, refl, ap}
+use mathlib.Core.Path.{ap}
 use mathlib.Core.Bool.{true}
 use mathlib.Core.List.{[]}
 use Rattle.lines.specs.Keeping.{stored}
 use Rattle.lines.specs.declared.Line.{Line}
-use Rattle.lines.specs.declared.Taken.{Taken}
 use borrow.Author.Needs.{needs}
 use Rattle.lines.proofs.ended.Statement.{statement}
 use Rattle.lines.proofs.ended.Tie as tie
-use Rattle.lines.proofs.ended.Reads as reads
-use Rattle.lines.proofs.ended.Lts as lts
-use Rattle.lines.proofs.line_of.Reads as line-of-reads
 
 line-of-requires : tie.Need-line-of-requires
 line-of-requires c κs = search needs

@@ -9,8 +9,6 @@ use Rattle.lines.specs.Keeping.{zeros}
 use borrow.Author.Needs.{needs}
 use Rattle.lines.proofs.first_bytes.Statement.{statement}
 use Rattle.lines.proofs.first_bytes.Tie as tie
-use Rattle.lines.proofs.first_bytes.Reads as reads
-use Rattle.lines.proofs.first_bytes.Lts as lts
 
 abbrev Inv-loop : tie.InvT-loop
 Inv-loop n bytes line₀ i₀ line i = (i ≤ n) × (line ≡ copied zeros bytes i)

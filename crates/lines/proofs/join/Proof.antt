@@ -1,13 +1,10 @@
 -- A line of 80 bytes gets no longer; else the byte is stored behind the others.
 use mathlib.Core.Path.{_≡_}
-use native.Mathlib.Omega.{arith}
 use lib.ListN.{length}
 use Rattle.lines.specs.Storing.{join-full, join-more}
 use borrow.Author.Needs.{needs}
 use Rattle.lines.proofs.join.Statement.{statement}
 use Rattle.lines.proofs.join.Tie as tie
-use Rattle.lines.proofs.join.Reads as reads
-use Rattle.lines.proofs.join.Lts as lts
 
 returns : tie.Need-returns
 returns c =

@@ -8,10 +8,6 @@ use Rattle.lines.specs.declared.Last.{Last}
 use borrow.Author.Needs.{needs}
 use Rattle.lines.proofs.last_line.Statement.{statement}
 use Rattle.lines.proofs.last_line.Tie as tie
-use Rattle.lines.proofs.last_line.Reads as reads
-use Rattle.lines.proofs.last_line.Lts as lts
-use Rattle.lines.proofs.line_of.Reads as line-of-reads
-use Rattle.lines.proofs.no_line.Reads as no-line-reads
 
 abbrev told : Bool → Line → Last
 told t l = record { finished = t; line = l }

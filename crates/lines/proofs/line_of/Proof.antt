@@ -8,9 +8,6 @@ use Rattle.lines.specs.declared.Line.{Line}
 use borrow.Author.Needs.{needs}
 use Rattle.lines.proofs.line_of.Statement.{statement}
 use Rattle.lines.proofs.line_of.Tie as tie
-use Rattle.lines.proofs.line_of.Reads as reads
-use Rattle.lines.proofs.line_of.Lts as lts
-use Rattle.lines.proofs.first_bytes.Reads as first-bytes-reads
 
 abbrev lined : ℕ → List ℕ → Line
 lined n bytes = record { length = n; bytes = bytes }

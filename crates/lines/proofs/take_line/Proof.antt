@@ -6,16 +6,9 @@ use native.Mathlib.Omega.{arith}
 use lib.ListN.{length}
 use Rattle.lines.specs.Taking.{Taking, taking-none, taking-all, taking-end, taking-more}
 use Rattle.lines.specs.declared.Line.{Line}
-use Rattle.lines.specs.declared.Taken.{Taken}
 use borrow.Author.Needs.{needs}
 use Rattle.lines.proofs.take_line.Statement.{statement}
 use Rattle.lines.proofs.take_line.Tie as tie
-use Rattle.lines.proofs.take_line.Reads as reads
-use Rattle.lines.proofs.take_line.Lts as lts
-use Rattle.lines.proofs.counted.Reads as counted-reads
-use Rattle.lines.proofs.ended.Reads as ended-reads
-use Rattle.lines.proofs.join.Reads as join-reads
-use Rattle.lines.proofs.no_line.Reads as no-line-reads
 
 abbrev Inv-loop : tie.InvT-loop
 Inv-loop kept piece line₀ i₀ line i = Taking kept piece line i

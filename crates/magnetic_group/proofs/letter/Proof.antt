@@ -3,9 +3,6 @@ use borrow.Author.Needs.{needs}
 use Rattle.magnetic_group.specs.Numbers.{letter-given, letter-refused}
 use Rattle.magnetic_group.proofs.letter.Statement.{statement}
 use Rattle.magnetic_group.proofs.letter.Tie as tie
-use Rattle.magnetic_group.proofs.letter.Reads as reads
-use Rattle.magnetic_group.proofs.letter.Lts as lts
-use Rattle.magnetic_group.proofs.list.Reads as list-reads
 
 list-requires : tie.Need-list-requires
 list-requires c κs = search needs

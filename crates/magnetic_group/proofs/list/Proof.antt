@@ -4,12 +4,6 @@ use borrow.Author.Needs.{needs}
 use Rattle.magnetic_group.specs.Numbers.{list-misread, list-made, list-slots}
 use Rattle.magnetic_group.proofs.list.Statement.{statement}
 use Rattle.magnetic_group.proofs.list.Tie as tie
-use Rattle.magnetic_group.proofs.list.Reads as reads
-use Rattle.magnetic_group.proofs.list.Lts as lts
-use Rattle.magnetic_group.proofs.made.Reads as made-reads
-use Rattle.magnetic_group.proofs.refused.Reads as refused-reads
-use Rattle.magnetic_symbol.proofs.MagneticSymbol.new.Reads as new-reads
-use Rattle.space_group.proofs.flagged.flagged_group.Reads as flagged-group-reads
 
 new-requires : tie.Need-new-requires
 new-requires c κs = search needs

@@ -4,9 +4,6 @@ use borrow.Author.Needs.{needs}
 use Rattle.magnetic_group.specs.Answers.{madeAnswer}
 use Rattle.magnetic_group.proofs.made.Statement.{statement}
 use Rattle.magnetic_group.proofs.made.Tie as tie
-use Rattle.magnetic_group.proofs.made.Reads as reads
-use Rattle.magnetic_group.proofs.made.Lts as lts
-use Rattle.magnetic_group.proofs.refused.Reads as refused-reads
 
 enum-known-answer : tie.Need-enum-known-answer
 enum-known-answer c = search needs

@@ -5,11 +5,6 @@ use native.Mathlib.Omega.{arith}
 use Rattle.magnetic_group.specs.Numbers.{Listed, slots-listed, operation-refused, operation-past, operation-given}
 use Rattle.magnetic_group.proofs.operation_at.Statement.{statement}
 use Rattle.magnetic_group.proofs.operation_at.Tie as tie
-use Rattle.magnetic_group.proofs.operation_at.Reads as reads
-use Rattle.magnetic_group.proofs.operation_at.Lts as lts
-use Rattle.magnetic_group.proofs.list.Reads as list-reads
-use Rattle.packed_operation.proofs.flag.Reads as flag-reads
-use Rattle.packed_operation.proofs.said.Reads as said-reads
 
 list-requires : tie.Need-list-requires
 list-requires c κs = search needs

@@ -3,9 +3,6 @@ use borrow.Author.Needs.{needs}
 use Rattle.magnetic_group.specs.Numbers.{order-given, order-refused}
 use Rattle.magnetic_group.proofs.order.Statement.{statement}
 use Rattle.magnetic_group.proofs.order.Tie as tie
-use Rattle.magnetic_group.proofs.order.Reads as reads
-use Rattle.magnetic_group.proofs.order.Lts as lts
-use Rattle.magnetic_group.proofs.list.Reads as list-reads
 
 list-requires : tie.Need-list-requires
 list-requires c κs = search needs

@@ -3,8 +3,6 @@ use Rattle.operation.specs.Twelves.{bytesOf}
 use borrow.Author.Needs.{needs}
 use Rattle.packed_operation.proofs.bytes.Statement.{statement}
 use Rattle.packed_operation.proofs.bytes.Tie as tie
-use Rattle.packed_operation.proofs.bytes.Reads as reads
-use Rattle.packed_operation.proofs.bytes.Lts as lts
 
 mul-result : tie.Need-mul-result
 mul-result c = search needs

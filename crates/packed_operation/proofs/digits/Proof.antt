@@ -3,8 +3,6 @@ use Rattle.packed_operation.specs.Number.{digitLanes}
 use borrow.Author.Needs.{needs}
 use Rattle.packed_operation.proofs.digits.Statement.{statement}
 use Rattle.packed_operation.proofs.digits.Tie as tie
-use Rattle.packed_operation.proofs.digits.Reads as reads
-use Rattle.packed_operation.proofs.digits.Lts as lts
 
 mul-result : tie.Need-mul-result
 mul-result c = search needs

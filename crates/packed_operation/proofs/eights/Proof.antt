@@ -7,9 +7,6 @@ use Rattle.packed_operation.specs.Rows.{eightsOf}
 use borrow.Author.Needs.{needs}
 use Rattle.packed_operation.proofs.eights.Statement.{statement}
 use Rattle.packed_operation.proofs.eights.Tie as tie
-use Rattle.packed_operation.proofs.eights.Reads as reads
-use Rattle.packed_operation.proofs.eights.Lts as lts
-use Rattle.packed_operation.proofs.key.Reads as key-reads
 
 key-requires : tie.Need-key-requires
 key-requires c κs = search needs

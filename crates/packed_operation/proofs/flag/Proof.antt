@@ -3,8 +3,6 @@ use Rattle.packed_operation.specs.Number.{flagOf}
 use borrow.Author.Needs.{needs}
 use Rattle.packed_operation.proofs.flag.Statement.{statement}
 use Rattle.packed_operation.proofs.flag.Tie as tie
-use Rattle.packed_operation.proofs.flag.Reads as reads
-use Rattle.packed_operation.proofs.flag.Lts as lts
 
 returns : tie.Need-returns
 unfolding flagOf

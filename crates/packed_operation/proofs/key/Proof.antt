@@ -5,9 +5,6 @@ use Rattle.packed_operation.specs.Number.{keyOf}
 use borrow.Author.Needs.{needs}
 use Rattle.packed_operation.proofs.key.Statement.{statement}
 use Rattle.packed_operation.proofs.key.Tie as tie
-use Rattle.packed_operation.proofs.key.Reads as reads
-use Rattle.packed_operation.proofs.key.Lts as lts
-use Rattle.packed_operation.proofs.row.Reads as row-reads
 
 row-requires : tie.Need-row-requires
 row-requires c κs = search needs

@@ -9,11 +9,6 @@ use Rattle.packed_operation.specs.Moved.{said-short, sum-is, sum-small, 
 use borrow.Author.Needs.{needs}
 use Rattle.packed_operation.proofs.moved.Statement.{statement}
 use Rattle.packed_operation.proofs.moved.Tie as tie
-use Rattle.packed_operation.proofs.moved.Reads as reads
-use Rattle.packed_operation.proofs.moved.Lts as lts
-use Rattle.packed_operation.proofs.bytes.Reads as bytes-reads
-use Rattle.packed_operation.proofs.rows_times.Reads as rows-times-reads
-use Rattle.packed_operation.proofs.twelfths.Reads as twelfths-reads
 
 rows-times-requires : tie.Need-rows-times-requires
 rows-times-requires c κs = search needs

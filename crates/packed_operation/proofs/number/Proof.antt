@@ -4,10 +4,6 @@ use native.Mathlib.Omega.{arith}
 use borrow.Author.Needs.{needs}
 use Rattle.packed_operation.proofs.number.Statement.{statement}
 use Rattle.packed_operation.proofs.number.Tie as tie
-use Rattle.packed_operation.proofs.number.Reads as reads
-use Rattle.packed_operation.proofs.number.Lts as lts
-use Rattle.packed_operation.proofs.packed_row.Reads as packed-row-reads
-use Rattle.packed_operation.proofs.packed_twelfths.Reads as packed-twelfths-reads
 
 packed-row-requires : tie.Need-packed-row-requires
 packed-row-requires c κs = search needs

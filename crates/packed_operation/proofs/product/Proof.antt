@@ -8,13 +8,6 @@ use Rattle.packed_operation.specs.declared.Numbered.the-variants.{Inside
 use borrow.Author.Needs.{needs}
 use Rattle.packed_operation.proofs.product.Statement.{statement}
 use Rattle.packed_operation.proofs.product.Tie as tie
-use Rattle.packed_operation.proofs.product.Reads as reads
-use Rattle.packed_operation.proofs.product.Lts as lts
-use Rattle.packed_operation.proofs.eights.Reads as eights-reads
-use Rattle.packed_operation.proofs.flag.Reads as flag-reads
-use Rattle.packed_operation.proofs.key.Reads as key-reads
-use Rattle.packed_operation.proofs.moved.Reads as moved-reads
-use Rattle.packed_operation.proofs.rotations.Reads as rotations-reads
 
 rotations-requires : tie.Need-rotations-requires
 rotations-requires c κs = search needs

@@ -8,11 +8,6 @@ use Rattle.packed_operation.specs.Times.{rows-small}
 use borrow.Author.Needs.{needs}
 use Rattle.packed_operation.proofs.rotations.Statement.{statement}
 use Rattle.packed_operation.proofs.rotations.Tie as tie
-use Rattle.packed_operation.proofs.rotations.Reads as reads
-use Rattle.packed_operation.proofs.rotations.Lts as lts
-use Rattle.packed_operation.proofs.row.Reads as row-reads
-use Rattle.packed_operation.proofs.row_sums.Reads as row-sums-reads
-use Rattle.packed_operation.proofs.rows_times.Reads as rows-times-reads
 
 row-requires : tie.Need-row-requires
 row-requires c κs = search needs

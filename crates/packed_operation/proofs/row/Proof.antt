@@ -3,8 +3,6 @@ use Rattle.packed_operation.specs.Number.{rowDigits}
 use borrow.Author.Needs.{needs}
 use Rattle.packed_operation.proofs.row.Statement.{statement}
 use Rattle.packed_operation.proofs.row.Tie as tie
-use Rattle.packed_operation.proofs.row.Reads as reads
-use Rattle.packed_operation.proofs.row.Lts as lts
 
 mul-result : tie.Need-mul-result
 mul-result c = search needs

@@ -7,9 +7,6 @@ use Rattle.packed_operation.specs.Rows.{sum-lanes}
 use borrow.Author.Needs.{needs}
 use Rattle.packed_operation.proofs.row_sums.Statement.{statement}
 use Rattle.packed_operation.proofs.row_sums.Tie as tie
-use Rattle.packed_operation.proofs.row_sums.Reads as reads
-use Rattle.packed_operation.proofs.row_sums.Lts as lts
-use Rattle.packed_operation.proofs.digits.Reads as digits-reads
 
 digits-requires : tie.Need-digits-requires
 digits-requires c κs = search needs

@@ -8,9 +8,6 @@ use Rattle.packed_operation.specs.Number.{digitLanes}
 use borrow.Author.Needs.{needs}
 use Rattle.packed_operation.proofs.scaled.Statement.{statement}
 use Rattle.packed_operation.proofs.scaled.Tie as tie
-use Rattle.packed_operation.proofs.scaled.Reads as reads
-use Rattle.packed_operation.proofs.scaled.Lts as lts
-use Rattle.packed_operation.proofs.digits.Reads as digits-reads
 
 digits-requires : tie.Need-digits-requires
 digits-requires c κs = search needs

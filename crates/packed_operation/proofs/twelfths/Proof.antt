@@ -3,8 +3,6 @@ use Rattle.packed_operation.specs.Number.{twelfthLanes}
 use borrow.Author.Needs.{needs}
 use Rattle.packed_operation.proofs.twelfths.Statement.{statement}
 use Rattle.packed_operation.proofs.twelfths.Tie as tie
-use Rattle.packed_operation.proofs.twelfths.Reads as reads
-use Rattle.packed_operation.proofs.twelfths.Lts as lts
 
 mul-result : tie.Need-mul-result
 mul-result c = search needs

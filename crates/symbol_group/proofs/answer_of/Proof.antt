@@ -4,8 +4,6 @@ use Rattle.symbol_group.specs.Slots.{answerBy}
 use borrow.Author.Needs.{needs}
 use Rattle.symbol_group.proofs.answer_of.Statement.{statement}
 use Rattle.symbol_group.proofs.answer_of.Tie as tie
-use Rattle.symbol_group.proofs.answer_of.Reads as reads
-use Rattle.symbol_group.proofs.answer_of.Lts as lts
 
 enum-told : tie.Need-enum-told
 enum-told c = search needs

@@ -4,9 +4,6 @@ use borrow.Author.Needs.{needs}
 use Rattle.symbol_group.specs.Slots.{headBy}
 use Rattle.symbol_group.proofs.head_of.Statement.{statement}
 use Rattle.symbol_group.proofs.head_of.Tie as tie
-use Rattle.symbol_group.proofs.head_of.Reads as reads
-use Rattle.symbol_group.proofs.head_of.Lts as lts
-use Rattle.symbol_group.proofs.answer_of.Reads as answer-of-reads
 
 enum-known-read : tie.Need-enum-known-read
 enum-known-read c = search needs

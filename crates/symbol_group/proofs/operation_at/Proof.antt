@@ -5,9 +5,6 @@ use Rattle.symbol_group.specs.Slots.{operation-refused, operation-past, 
 use borrow.Author.Needs.{needs}
 use Rattle.symbol_group.proofs.operation_at.Statement.{statement}
 use Rattle.symbol_group.proofs.operation_at.Tie as tie
-use Rattle.symbol_group.proofs.operation_at.Reads as reads
-use Rattle.symbol_group.proofs.operation_at.Lts as lts
-use Rattle.symbol_group.proofs.SymbolGroup.new.Reads as new-reads
 
 new-requires : tie.Need-new-requires
 new-requires c κs = search needs

@@ -3,9 +3,6 @@ use Rattle.symbol_group.specs.Slots.{order-refused, order-given}
 use borrow.Author.Needs.{needs}
 use Rattle.symbol_group.proofs.order.Statement.{statement}
 use Rattle.symbol_group.proofs.order.Tie as tie
-use Rattle.symbol_group.proofs.order.Reads as reads
-use Rattle.symbol_group.proofs.order.Lts as lts
-use Rattle.symbol_group.proofs.SymbolGroup.new.Reads as new-reads
 
 new-requires : tie.Need-new-requires
 new-requires c κs = search needs

@@ -6,10 +6,6 @@ use Rattle.symbol_group.specs.declared.SymbolTranslation.the-variants.{D
 use borrow.Author.Needs.{needs}
 use Rattle.symbol_group.proofs.translation_at.Statement.{statement}
 use Rattle.symbol_group.proofs.translation_at.Tie as tie
-use Rattle.symbol_group.proofs.translation_at.Reads as reads
-use Rattle.symbol_group.proofs.translation_at.Lts as lts
-use Rattle.operation.proofs.doubles.to_doubles.Reads as to-doubles-reads
-use Rattle.symbol_group.proofs.operation_at.Reads as operation-at-reads
 
 operation-at-requires : tie.Need-operation-at-requires
 operation-at-requires c κs = search needs

@@ -3,8 +3,8 @@ use mathlib.Core.Path.{sym, _∙_}
 use borrow.Author.Needs.{needs}
 use borrow.Author.Tests.{eq-eqb, ne-eqb, lt-ltb, le-ltb, not-true, not-false}
 use Rattle.subgroup_laws.specs.GroupLaws.{found-identity}
-use Rattle.subgroup_laws.specs.TableLaws.{good-cells}
-use Rattle.table_check.specs.TableCheck.{checkOf}
+use Rattle.subgroup_laws.specs.TableCells.{good-cells}
+use Rattle.table_check.specs.CheckAnswers.{checkOf}
 use Rattle.table_check.proofs.from_table.Statement.{statement}
 use Rattle.table_check.proofs.from_table.Tie as tie
 

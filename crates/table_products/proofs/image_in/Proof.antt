@@ -9,7 +9,7 @@ use Rattle.laws.specs.Sets.{member-below}
 use Rattle.subgroup_laws.specs.ImageLoop.{Imaging, imaging-start, imaging-step, imaging-end}
 use Rattle.subgroup_laws.specs.Removal.{without-less}
 use Rattle.subgroup_laws.specs.Table.{product, Cells}
-use Rattle.subgroup_laws.specs.TableLaws.{product-below}
+use Rattle.subgroup_laws.specs.TableCells.{product-below}
 use Rattle.table_products.proofs.image_in.Statement.{statement}
 use Rattle.table_products.proofs.image_in.Tie as tie
 

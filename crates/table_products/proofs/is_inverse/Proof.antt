@@ -1,7 +1,7 @@
 -- Both products are compared with the identity.
 use mathlib.Core.Path.{sym, _∙_}
 use borrow.Author.Tests.{eq-eqb, ne-eqb}
-use Rattle.subgroup_laws.specs.Bounded.{and-fails-left}
+use Rattle.laws.specs.Truth.{and-fails-left}
 use Rattle.subgroup_laws.specs.Groups.{isInverse}
 use Rattle.table_products.proofs.is_inverse.Statement.{statement}
 use Rattle.table_products.proofs.is_inverse.Tie as tie

@@ -3,7 +3,7 @@ use mathlib.Core.Path.{refl, sym}
 use mathlib.Core.Bool.{true≢false}
 use native.Mathlib.Omega.{arith}
 use Rattle.laws.specs.Sets.{shifted-one}
-use Rattle.subgroup_laws.specs.TableLaws.{square-limit}
+use Rattle.subgroup_laws.specs.TableCells.{square-limit}
 use Rattle.table_products.proofs.is_sized.Statement.{statement}
 use Rattle.table_products.proofs.is_sized.Tie as tie
 

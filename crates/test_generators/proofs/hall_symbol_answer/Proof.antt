@@ -4,12 +4,6 @@ use Rattle.test_generators.specs.Packed.{packedAnswer, packed-symbol, pa
 use borrow.Author.Needs.{needs}
 use Rattle.test_generators.proofs.hall_symbol_answer.Statement.{statement}
 use Rattle.test_generators.proofs.hall_symbol_answer.Tie as tie
-use Rattle.test_generators.proofs.hall_symbol_answer.Reads as reads
-use Rattle.test_generators.proofs.hall_symbol_answer.Lts as lts
-use Rattle.centering.proofs.Centering.byte.Reads as byte-reads
-use Rattle.hall_symbol.proofs.HallSymbol.new.Reads as new-reads
-use Rattle.hall_symbol.proofs.refusal.Refusal.number.Reads as number-reads
-use Rattle.hall_symbol.proofs.refusal.Refusal.place.Reads as place-reads
 
 new-requires : tie.Need-new-requires
 new-requires c κs = search needs

@@ -3,10 +3,6 @@ use borrow.Author.Tests.{le-ltb, lt-ltb}
 use borrow.Author.Needs.{needs}
 use Rattle.test_generators.proofs.hall_symbol_generator.Statement.{statement}
 use Rattle.test_generators.proofs.hall_symbol_generator.Tie as tie
-use Rattle.test_generators.proofs.hall_symbol_generator.Reads as reads
-use Rattle.test_generators.proofs.hall_symbol_generator.Lts as lts
-use Rattle.hall_symbol.proofs.HallSymbol.new.Reads as new-reads
-use Rattle.operation.proofs.code.rotation_code.Reads as rotation-code-reads
 
 new-requires : tie.Need-new-requires
 new-requires c κs = search needs

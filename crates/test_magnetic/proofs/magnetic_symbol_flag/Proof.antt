@@ -6,9 +6,6 @@ use Rattle.test_magnetic.specs.Packed.{packedFlag}
 use borrow.Author.Needs.{needs}
 use Rattle.test_magnetic.proofs.magnetic_symbol_flag.Statement.{statement}
 use Rattle.test_magnetic.proofs.magnetic_symbol_flag.Tie as tie
-use Rattle.test_magnetic.proofs.magnetic_symbol_flag.Reads as reads
-use Rattle.test_magnetic.proofs.magnetic_symbol_flag.Lts as lts
-use Rattle.magnetic_symbol.proofs.MagneticSymbol.new.Reads as new-reads
 
 new-requires : tie.Need-new-requires
 new-requires c κs = search needs

@@ -6,10 +6,6 @@ use Rattle.test_magnetic.specs.Packed.{packedGenerator}
 use borrow.Author.Needs.{needs}
 use Rattle.test_magnetic.proofs.magnetic_symbol_generator.Statement.{statement}
 use Rattle.test_magnetic.proofs.magnetic_symbol_generator.Tie as tie
-use Rattle.test_magnetic.proofs.magnetic_symbol_generator.Reads as reads
-use Rattle.test_magnetic.proofs.magnetic_symbol_generator.Lts as lts
-use Rattle.magnetic_symbol.proofs.MagneticSymbol.new.Reads as new-reads
-use Rattle.operation.proofs.code.rotation_code.Reads as rotation-code-reads
 
 new-requires : tie.Need-new-requires
 new-requires c κs = search needs

@@ -5,9 +5,6 @@ use Rattle.test_off_grid.specs.Component.{offGridComponent}
 use borrow.Author.Needs.{needs}
 use Rattle.test_off_grid.proofs.off_grid_component.Statement.{statement}
 use Rattle.test_off_grid.proofs.off_grid_component.Tie as tie
-use Rattle.test_off_grid.proofs.off_grid_component.Reads as reads
-use Rattle.test_off_grid.proofs.off_grid_component.Lts as lts
-use Rattle.operation.proofs.doubles.from_doubles.Reads as from-doubles-reads
 
 from-doubles-requires : tie.Need-from-doubles-requires
 from-doubles-requires c κs = search needs

@@ -5,10 +5,6 @@ use Rattle.test_operations.specs.Packed.{packedOperation}
 use borrow.Author.Needs.{needs}
 use Rattle.test_operations.proofs.symbol_operation.Statement.{statement}
 use Rattle.test_operations.proofs.symbol_operation.Tie as tie
-use Rattle.test_operations.proofs.symbol_operation.Reads as reads
-use Rattle.test_operations.proofs.symbol_operation.Lts as lts
-use Rattle.operation.proofs.code.rotation_code.Reads as rotation-code-reads
-use Rattle.symbol_group.proofs.operation_at.Reads as operation-at-reads
 
 operation-at-requires : tie.Need-operation-at-requires
 operation-at-requires c κs = search needs

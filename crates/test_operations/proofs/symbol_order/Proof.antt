@@ -5,11 +5,6 @@ use Rattle.test_operations.specs.Packed.{packedOrder}
 use borrow.Author.Needs.{needs}
 use Rattle.test_operations.proofs.symbol_order.Statement.{statement}
 use Rattle.test_operations.proofs.symbol_order.Tie as tie
-use Rattle.test_operations.proofs.symbol_order.Reads as reads
-use Rattle.test_operations.proofs.symbol_order.Lts as lts
-use Rattle.symbol_group.proofs.order.Reads as order-reads
-use Rattle.symbol_group.proofs.refusal.Refusal.number.Reads as number-reads
-use Rattle.symbol_group.proofs.refusal.Refusal.place.Reads as place-reads
 
 order-requires : tie.Need-order-requires
 order-requires c κs = search needs

@@ -5,9 +5,6 @@ use Rattle.test_operations.specs.Packed.{componentOf}
 use borrow.Author.Needs.{needs}
 use Rattle.test_operations.proofs.symbol_translation.Statement.{statement}
 use Rattle.test_operations.proofs.symbol_translation.Tie as tie
-use Rattle.test_operations.proofs.symbol_translation.Reads as reads
-use Rattle.test_operations.proofs.symbol_translation.Lts as lts
-use Rattle.symbol_group.proofs.translation_at.Reads as translation-at-reads
 
 translation-at-requires : tie.Need-translation-at-requires
 translation-at-requires c κs = search needs

@@ -4,9 +4,6 @@ use Rattle.test_products.specs.Packed.{numberTold}
 use borrow.Author.Needs.{needs}
 use Rattle.test_products.proofs.number_product.Statement.{statement}
 use Rattle.test_products.proofs.number_product.Tie as tie
-use Rattle.test_products.proofs.number_product.Reads as reads
-use Rattle.test_products.proofs.number_product.Lts as lts
-use Rattle.packed_operation.proofs.product.Reads as product-reads
 
 product-requires : tie.Need-product-requires
 product-requires c κs = search needs

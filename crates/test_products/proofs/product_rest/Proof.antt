@@ -5,11 +5,6 @@ use Rattle.test_products.specs.Packed.{productRest}
 use borrow.Author.Needs.{needs}
 use Rattle.test_products.proofs.product_rest.Statement.{statement}
 use Rattle.test_products.proofs.product_rest.Tie as tie
-use Rattle.test_products.proofs.product_rest.Reads as reads
-use Rattle.test_products.proofs.product_rest.Lts as lts
-use Rattle.operation.proofs.product.mul.Reads as mul-reads
-use Rattle.test_products.proofs.operation_in.Reads as operation-in-reads
-use Rattle.test_products.proofs.rest.Reads as rest-reads
 
 operation-in-requires : tie.Need-operation-in-requires
 operation-in-requires c κs = search needs

@@ -3,9 +3,6 @@ use Prim.Native.Nat.{_≤_, _-_}
 use native.Mathlib.Omega.{arith}
 use Rattle.test_rotation_types.proofs.main.Statement.{statement}
 use Rattle.test_rotation_types.proofs.main.Tie as tie
-use Rattle.test_rotation_types.proofs.main.Reads as reads
-use Rattle.test_rotation_types.proofs.main.Lts as lts
-use Rattle.test_rotation_types.proofs.write_line.Reads as write-line-reads
 
 abbrev Inv-loop : tie.InvT-loop
 Inv-loop line₀ line = line ≤ 243

@@ -6,10 +6,6 @@ use lib.ListN.{length, length-set}
 use borrow.Author.Needs.{needs}
 use Rattle.test_rotation_types.proofs.write_line.Statement.{statement}
 use Rattle.test_rotation_types.proofs.write_line.Tie as tie
-use Rattle.test_rotation_types.proofs.write_line.Reads as reads
-use Rattle.test_rotation_types.proofs.write_line.Lts as lts
-use Rattle.io.proofs.write_all.Reads as write-all-reads
-use Rattle.test_rotation_types.proofs.character.Reads as character-reads
 
 abbrev Inv-loop : tie.InvT-loop
 Inv-loop first line₀ i₀ line i = (i ≤ 81) × (length line ≡ 82)

@@ -7,10 +7,6 @@ use Rattle.group_record.specs.ListedForm.{operation≡}
 use borrow.Author.Needs.{needs}
 use Rattle.answer_text.proofs.operations.operation_in.Statement.{statement}
 use Rattle.answer_text.proofs.operations.operation_in.Tie as tie
-use Rattle.answer_text.proofs.operations.operation_in.Reads as reads
-use Rattle.answer_text.proofs.operations.operation_in.Lts as lts
-use Rattle.operation.proofs.code.rotation_of_code.Reads as rotation-of-code-reads
-use Rattle.operation.proofs.product.identity.Reads as identity-reads
 
 shared-slice-read-code : tie.Need-shared-slice-read-code
 shared-slice-read-code c = search needs

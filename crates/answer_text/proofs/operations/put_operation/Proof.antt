@@ -5,10 +5,6 @@ use Rattle.placed_text.specs.Placing.{put-then, put-named}
 use borrow.Author.Needs.{needs}
 use Rattle.answer_text.proofs.operations.put_operation.Statement.{statement}
 use Rattle.answer_text.proofs.operations.put_operation.Tie as tie
-use Rattle.answer_text.proofs.operations.put_operation.Reads as reads
-use Rattle.answer_text.proofs.operations.put_operation.Lts as lts
-use Rattle.answer_text.proofs.operations.put_row.Reads as put-row-reads
-use Rattle.answer_text.proofs.placing.put_number.Reads as put-number-reads
 
 put-row-requires : tie.Need-put-row-requires
 put-row-requires c κs = search needs

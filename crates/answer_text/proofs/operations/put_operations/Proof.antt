@@ -9,10 +9,6 @@ use Rattle.answer_text.specs.RecordLines.{linesTo, lines-start, lines-ne
 use Rattle.placed_text.specs.Placing.{Put}
 use Rattle.answer_text.proofs.operations.put_operations.Statement.{statement}
 use Rattle.answer_text.proofs.operations.put_operations.Tie as tie
-use Rattle.answer_text.proofs.operations.put_operations.Reads as reads
-use Rattle.answer_text.proofs.operations.put_operations.Lts as lts
-use Rattle.answer_text.proofs.operations.operation_in.Reads as operation-in-reads
-use Rattle.answer_text.proofs.operations.put_operation.Reads as put-operation-reads
 
 abbrev Inv-loop : tie.InvT-loop
 Inv-loop out₀ at bytes n end₀ i₀ out end i = (i ≤ n) × (length out ≡ length out₀) × (end ≤ at + 36 * i) × Put out₀ at (linesTo n bytes i) out end

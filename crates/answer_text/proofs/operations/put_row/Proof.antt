@@ -5,9 +5,6 @@ use Rattle.placed_text.specs.Placing.{put-then}
 use borrow.Author.Needs.{needs}
 use Rattle.answer_text.proofs.operations.put_row.Statement.{statement}
 use Rattle.answer_text.proofs.operations.put_row.Tie as tie
-use Rattle.answer_text.proofs.operations.put_row.Reads as reads
-use Rattle.answer_text.proofs.operations.put_row.Lts as lts
-use Rattle.answer_text.proofs.placing.put_entry.Reads as put-entry-reads
 
 put-entry-requires : tie.Need-put-entry-requires
 put-entry-requires c κs = search needs

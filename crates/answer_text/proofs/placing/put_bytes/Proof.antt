@@ -6,8 +6,6 @@ use lib.ListN.{length, take, length-set}
 use Rattle.placed_text.specs.Placing.{Put, put-start, put-next, put-whole}
 use Rattle.answer_text.proofs.placing.put_bytes.Statement.{statement}
 use Rattle.answer_text.proofs.placing.put_bytes.Tie as tie
-use Rattle.answer_text.proofs.placing.put_bytes.Reads as reads
-use Rattle.answer_text.proofs.placing.put_bytes.Lts as lts
 
 abbrev Inv-loop : tie.InvT-loop
 Inv-loop out₀ at bytes i₀ out i = (i ≤ length bytes) × (length out ≡ length out₀) × Put out₀ at (take i bytes) out (at + i)

@@ -10,8 +10,6 @@ use Rattle.placed_text.specs.Placing.{put-two, put-three, put-named}
 use borrow.Author.Needs.{needs}
 use Rattle.answer_text.proofs.placing.put_entry.Statement.{statement}
 use Rattle.answer_text.proofs.placing.put_entry.Tie as tie
-use Rattle.answer_text.proofs.placing.put_entry.Reads as reads
-use Rattle.answer_text.proofs.placing.put_entry.Lts as lts
 
 slice-write-out : tie.Need-slice-write-out
 slice-write-out c = search needs

@@ -9,8 +9,6 @@ use Rattle.placed_text.specs.Placing.{put-two, put-three, put-named}
 use borrow.Author.Needs.{needs}
 use Rattle.answer_text.proofs.placing.put_number.Statement.{statement}
 use Rattle.answer_text.proofs.placing.put_number.Tie as tie
-use Rattle.answer_text.proofs.placing.put_number.Reads as reads
-use Rattle.answer_text.proofs.placing.put_number.Lts as lts
 
 cast-out : tie.Need-cast-out
 cast-out c = search needs

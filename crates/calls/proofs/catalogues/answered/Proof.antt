@@ -11,10 +11,6 @@ use Rattle.calls.specs.Packing.{packed, mapped}
 use borrow.Author.Needs.{needs}
 use Rattle.calls.proofs.catalogues.answered.Statement.{statement}
 use Rattle.calls.proofs.catalogues.answered.Tie as tie
-use Rattle.calls.proofs.catalogues.answered.Reads as reads
-use Rattle.calls.proofs.catalogues.answered.Lts as lts
-use Rattle.calls.proofs.catalogues.said.Reads as said-reads
-use Rattle.calls.proofs.packing.refused.Reads as refused-reads
 
 enum-known-answer : tie.Need-enum-known-answer
 enum-known-answer c = search needs

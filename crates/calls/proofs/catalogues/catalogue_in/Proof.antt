@@ -6,8 +6,6 @@ use lib.ListN.{length}
 use Rattle.calls.specs.CatalogueState.{foundSoFar, found-more, found-all}
 use Rattle.calls.proofs.catalogues.catalogue_in.Statement.{statement}
 use Rattle.calls.proofs.catalogues.catalogue_in.Tie as tie
-use Rattle.calls.proofs.catalogues.catalogue_in.Reads as reads
-use Rattle.calls.proofs.catalogues.catalogue_in.Lts as lts
 
 abbrev Inv-loop : tie.InvT-loop
 Inv-loop state bytes₀ i₀ bytes i = (i ≤ 80) × (81 ≤ length state) × (bytes ≡ foundSoFar state i)

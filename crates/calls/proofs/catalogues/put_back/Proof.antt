@@ -7,8 +7,6 @@ use borrow.Author.Needs.{needs}
 use Rattle.calls.specs.CatalogueState.{putSoFar, put-none, put-more, put-length, put-all}
 use Rattle.calls.proofs.catalogues.put_back.Statement.{statement}
 use Rattle.calls.proofs.catalogues.put_back.Tie as tie
-use Rattle.calls.proofs.catalogues.put_back.Reads as reads
-use Rattle.calls.proofs.catalogues.put_back.Lts as lts
 
 abbrev Inv-loop : tie.InvT-loop
 Inv-loop state₀ bytes i₀ state i = (i ≤ 80) × (81 ≤ length state₀) × (state ≡ putSoFar state₀ bytes i)

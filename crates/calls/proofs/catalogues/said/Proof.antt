@@ -10,10 +10,6 @@ use Rattle.calls.specs.Catalogues.{saidNumber}
 use borrow.Author.Needs.{needs}
 use Rattle.calls.proofs.catalogues.said.Statement.{statement}
 use Rattle.calls.proofs.catalogues.said.Tie as tie
-use Rattle.calls.proofs.catalogues.said.Reads as reads
-use Rattle.calls.proofs.catalogues.said.Lts as lts
-use Rattle.symbol_group.proofs.refusal.Refusal.number.Reads as number-reads
-use Rattle.symbol_group.proofs.refusal.Refusal.place.Reads as place-reads
 
 enum-known-written : tie.Need-enum-known-written
 enum-known-written c = search needs

@@ -6,9 +6,6 @@ use Rattle.calls.specs.CatalogueState.{start-put}
 use borrow.Author.Needs.{needs}
 use Rattle.calls.proofs.catalogues.symmetry_catalogue_start.Statement.{statement}
 use Rattle.calls.proofs.catalogues.symmetry_catalogue_start.Tie as tie
-use Rattle.calls.proofs.catalogues.symmetry_catalogue_start.Reads as reads
-use Rattle.calls.proofs.catalogues.symmetry_catalogue_start.Lts as lts
-use Rattle.calls.proofs.packing.refused.Reads as refused-reads
 
 refused-requires : tie.Need-refused-requires
 refused-requires c κs = search needs

@@ -3,11 +3,6 @@ use mathlib.Core.Path.{_∙_}
 use borrow.Author.Needs.{needs}
 use Rattle.calls.proofs.editions.symmetry_record_edition.Statement.{statement}
 use Rattle.calls.proofs.editions.symmetry_record_edition.Tie as tie
-use Rattle.calls.proofs.editions.symmetry_record_edition.Reads as reads
-use Rattle.calls.proofs.editions.symmetry_record_edition.Lts as lts
-use Rattle.calls.proofs.record.refused_record.Reads as refused-record-reads
-use Rattle.group_record.proofs.Edition.number.Reads as number-reads
-use Rattle.record_reading.proofs.reader.read_record.Reads as read-record-reads
 
 read-record-requires : tie.Need-read-record-requires
 read-record-requires c κs = search needs

@@ -6,10 +6,6 @@ use mathlib.Core.Path.{_∙_, ap}
 use borrow.Author.Needs.{needs}
 use Rattle.calls.proofs.editions.symmetry_record_move.Statement.{statement}
 use Rattle.calls.proofs.editions.symmetry_record_move.Tie as tie
-use Rattle.calls.proofs.editions.symmetry_record_move.Reads as reads
-use Rattle.calls.proofs.editions.symmetry_record_move.Lts as lts
-use Rattle.calls.proofs.record.copied.Reads as copied-reads
-use Rattle.record_writing.proofs.copier.move_record.Reads as move-record-reads
 
 move-record-requires : tie.Need-move-record-requires
 move-record-requires c κs = search needs

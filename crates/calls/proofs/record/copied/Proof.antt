@@ -6,10 +6,6 @@ use mathlib.Core.Path.{sym, _∙_, ap}
 use borrow.Author.Needs.{needs}
 use Rattle.calls.proofs.record.copied.Statement.{statement}
 use Rattle.calls.proofs.record.copied.Tie as tie
-use Rattle.calls.proofs.record.copied.Reads as reads
-use Rattle.calls.proofs.record.copied.Lts as lts
-use Rattle.calls.proofs.packing.refused.Reads as refused-reads
-use Rattle.calls.proofs.record.refused_record.Reads as refused-record-reads
 
 enum-known-answer : tie.Need-enum-known-answer
 enum-known-answer c = search needs

@@ -6,10 +6,6 @@ use mathlib.Core.Path.{_∙_, ap}
 use borrow.Author.Needs.{needs}
 use Rattle.calls.proofs.record.symmetry_record_copy.Statement.{statement}
 use Rattle.calls.proofs.record.symmetry_record_copy.Tie as tie
-use Rattle.calls.proofs.record.symmetry_record_copy.Reads as reads
-use Rattle.calls.proofs.record.symmetry_record_copy.Lts as lts
-use Rattle.calls.proofs.record.copied.Reads as copied-reads
-use Rattle.record_writing.proofs.copier.copy_record.Reads as copy-record-reads
 
 copy-record-requires : tie.Need-copy-record-requires
 copy-record-requires c κs = search needs

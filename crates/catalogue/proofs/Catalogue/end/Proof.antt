@@ -9,10 +9,6 @@ use Rattle.catalogue.specs.Steps.{end-after, end-told}
 use borrow.Author.Needs.{needs}
 use Rattle.catalogue.proofs.Catalogue.end.Statement.{statement}
 use Rattle.catalogue.proofs.Catalogue.end.Tie as tie
-use Rattle.catalogue.proofs.Catalogue.end.Reads as reads
-use Rattle.catalogue.proofs.Catalogue.end.Lts as lts
-use Rattle.catalogue.proofs.told.Reads as told-reads
-use Rattle.lines.proofs.last_line.Reads as last-line-reads
 
 returns : tie.Need-returns
 returns c =

@@ -9,11 +9,6 @@ use Rattle.catalogue.specs.Steps.{long-piece, piece-after, piece-taken}
 use borrow.Author.Needs.{needs}
 use Rattle.catalogue.proofs.Catalogue.piece.Statement.{statement}
 use Rattle.catalogue.proofs.Catalogue.piece.Tie as tie
-use Rattle.catalogue.proofs.Catalogue.piece.Reads as reads
-use Rattle.catalogue.proofs.Catalogue.piece.Lts as lts
-use Rattle.catalogue.proofs.going_on.Reads as going-on-reads
-use Rattle.catalogue.proofs.told.Reads as told-reads
-use Rattle.lines.proofs.take_line.Reads as take-line-reads
 
 returns : tie.Need-returns
 returns c =

@@ -4,10 +4,6 @@ use Rattle.centering.specs.Lattices.{congruentOf, differenceOf}
 use borrow.Author.Needs.{needs}
 use Rattle.centering.proofs.Centering.congruent.Statement.{statement}
 use Rattle.centering.proofs.Centering.congruent.Tie as tie
-use Rattle.centering.proofs.Centering.congruent.Reads as reads
-use Rattle.centering.proofs.Centering.congruent.Lts as lts
-use Rattle.centering.proofs.difference.Reads as difference-reads
-use Rattle.centering.proofs.is_point.Reads as is-point-reads
 
 difference-requires : tie.Need-difference-requires
 difference-requires c κs = search needs

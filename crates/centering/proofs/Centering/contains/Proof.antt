@@ -7,10 +7,6 @@ use Rattle.centering.specs.Lattices.{containsOf, tripleOf, difference-or
 use borrow.Author.Needs.{needs}
 use Rattle.centering.proofs.Centering.contains.Statement.{statement}
 use Rattle.centering.proofs.Centering.contains.Tie as tie
-use Rattle.centering.proofs.Centering.contains.Reads as reads
-use Rattle.centering.proofs.Centering.contains.Lts as lts
-use Rattle.centering.proofs.difference.Reads as difference-reads
-use Rattle.centering.proofs.is_point.Reads as is-point-reads
 
 difference-requires : tie.Need-difference-requires
 difference-requires c κs = search needs

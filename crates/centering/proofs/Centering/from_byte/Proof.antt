@@ -4,8 +4,6 @@ use borrow.Author.Tests.{ne-eqb}
 use Rattle.centering.specs.Letters.{letterOf, letterAmong}
 use Rattle.centering.proofs.Centering.from_byte.Statement.{statement}
 use Rattle.centering.proofs.Centering.from_byte.Tie as tie
-use Rattle.centering.proofs.Centering.from_byte.Reads as reads
-use Rattle.centering.proofs.Centering.from_byte.Lts as lts
 
 returns : tie.Need-returns
 unfolding letterOf letterAmong

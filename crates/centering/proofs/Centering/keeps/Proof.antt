@@ -4,10 +4,6 @@ use Rattle.centering.specs.Keeps.{keepsOf}
 use borrow.Author.Needs.{needs}
 use Rattle.centering.proofs.Centering.keeps.Statement.{statement}
 use Rattle.centering.proofs.Centering.keeps.Tie as tie
-use Rattle.centering.proofs.Centering.keeps.Reads as reads
-use Rattle.centering.proofs.Centering.keeps.Lts as lts
-use Rattle.centering.proofs.keeps_points.Reads as keeps-points-reads
-use Rattle.operation.proofs.rotation_type.identify_handedness.Reads as identify-handedness-reads
 
 identify-handedness-requires : tie.Need-identify-handedness-requires
 identify-handedness-requires c κs = search needs

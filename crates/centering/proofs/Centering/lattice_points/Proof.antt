@@ -5,8 +5,6 @@ use Rattle.centering.specs.Lattices.{latticePointsOf}
 use borrow.Author.Needs.{needs}
 use Rattle.centering.proofs.Centering.lattice_points.Statement.{statement}
 use Rattle.centering.proofs.Centering.lattice_points.Tie as tie
-use Rattle.centering.proofs.Centering.lattice_points.Reads as reads
-use Rattle.centering.proofs.Centering.lattice_points.Lts as lts
 
 enum-told : tie.Need-enum-told
 enum-told c = search needs

@@ -5,12 +5,6 @@ use Rattle.centering.specs.PointSearch.{smallest-of-four}
 use borrow.Author.Needs.{needs}
 use Rattle.centering.proofs.Centering.smallest.Statement.{statement}
 use Rattle.centering.proofs.Centering.smallest.Tie as tie
-use Rattle.centering.proofs.Centering.smallest.Reads as reads
-use Rattle.centering.proofs.Centering.smallest.Lts as lts
-use Rattle.centering.proofs.Centering.lattice_points.Reads as lattice-points-reads
-use Rattle.centering.proofs.lesser.Reads as lesser-reads
-use Rattle.centering.proofs.moved_rank.Reads as moved-rank-reads
-use Rattle.centering.proofs.of_rank.Reads as of-rank-reads
 
 lattice-points-requires : tie.Need-lattice-points-requires
 lattice-points-requires c κs = search needs

@@ -8,7 +8,8 @@ use borrow.Author.Count.{below-more}
 use borrow.Author.Needs.{needs}
 use borrow.Author.Tests.{not-true, not-false, lt-ltb, le-ltb}
 use Rattle.laws.specs.Sets.{member, shifted-one}
-use Rattle.subgroup_laws.specs.Bounded.{fails-every, passes-every, and-fails-left, and-fails, both-and}
+use Rattle.laws.specs.Truth.{and-fails-left, and-fails, both-and}
+use Rattle.subgroup_laws.specs.Bounded.{fails-every, passes-every}
 use Rattle.subgroup_laws.specs.Subsets.{holdsRow, isSubgroup}
 use Rattle.subgroup_laws.specs.Table.{product}
 use Rattle.conjugation.proofs.subgroup.is_subgroup.Statement.{statement}

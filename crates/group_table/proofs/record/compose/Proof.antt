@@ -4,12 +4,10 @@ use mathlib.Core.List.{List}
 use Prim.Native.Nat.{ℕ, _*_, _+_, _-_, _≤_, _<_}
 use native.Mathlib.Omega.{arith}
 use lib.ListN.{length, getD}
-use Rattle.subgroup_laws.specs.TableLaws.{cell-place}
+use Rattle.subgroup_laws.specs.TableCells.{cell-place}
 use Rattle.group_table.specs.Columns.{Kept, Within, Composing, within-same, within-onward, within-set, set-kept, column-next, first-below, through-both, composing-below}
 use Rattle.group_table.proofs.record.compose.Statement.{statement}
 use Rattle.group_table.proofs.record.compose.Tie as tie
-use Rattle.group_table.proofs.record.compose.Reads as reads
-use Rattle.group_table.proofs.record.compose.Lts as lts
 
 abbrev Inv-loop : tie.InvT-loop
 Inv-loop cells₀ n p g q i₀ cells i =

@@ -1,14 +1,10 @@
 -- By cases of what was read; what was read is a listing of allowed operations, and its table is written where the slots hold it.
 use native.Mathlib.Omega.{arith}
-use Rattle.subgroup_laws.specs.TableLaws.{square-limit}
+use Rattle.subgroup_laws.specs.TableCells.{square-limit}
 use Rattle.group_table.specs.ReadTables.{read-allowed, record-short, record-filled, record-refused}
 use borrow.Author.Needs.{needs}
 use Rattle.group_table.proofs.record.fill_cells.Statement.{statement}
 use Rattle.group_table.proofs.record.fill_cells.Tie as tie
-use Rattle.group_table.proofs.record.fill_cells.Reads as reads
-use Rattle.group_table.proofs.record.fill_cells.Lts as lts
-use Rattle.record_reading.proofs.reader.read_record.Reads as read-record-reads
-use Rattle.group_table.proofs.record.fill_rows.Reads as fill-rows-reads
 
 read-record-requires : tie.Need-read-record-requires
 read-record-requires c κs = search needs

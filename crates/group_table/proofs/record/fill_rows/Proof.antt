@@ -12,19 +12,12 @@ use Rattle.centering.specs.declared.Centering.{Centering}
 use Rattle.space_group.specs.Traversal.{turnOf}
 use Rattle.space_group.specs.Resuming.{padded-length}
 use Rattle.group_record.specs.Groups.{Allowed}
-use Rattle.subgroup_laws.specs.TableLaws.{cell-place}
+use Rattle.subgroup_laws.specs.TableCells.{cell-place}
 use Rattle.group_table.specs.Tables.{tableOf}
 use Rattle.group_table.specs.CodeSearch.{cells-count, cell-found, found-below}
 use Rattle.group_table.specs.Columns.{Within, Filling, within-same, within-onward, within-set, allowed-products, filling-none, filling-cell, filling-widens, filling-next, all-filled}
 use Rattle.group_table.proofs.record.fill_rows.Statement.{statement}
 use Rattle.group_table.proofs.record.fill_rows.Tie as tie
-use Rattle.group_table.proofs.record.fill_rows.Reads as reads
-use Rattle.group_table.proofs.record.fill_rows.Lts as lts
-use Rattle.group_table.proofs.record.codes_of.Reads as codes-of-reads
-use Rattle.group_table.proofs.record.next_unknown.Reads as next-unknown-reads
-use Rattle.group_table.proofs.record.note.Reads as note-reads
-use Rattle.group_table.proofs.record.product_index.Reads as product-index-reads
-use Rattle.group_table.proofs.record.widen.Reads as widen-reads
 
 abbrev Inv-loop : tie.InvT-loop
 Inv-loop cells₀ n operations codes known₀ members₀ count₀ generators₀ m₀ i₀ j₀ cells known members count generators m i j =

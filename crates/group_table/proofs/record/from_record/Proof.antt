@@ -5,9 +5,6 @@ use Rattle.group_table.specs.ReadTables.{record-by-value}
 use borrow.Author.Needs.{needs}
 use Rattle.group_table.proofs.record.from_record.Statement.{statement}
 use Rattle.group_table.proofs.record.from_record.Tie as tie
-use Rattle.group_table.proofs.record.from_record.Reads as reads
-use Rattle.group_table.proofs.record.from_record.Lts as lts
-use Rattle.group_table.proofs.record.fill_cells.Reads as fill-cells-reads
 
 slice-aggregate-fill-cells : tie.Need-slice-aggregate-fill-cells
 slice-aggregate-fill-cells c = search needs

@@ -8,8 +8,6 @@ use Rattle.laws.specs.Growth.{place}
 use Rattle.space_group.specs.Places.{place-hit, place-miss}
 use Rattle.group_table.proofs.record.index_of.Statement.{statement}
 use Rattle.group_table.proofs.record.index_of.Tie as tie
-use Rattle.group_table.proofs.record.index_of.Reads as reads
-use Rattle.group_table.proofs.record.index_of.Lts as lts
 
 abbrev Inv-loop : tie.InvT-loop
 Inv-loop codes code i₀ i = place eqb code codes ≡ i + place eqb code (drop i codes)

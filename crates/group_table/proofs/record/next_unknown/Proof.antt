@@ -6,8 +6,6 @@ use native.Mathlib.Omega.{arith}
 use lib.ListN.{getD}
 use Rattle.group_table.proofs.record.next_unknown.Statement.{statement}
 use Rattle.group_table.proofs.record.next_unknown.Tie as tie
-use Rattle.group_table.proofs.record.next_unknown.Reads as reads
-use Rattle.group_table.proofs.record.next_unknown.Lts as lts
 
 abbrev Inv-loop : tie.InvT-loop
 Inv-loop known from n j₀ j = (from ≤ j) × (j ≤ n) × ((k : ℕ) → from ≤ k → k < j → getD known k 0 ≡ 1)

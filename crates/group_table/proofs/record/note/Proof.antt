@@ -5,8 +5,6 @@ use Rattle.group_table.specs.Columns.{sound-next}
 use borrow.Author.Needs.{needs}
 use Rattle.group_table.proofs.record.note.Statement.{statement}
 use Rattle.group_table.proofs.record.note.Tie as tie
-use Rattle.group_table.proofs.record.note.Reads as reads
-use Rattle.group_table.proofs.record.note.Lts as lts
 
 -- src/record.rt:104:9
 returns : tie.Need-returns

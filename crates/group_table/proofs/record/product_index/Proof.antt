@@ -10,11 +10,6 @@ use Rattle.group_table.specs.CodeSearch.{productPlace}
 use borrow.Author.Needs.{needs}
 use Rattle.group_table.proofs.record.product_index.Statement.{statement}
 use Rattle.group_table.proofs.record.product_index.Tie as tie
-use Rattle.group_table.proofs.record.product_index.Reads as reads
-use Rattle.group_table.proofs.record.product_index.Lts as lts
-use Rattle.group_table.proofs.record.index_of.Reads as index-of-reads
-use Rattle.operation.proofs.code.rotation_code.Reads as rotation-code-reads
-use Rattle.operation.proofs.product.mul.Reads as mul-reads
 
 -- The code that is sought is that of the product.
 place-is : (c : tie.After-rotation-code)

@@ -5,14 +5,10 @@ use mathlib.Core.List.{List}
 use Prim.Native.Nat.{ℕ, _*_, _+_, _-_, _≤_, _<_}
 use native.Mathlib.Omega.{arith}
 use lib.ListN.{length, getD}
-use Rattle.subgroup_laws.specs.TableLaws.{cell-place}
+use Rattle.subgroup_laws.specs.TableCells.{cell-place}
 use Rattle.group_table.specs.Columns.{Widening, WidenedTo, Composing, within-same, within-onward, correct-kept, sound-kept, composing-below}
 use Rattle.group_table.proofs.record.widen.Statement.{statement}
 use Rattle.group_table.proofs.record.widen.Tie as tie
-use Rattle.group_table.proofs.record.widen.Reads as reads
-use Rattle.group_table.proofs.record.widen.Lts as lts
-use Rattle.group_table.proofs.record.compose.Reads as compose-reads
-use Rattle.group_table.proofs.record.note.Reads as note-reads
 
 abbrev Inv-loop : tie.InvT-loop
 Inv-loop cells₀ n known₀ members₀ count generators m filled₀ i₀ j₀ cells known members filled i j =

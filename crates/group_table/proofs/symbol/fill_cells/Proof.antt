@@ -5,10 +5,6 @@ use Rattle.group_table.specs.SymbolSteps.{symbol-steps, symbol-short, sy
 use borrow.Author.Needs.{needs}
 use Rattle.group_table.proofs.symbol.fill_cells.Statement.{statement}
 use Rattle.group_table.proofs.symbol.fill_cells.Tie as tie
-use Rattle.group_table.proofs.symbol.fill_cells.Reads as reads
-use Rattle.group_table.proofs.symbol.fill_cells.Lts as lts
-use Rattle.group_table.proofs.symbol.fill_rows.Reads as fill-rows-reads
-use Rattle.symbol_group.proofs.SymbolGroup.new.Reads as new-reads
 
 new-requires : tie.Need-new-requires
 new-requires c κs = search needs

@@ -8,8 +8,6 @@ use Rattle.group_table.specs.StepTables.{Comes, GoesBy, place-inside, st
 use Rattle.group_table.specs.Overlay.{begun, begun-length}
 use Rattle.group_table.proofs.symbol.fill_row.Statement.{statement}
 use Rattle.group_table.proofs.symbol.fill_row.Tie as tie
-use Rattle.group_table.proofs.symbol.fill_row.Reads as reads
-use Rattle.group_table.proofs.symbol.fill_row.Lts as lts
 
 abbrev Inv-loop : tie.InvT-loop
 Inv-loop cells₀ steps earlier generator count generators i row j₀ cells j =

@@ -9,10 +9,6 @@ use Rattle.group_table.specs.StepTables.{GoesBy}
 use Rattle.group_table.specs.Overlay.{begun, begun-none, begun-all}
 use Rattle.group_table.proofs.symbol.fill_rows.Statement.{statement}
 use Rattle.group_table.proofs.symbol.fill_rows.Tie as tie
-use Rattle.group_table.proofs.symbol.fill_rows.Reads as reads
-use Rattle.group_table.proofs.symbol.fill_rows.Lts as lts
-use Rattle.group_table.proofs.symbol.fill_row.Reads as fill-row-reads
-use Rattle.group_table.proofs.symbol.find_parents.Reads as find-parents-reads
 
 abbrev Inv-loop : tie.InvT-loop
 Inv-loop cells₀ steps count generators earlier generator i₀ cells i =

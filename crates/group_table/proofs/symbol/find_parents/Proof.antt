@@ -8,8 +8,6 @@ use lib.ListN.{length, getD, length-set}
 use Rattle.group_table.specs.StepTables.{AllComeUpTo, divisor, steps-fit, come-all, come-passed, come-noted}
 use Rattle.group_table.proofs.symbol.find_parents.Statement.{statement}
 use Rattle.group_table.proofs.symbol.find_parents.Tie as tie
-use Rattle.group_table.proofs.symbol.find_parents.Reads as reads
-use Rattle.group_table.proofs.symbol.find_parents.Lts as lts
 
 abbrev Inv-loop : tie.InvT-loop
 Inv-loop steps count generators earlier₀ generator₀ end at₀ earlier generator at =

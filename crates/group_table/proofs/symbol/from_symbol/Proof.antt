@@ -4,9 +4,6 @@ use Rattle.group_table.specs.SymbolSteps.{symbol-by-value}
 use borrow.Author.Needs.{needs}
 use Rattle.group_table.proofs.symbol.from_symbol.Statement.{statement}
 use Rattle.group_table.proofs.symbol.from_symbol.Tie as tie
-use Rattle.group_table.proofs.symbol.from_symbol.Reads as reads
-use Rattle.group_table.proofs.symbol.from_symbol.Lts as lts
-use Rattle.group_table.proofs.symbol.fill_cells.Reads as fill-cells-reads
 
 slice-aggregate-fill-cells : tie.Need-slice-aggregate-fill-cells
 slice-aggregate-fill-cells c = search needs

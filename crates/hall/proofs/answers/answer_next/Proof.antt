@@ -8,10 +8,6 @@ use Rattle.hall.specs.Answers.{answered-part}
 use borrow.Author.Needs.{needs}
 use Rattle.hall.proofs.answers.answer_next.Statement.{statement}
 use Rattle.hall.proofs.answers.answer_next.Tie as tie
-use Rattle.hall.proofs.answers.answer_next.Reads as reads
-use Rattle.hall.proofs.answers.answer_next.Lts as lts
-use Rattle.hall.proofs.answers.text_of.Reads as text-of-reads
-use Rattle.lines.proofs.take_line.Reads as take-line-reads
 
 take-line-requires : tie.Need-take-line-requires
 take-line-requires c κs = search needs

@@ -8,10 +8,6 @@ use Rattle.hall.specs.Answers.{last-part}
 use borrow.Author.Needs.{needs}
 use Rattle.hall.proofs.answers.last_text.Statement.{statement}
 use Rattle.hall.proofs.answers.last_text.Tie as tie
-use Rattle.hall.proofs.answers.last_text.Reads as reads
-use Rattle.hall.proofs.answers.last_text.Lts as lts
-use Rattle.hall.proofs.answers.text_of.Reads as text-of-reads
-use Rattle.lines.proofs.last_line.Reads as last-line-reads
 
 last-line-requires : tie.Need-last-line-requires
 last-line-requires c κs = search needs

@@ -6,9 +6,6 @@ use lib.Seq.{length-take-le}
 use borrow.Author.Needs.{needs}
 use Rattle.hall.proofs.answers.line_text.Statement.{statement}
 use Rattle.hall.proofs.answers.line_text.Tie as tie
-use Rattle.hall.proofs.answers.line_text.Reads as reads
-use Rattle.hall.proofs.answers.line_text.Lts as lts
-use Rattle.answer_text.proofs.answer_text.Reads as answer-text-reads
 
 array-share-prefix-bytes : tie.Need-array-share-prefix-bytes
 array-share-prefix-bytes c =

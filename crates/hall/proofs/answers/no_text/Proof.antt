@@ -3,8 +3,6 @@ use mathlib.Core.Path.{refl}
 use Rattle.hall.specs.Answers.{inRoom}
 use Rattle.hall.proofs.answers.no_text.Statement.{statement}
 use Rattle.hall.proofs.answers.no_text.Tie as tie
-use Rattle.hall.proofs.answers.no_text.Reads as reads
-use Rattle.hall.proofs.answers.no_text.Lts as lts
 
 returns : tie.Need-returns
 unfolding inRoom

@@ -1,15 +1,11 @@
 -- No line, no text; else the line's.
-use mathlib.Core.Path.{_∙_, refl}
+use mathlib.Core.Path.{_∙_}
 use lib.ListN.{take}
 use borrow.Author.Tests.{not-true, not-false}
 use Rattle.hall.specs.Answers.{none-in-room, one-in-room}
 use borrow.Author.Needs.{needs}
 use Rattle.hall.proofs.answers.text_of.Statement.{statement}
 use Rattle.hall.proofs.answers.text_of.Tie as tie
-use Rattle.hall.proofs.answers.text_of.Reads as reads
-use Rattle.hall.proofs.answers.text_of.Lts as lts
-use Rattle.hall.proofs.answers.line_text.Reads as line-text-reads
-use Rattle.hall.proofs.answers.no_text.Reads as no-text-reads
 
 no-text-requires : tie.Need-no-text-requires
 no-text-requires c κs = search needs

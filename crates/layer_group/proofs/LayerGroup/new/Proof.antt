@@ -4,11 +4,6 @@ use Rattle.layer_group.specs.Slots.{layer-refused, layer-slots, layer-of
 use borrow.Author.Needs.{needs}
 use Rattle.layer_group.proofs.LayerGroup.new.Statement.{statement}
 use Rattle.layer_group.proofs.LayerGroup.new.Tie as tie
-use Rattle.layer_group.proofs.LayerGroup.new.Reads as reads
-use Rattle.layer_group.proofs.LayerGroup.new.Lts as lts
-use Rattle.layer_group.proofs.first_off.Reads as first-off-reads
-use Rattle.layer_group.proofs.plain.Reads as plain-reads
-use Rattle.layer_group.proofs.refused.Reads as refused-reads
 
 plain-requires : tie.Need-plain-requires
 plain-requires c κs = search needs

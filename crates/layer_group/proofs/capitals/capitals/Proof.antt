@@ -7,11 +7,6 @@ use Rattle.layer_group.specs.Copying.{blank-whole}
 use borrow.Author.Needs.{needs}
 use Rattle.layer_group.proofs.capitals.capitals.Statement.{statement}
 use Rattle.layer_group.proofs.capitals.capitals.Tie as tie
-use Rattle.layer_group.proofs.capitals.capitals.Reads as reads
-use Rattle.layer_group.proofs.capitals.capitals.Lts as lts
-use Rattle.layer_group.proofs.capitals.blank.Reads as blank-reads
-use Rattle.layer_group.proofs.capitals.change_at.Reads as change-at-reads
-use Rattle.layer_group.proofs.capitals.copied.Reads as copied-reads
 
 copied-requires : tie.Need-copied-requires
 copied-requires c κs = search needs

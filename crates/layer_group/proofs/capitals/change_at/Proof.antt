@@ -7,10 +7,6 @@ use Rattle.layer_group.specs.Copying.{letter-small, letter-inside, chang
 use borrow.Author.Needs.{needs}
 use Rattle.layer_group.proofs.capitals.change_at.Statement.{statement}
 use Rattle.layer_group.proofs.capitals.change_at.Tie as tie
-use Rattle.layer_group.proofs.capitals.change_at.Reads as reads
-use Rattle.layer_group.proofs.capitals.change_at.Lts as lts
-use Rattle.layer_group.proofs.capitals.is_letter.Reads as is-letter-reads
-use Rattle.layer_group.proofs.capitals.marked_byte.Reads as marked-byte-reads
 
 shared-slice-read-first : tie.Need-shared-slice-read-first
 shared-slice-read-first c = search needs

@@ -6,10 +6,6 @@ use Rattle.layer_group.specs.Copying.{letter-none, letter-other, letter-
 use borrow.Author.Needs.{needs}
 use Rattle.layer_group.proofs.capitals.is_letter.Statement.{statement}
 use Rattle.layer_group.proofs.capitals.is_letter.Tie as tie
-use Rattle.layer_group.proofs.capitals.is_letter.Reads as reads
-use Rattle.layer_group.proofs.capitals.is_letter.Lts as lts
-use Rattle.layer_group.proofs.capitals.is_small.Reads as is-small-reads
-use Rattle.layer_group.proofs.capitals.is_whitespace.Reads as is-whitespace-reads
 
 returns : tie.Need-returns
 returns c = let a = c .before .before .args in sym (letter-none (a .text .now) (a .at) (omega arith))

@@ -6,11 +6,8 @@ use native.Mathlib.Omega.{arith}
 use lib.ListN.{length, drop, getD, set, length-set}
 use lib.Seq.{take-length}
 use Rattle.lines.specs.Copying.{copied, copied-more}
-use borrow.Author.Needs.{needs}
 use Rattle.magnetic_record.proofs.copier.copy_bytes.Statement.{statement}
 use Rattle.magnetic_record.proofs.copier.copy_bytes.Tie as tie
-use Rattle.magnetic_record.proofs.copier.copy_bytes.Reads as reads
-use Rattle.magnetic_record.proofs.copier.copy_bytes.Lts as lts
 
 abbrev Inv-loop : tie.InvT-loop
 Inv-loop bytes out₀ i₀ out i = (i ≤ length bytes) × (length out ≡ length out₀) × (out ≡ copied out₀ bytes i)

@@ -5,16 +5,12 @@ use Prim.Native.Nat.{_+_, _*_, _-_}
 use native.Mathlib.Omega.{arith}
 use lib.ListN.{length}
 use borrow.Author.Tests.{not-true, not-false}
-use Rattle.record_reading.specs.Parts.{tail-part}
+use Rattle.laws.specs.LentParts.{tail-part}
 use Rattle.record_writing.specs.declared.Copied.the-variants.{Written, NoRoom}
 use Rattle.magnetic_record.specs.Copying.{magneticCopiedOf, magneticCopyBuffer, RecordAtEnd, read-end, copy-refused, copy-placed}
 use borrow.Author.Needs.{needs}
 use Rattle.magnetic_record.proofs.copier.copy_record.Statement.{statement}
 use Rattle.magnetic_record.proofs.copier.copy_record.Tie as tie
-use Rattle.magnetic_record.proofs.copier.copy_record.Reads as reads
-use Rattle.magnetic_record.proofs.copier.copy_record.Lts as lts
-use Rattle.magnetic_record.proofs.copier.place_bytes.Reads as place-bytes-reads
-use Rattle.magnetic_record.proofs.reader.read_record.Reads as read-record-reads
 
 read-record-requires : tie.Need-read-record-requires
 read-record-requires c κs = search needs

@@ -2,14 +2,11 @@
 use mathlib.Core.Path.{refl, sym, _∙_}
 use native.Mathlib.Omega.{arith}
 use lib.ListN.{length}
-use Rattle.record_reading.specs.Parts.{put-at}
+use Rattle.laws.specs.LentParts.{put-at}
 use Rattle.record_writing.specs.Places.{start-beyond, too-near-end, room-there, nothing-placed, all-placed}
 use borrow.Author.Needs.{needs}
 use Rattle.magnetic_record.proofs.copier.place_bytes.Statement.{statement}
 use Rattle.magnetic_record.proofs.copier.place_bytes.Tie as tie
-use Rattle.magnetic_record.proofs.copier.place_bytes.Reads as reads
-use Rattle.magnetic_record.proofs.copier.place_bytes.Lts as lts
-use Rattle.magnetic_record.proofs.copier.copy_bytes.Reads as copy-bytes-reads
 
 returns : tie.Need-returns
 returns c =

@@ -4,16 +4,13 @@ use Prim.Native.Nat.{_-_, _≤_}
 use native.Mathlib.Omega.{arith}
 use lib.ListN.{drop}
 use borrow.Author.Tests.{not-true, not-false}
-use Rattle.laws.specs.Lattice.{all}
+use Rattle.laws.specs.Truth.{all}
 use Rattle.magnetic_record.specs.SecondEdition.{magneticIn}
 use Rattle.magnetic_record.specs.Reading.{flaggedMember}
 use Rattle.magnetic_record.specs.Search.{itemsOf}
 use Rattle.magnetic_record.specs.Walk.{all-next, all-stop, all-end}
 use Rattle.magnetic_record.proofs.group.all_members.Statement.{statement}
 use Rattle.magnetic_record.proofs.group.all_members.Tie as tie
-use Rattle.magnetic_record.proofs.group.all_members.Reads as reads
-use Rattle.magnetic_record.proofs.group.all_members.Lts as lts
-use Rattle.magnetic_record.proofs.group.is_member.Reads as is-member-reads
 
 abbrev Inv-loop : tie.InvT-loop
 Inv-loop bytes c n numbers i₀ i =

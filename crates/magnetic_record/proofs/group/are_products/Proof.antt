@@ -4,7 +4,7 @@ use Prim.Native.Nat.{_-_, _≤_}
 use native.Mathlib.Omega.{arith}
 use lib.ListN.{drop}
 use borrow.Author.Tests.{not-true, not-false}
-use Rattle.laws.specs.Lattice.{all}
+use Rattle.laws.specs.Truth.{all}
 use Rattle.magnetic_record.specs.SecondEdition.{magneticIn}
 use Rattle.magnetic_record.specs.Reading.{flaggedPairListed}
 use Rattle.magnetic_record.specs.Search.{itemsOf, itemAt}
@@ -12,9 +12,6 @@ use Rattle.magnetic_record.specs.Numbers.{pair-said}
 use Rattle.magnetic_record.specs.Walk.{all-next, all-stop, all-end}
 use Rattle.magnetic_record.proofs.group.are_products.Statement.{statement}
 use Rattle.magnetic_record.proofs.group.are_products.Tie as tie
-use Rattle.magnetic_record.proofs.group.are_products.Reads as reads
-use Rattle.magnetic_record.proofs.group.are_products.Lts as lts
-use Rattle.magnetic_record.proofs.group.is_product.Reads as is-product-reads
 
 abbrev Inv-loop : tie.InvT-loop
 Inv-loop bytes c n numbers i j₀ j =

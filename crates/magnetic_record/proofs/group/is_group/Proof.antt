@@ -10,12 +10,6 @@ use Rattle.magnetic_record.specs.Search.{itemsOf}
 use borrow.Author.Needs.{needs}
 use Rattle.magnetic_record.proofs.group.is_group.Statement.{statement}
 use Rattle.magnetic_record.proofs.group.is_group.Tie as tie
-use Rattle.magnetic_record.proofs.group.is_group.Reads as reads
-use Rattle.magnetic_record.proofs.group.is_group.Lts as lts
-use Rattle.magnetic_record.proofs.group.all_members.Reads as all-members-reads
-use Rattle.magnetic_record.proofs.group.is_listed.Reads as is-listed-reads
-use Rattle.magnetic_record.proofs.group.pack.Reads as pack-reads
-use Rattle.operation.proofs.product.identity.Reads as identity-reads
 
 identity-requires : tie.Need-identity-requires
 identity-requires c κs = search needs

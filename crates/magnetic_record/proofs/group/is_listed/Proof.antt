@@ -8,13 +8,6 @@ use Rattle.magnetic_record.specs.Search.{KeyPlace, past-end, other-key, 
 use borrow.Author.Needs.{needs}
 use Rattle.magnetic_record.proofs.group.is_listed.Statement.{statement}
 use Rattle.magnetic_record.proofs.group.is_listed.Tie as tie
-use Rattle.magnetic_record.proofs.group.is_listed.Reads as reads
-use Rattle.magnetic_record.proofs.group.is_listed.Lts as lts
-use Rattle.centering.proofs.Centering.congruent.Reads as congruent-reads
-use Rattle.magnetic_record.proofs.group.place_of_key.Reads as place-of-key-reads
-use Rattle.magnetic_record.proofs.items.key_at.Reads as key-at-reads
-use Rattle.magnetic_record.proofs.items.plain_at.Reads as plain-at-reads
-use Rattle.operation.proofs.code.rotation_code.Reads as rotation-code-reads
 
 rotation-code-requires : tie.Need-rotation-code-requires
 rotation-code-requires c κs = search needs

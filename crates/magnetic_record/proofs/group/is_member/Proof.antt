@@ -10,11 +10,6 @@ use Rattle.magnetic_record.specs.Numbers.{keeps-said}
 use borrow.Author.Needs.{needs}
 use Rattle.magnetic_record.proofs.group.is_member.Statement.{statement}
 use Rattle.magnetic_record.proofs.group.is_member.Tie as tie
-use Rattle.magnetic_record.proofs.group.is_member.Reads as reads
-use Rattle.magnetic_record.proofs.group.is_member.Lts as lts
-use Rattle.centering.proofs.Centering.keeps.Reads as keeps-reads
-use Rattle.magnetic_record.proofs.group.are_products.Reads as are-products-reads
-use Rattle.packed_operation.proofs.said.Reads as said-reads
 
 mul-said : tie.Need-mul-said
 mul-said c = search needs

@@ -15,12 +15,6 @@ use Rattle.magnetic_record.specs.Numbers.{no-number}
 use borrow.Author.Needs.{needs}
 use Rattle.magnetic_record.proofs.group.is_product.Statement.{statement}
 use Rattle.magnetic_record.proofs.group.is_product.Tie as tie
-use Rattle.magnetic_record.proofs.group.is_product.Reads as reads
-use Rattle.magnetic_record.proofs.group.is_product.Lts as lts
-use Rattle.magnetic_record.proofs.group.is_listed.Reads as is-listed-reads
-use Rattle.packed_operation.proofs.flag.Reads as flag-reads
-use Rattle.packed_operation.proofs.product.Reads as product-reads
-use Rattle.packed_operation.proofs.said.Reads as said-reads
 
 product-requires : tie.Need-product-requires
 product-requires c κs = search needs

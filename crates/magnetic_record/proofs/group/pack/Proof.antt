@@ -11,12 +11,6 @@ use Rattle.magnetic_record.specs.Search.{itemAt}
 use Rattle.magnetic_record.specs.Numbers.{Packed, item-said, packed-next}
 use Rattle.magnetic_record.proofs.group.pack.Statement.{statement}
 use Rattle.magnetic_record.proofs.group.pack.Tie as tie
-use Rattle.magnetic_record.proofs.group.pack.Reads as reads
-use Rattle.magnetic_record.proofs.group.pack.Lts as lts
-use Rattle.magnetic_record.proofs.items.flag_at.Reads as flag-at-reads
-use Rattle.magnetic_record.proofs.items.operation_of.Reads as operation-of-reads
-use Rattle.magnetic_record.proofs.items.plain_at.Reads as plain-at-reads
-use Rattle.packed_operation.proofs.number.Reads as number-reads
 
 abbrev Inv-loop : tie.InvT-loop
 Inv-loop bytes n numbers₀ i₀ numbers i = (i ≤ n) × (length numbers ≡ 96) × Packed i bytes numbers

@@ -4,9 +4,6 @@ use native.Mathlib.Omega.{arith}
 use Rattle.magnetic_record.specs.Search.{Between, lower-half, upper-half}
 use Rattle.magnetic_record.proofs.group.place_of_key.Statement.{statement}
 use Rattle.magnetic_record.proofs.group.place_of_key.Tie as tie
-use Rattle.magnetic_record.proofs.group.place_of_key.Reads as reads
-use Rattle.magnetic_record.proofs.group.place_of_key.Lts as lts
-use Rattle.magnetic_record.proofs.items.key_at.Reads as key-at-reads
 
 abbrev Inv-loop : tie.InvT-loop
 Inv-loop bytes n key low₀ high₀ low high = Between n bytes key low high

@@ -5,8 +5,6 @@ use Rattle.magnetic_record.specs.SecondEdition.{magneticIn}
 use borrow.Author.Needs.{needs}
 use Rattle.magnetic_record.proofs.items.flag_at.Statement.{statement}
 use Rattle.magnetic_record.proofs.items.flag_at.Tie as tie
-use Rattle.magnetic_record.proofs.items.flag_at.Reads as reads
-use Rattle.magnetic_record.proofs.items.flag_at.Lts as lts
 
 mul-result : tie.Need-mul-result
 mul-result c = search needs

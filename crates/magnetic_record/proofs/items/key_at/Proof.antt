@@ -5,10 +5,6 @@ use Rattle.group_record.specs.declared.items.Item.{Item}
 use borrow.Author.Needs.{needs}
 use Rattle.magnetic_record.proofs.items.key_at.Statement.{statement}
 use Rattle.magnetic_record.proofs.items.key_at.Tie as tie
-use Rattle.magnetic_record.proofs.items.key_at.Reads as reads
-use Rattle.magnetic_record.proofs.items.key_at.Lts as lts
-use Rattle.magnetic_record.proofs.items.flag_at.Reads as flag-at-reads
-use Rattle.magnetic_record.proofs.items.plain_at.Reads as plain-at-reads
 
 plain-at-requires : tie.Need-plain-at-requires
 plain-at-requires c κs = search needs

@@ -6,10 +6,6 @@ use Rattle.group_record.specs.OperationItems.{operationOfItem, rotationOfDecode
 use borrow.Author.Needs.{needs}
 use Rattle.magnetic_record.proofs.items.operation_of.Statement.{statement}
 use Rattle.magnetic_record.proofs.items.operation_of.Tie as tie
-use Rattle.magnetic_record.proofs.items.operation_of.Reads as reads
-use Rattle.magnetic_record.proofs.items.operation_of.Lts as lts
-use Rattle.operation.proofs.code.rotation_of_code.Reads as rotation-of-code-reads
-use Rattle.operation.proofs.product.identity.Reads as identity-reads
 
 rotation-of-code-requires : tie.Need-rotation-of-code-requires
 rotation-of-code-requires c κs = search needs

@@ -6,8 +6,6 @@ use Rattle.magnetic_record.specs.SecondEdition.{magneticIn}
 use borrow.Author.Needs.{needs}
 use Rattle.magnetic_record.proofs.items.plain_at.Statement.{statement}
 use Rattle.magnetic_record.proofs.items.plain_at.Tie as tie
-use Rattle.magnetic_record.proofs.items.plain_at.Reads as reads
-use Rattle.magnetic_record.proofs.items.plain_at.Lts as lts
 
 mul-at : tie.Need-mul-at
 mul-at c = search needs

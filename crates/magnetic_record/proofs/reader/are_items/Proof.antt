@@ -4,10 +4,6 @@ use Rattle.group_record.specs.Rules.{areGood}
 use borrow.Author.Needs.{needs}
 use Rattle.magnetic_record.proofs.reader.are_items.Statement.{statement}
 use Rattle.magnetic_record.proofs.reader.are_items.Tie as tie
-use Rattle.magnetic_record.proofs.reader.are_items.Reads as reads
-use Rattle.magnetic_record.proofs.reader.are_items.Lts as lts
-use Rattle.magnetic_record.proofs.reader.items_fit.Reads as items-fit-reads
-use Rattle.magnetic_record.proofs.reader.keys_ascend.Reads as keys-ascend-reads
 
 items-fit-requires : tie.Need-items-fit-requires
 items-fit-requires c κs = search needs

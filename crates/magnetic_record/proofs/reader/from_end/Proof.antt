@@ -4,8 +4,6 @@ use Rattle.group_record.specs.Editions.{fromEnd}
 use borrow.Author.Needs.{needs}
 use Rattle.magnetic_record.proofs.reader.from_end.Statement.{statement}
 use Rattle.magnetic_record.proofs.reader.from_end.Tie as tie
-use Rattle.magnetic_record.proofs.reader.from_end.Reads as reads
-use Rattle.magnetic_record.proofs.reader.from_end.Lts as lts
 
 sub-result : tie.Need-sub-result
 sub-result c = search needs

@@ -12,12 +12,6 @@ use Rattle.magnetic_record.specs.Search.{itemAt, not-plain, by-flag}
 use borrow.Author.Needs.{needs}
 use Rattle.magnetic_record.proofs.reader.is_item.Statement.{statement}
 use Rattle.magnetic_record.proofs.reader.is_item.Tie as tie
-use Rattle.magnetic_record.proofs.reader.is_item.Reads as reads
-use Rattle.magnetic_record.proofs.reader.is_item.Lts as lts
-use Rattle.centering.proofs.Centering.smallest.Reads as smallest-reads
-use Rattle.magnetic_record.proofs.items.flag_at.Reads as flag-at-reads
-use Rattle.magnetic_record.proofs.items.plain_at.Reads as plain-at-reads
-use Rattle.magnetic_record.proofs.reader.same.Reads as same-reads
 
 plain-at-requires : tie.Need-plain-at-requires
 plain-at-requires c κs = search needs

@@ -4,16 +4,13 @@ use Prim.Native.Nat.{_-_, _≤_}
 use native.Mathlib.Omega.{arith}
 use lib.ListN.{drop}
 use borrow.Author.Tests.{not-true, not-false}
-use Rattle.laws.specs.Lattice.{all}
+use Rattle.laws.specs.Truth.{all}
 use Rattle.magnetic_record.specs.SecondEdition.{magneticIn}
 use Rattle.magnetic_record.specs.Reading.{isMagneticItem}
 use Rattle.magnetic_record.specs.Search.{itemsOf}
 use Rattle.magnetic_record.specs.Walk.{all-next, all-stop, all-end}
 use Rattle.magnetic_record.proofs.reader.items_fit.Statement.{statement}
 use Rattle.magnetic_record.proofs.reader.items_fit.Tie as tie
-use Rattle.magnetic_record.proofs.reader.items_fit.Reads as reads
-use Rattle.magnetic_record.proofs.reader.items_fit.Lts as lts
-use Rattle.magnetic_record.proofs.reader.is_item.Reads as is-item-reads
 
 abbrev Inv-loop : tie.InvT-loop
 Inv-loop bytes c n i₀ i = (i ≤ n) × (all (isMagneticItem c) (drop i (itemsOf n bytes)) ≡ all (isMagneticItem c) (itemsOf n bytes))

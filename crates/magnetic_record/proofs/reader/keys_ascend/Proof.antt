@@ -11,9 +11,6 @@ use Rattle.magnetic_record.specs.Search.{itemsOf, itemAt}
 use Rattle.magnetic_record.specs.Walk.{ascending-next, ascending-stop, ascending-end}
 use Rattle.magnetic_record.proofs.reader.keys_ascend.Statement.{statement}
 use Rattle.magnetic_record.proofs.reader.keys_ascend.Tie as tie
-use Rattle.magnetic_record.proofs.reader.keys_ascend.Reads as reads
-use Rattle.magnetic_record.proofs.reader.keys_ascend.Lts as lts
-use Rattle.magnetic_record.proofs.items.key_at.Reads as key-at-reads
 
 abbrev Inv-loop : tie.InvT-loop
 Inv-loop bytes n i₀ i = (i < n) × (ascending keyBefore (drop i (itemsOf n bytes)) ≡ ascending keyBefore (itemsOf n bytes))

@@ -5,8 +5,6 @@ use Rattle.group_record.specs.Rules.{lengthFits}
 use borrow.Author.Needs.{needs}
 use Rattle.magnetic_record.proofs.reader.length_fits.Statement.{statement}
 use Rattle.magnetic_record.proofs.reader.length_fits.Tie as tie
-use Rattle.magnetic_record.proofs.reader.length_fits.Reads as reads
-use Rattle.magnetic_record.proofs.reader.length_fits.Lts as lts
 
 returns : tie.Need-returns
 unfolding lengthFits

@@ -5,18 +5,12 @@ use native.Mathlib.Omega.{arith}
 use lib.ListN.{length, length-drop}
 use borrow.Author.Tests.{not-true, not-false}
 use Rattle.group_record.specs.Outcomes.{length-test}
-use Rattle.record_reading.specs.Parts.{tail-part}
+use Rattle.laws.specs.LentParts.{tail-part}
 use Rattle.magnetic_record.specs.Search.{good-places}
 use Rattle.magnetic_record.specs.Trailer.{counted-fails, items-wrong, items-barred, items-right}
 use borrow.Author.Needs.{needs}
 use Rattle.magnetic_record.proofs.reader.read_counted.Statement.{statement}
 use Rattle.magnetic_record.proofs.reader.read_counted.Tie as tie
-use Rattle.magnetic_record.proofs.reader.read_counted.Reads as reads
-use Rattle.magnetic_record.proofs.reader.read_counted.Lts as lts
-use Rattle.magnetic_record.proofs.group.is_group.Reads as is-group-reads
-use Rattle.magnetic_record.proofs.reader.are_items.Reads as are-items-reads
-use Rattle.magnetic_record.proofs.reader.from_end.Reads as from-end-reads
-use Rattle.magnetic_record.proofs.reader.length_fits.Reads as length-fits-reads
 
 from-end-requires : tie.Need-from-end-requires
 from-end-requires c κs = search needs

@@ -6,11 +6,6 @@ use Rattle.magnetic_record.specs.Trailer.{too-short, other-number, no-le
 use borrow.Author.Needs.{needs}
 use Rattle.magnetic_record.proofs.reader.read_record.Statement.{statement}
 use Rattle.magnetic_record.proofs.reader.read_record.Tie as tie
-use Rattle.magnetic_record.proofs.reader.read_record.Reads as reads
-use Rattle.magnetic_record.proofs.reader.read_record.Lts as lts
-use Rattle.centering.proofs.Centering.from_byte.Reads as from-byte-reads
-use Rattle.magnetic_record.proofs.reader.from_end.Reads as from-end-reads
-use Rattle.magnetic_record.proofs.reader.read_counted.Reads as read-counted-reads
 
 returns : tie.Need-returns
 returns c = sym (too-short (c .before .before .args .bytes .now) (c .if1 .taken))

@@ -4,8 +4,6 @@ use Rattle.laws.specs.Lattice.{sameTriple}
 use Rattle.centering.specs.PointSearch.{same-by-last}
 use Rattle.magnetic_record.proofs.reader.same.Statement.{statement}
 use Rattle.magnetic_record.proofs.reader.same.Tie as tie
-use Rattle.magnetic_record.proofs.reader.same.Reads as reads
-use Rattle.magnetic_record.proofs.reader.same.Lts as lts
 
 returns : tie.Need-returns
 unfolding sameTriple

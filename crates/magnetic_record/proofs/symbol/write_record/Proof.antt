@@ -11,10 +11,6 @@ use Rattle.magnetic_record.specs.Writing.{slots-long, numbers-listing, r
 use borrow.Author.Needs.{needs}
 use Rattle.magnetic_record.proofs.symbol.write_record.Statement.{statement}
 use Rattle.magnetic_record.proofs.symbol.write_record.Tie as tie
-use Rattle.magnetic_record.proofs.symbol.write_record.Reads as reads
-use Rattle.magnetic_record.proofs.symbol.write_record.Lts as lts
-use Rattle.magnetic_group.proofs.list.Reads as list-reads
-use Rattle.magnetic_record.proofs.writer.place_group.Reads as place-group-reads
 
 list-requires : tie.Need-list-requires
 list-requires c κs = search needs

@@ -1,5 +1,5 @@
 -- A text over 80 bytes is refused as it stands; of any other the copy is read.
-use mathlib.Core.Path.{_≡_, sym, _∙_, ap}
+use mathlib.Core.Path.{sym, _∙_, ap}
 use mathlib.Core.List.{List}
 use Prim.Native.Nat.{ℕ}
 use native.Mathlib.Omega.{arith}
@@ -9,11 +9,6 @@ use Rattle.magnetic_symbol.specs.Copying.{blanked-length, prefix-room, l
 use borrow.Author.Needs.{needs}
 use Rattle.magnetic_symbol.proofs.MagneticSymbol.new.Statement.{statement}
 use Rattle.magnetic_symbol.proofs.MagneticSymbol.new.Tie as tie
-use Rattle.magnetic_symbol.proofs.MagneticSymbol.new.Reads as reads
-use Rattle.magnetic_symbol.proofs.MagneticSymbol.new.Lts as lts
-use Rattle.hall_symbol.proofs.HallSymbol.new.Reads as new-reads
-use Rattle.magnetic_symbol.proofs.kept.Reads as kept-reads
-use Rattle.magnetic_symbol.proofs.reversals.blanked.Reads as blanked-reads
 
 new-requires : tie.Need-new-requires
 new-requires c κs = search needs

@@ -1,14 +1,7 @@
 -- Each arm is the case of its mode.
-use mathlib.Core.Path.{sym, _∙_}
 use borrow.Author.Needs.{needs}
 use Rattle.magnetic_symbol.proofs.reversals.after.Statement.{statement}
 use Rattle.magnetic_symbol.proofs.reversals.after.Tie as tie
-use Rattle.magnetic_symbol.proofs.reversals.after.Reads as reads
-use Rattle.magnetic_symbol.proofs.reversals.after.Lts as lts
-use Rattle.magnetic_symbol.proofs.reversals.is_whitespace.Reads as is-whitespace-reads
-use Rattle.magnetic_symbol.proofs.reversals.marked.Reads as marked-reads
-use Rattle.magnetic_symbol.proofs.reversals.starting.Reads as starting-reads
-use Rattle.magnetic_symbol.proofs.reversals.within.Reads as within-reads
 
 enum-told : tie.Need-enum-told
 enum-told c = search needs

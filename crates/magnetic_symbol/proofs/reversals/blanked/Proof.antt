@@ -1,6 +1,6 @@
 -- The invariant: the copy made so far, and the copy of what is left behind it, are the whole copy; and so with the flags.
 use mathlib.Core.Path.{_≡_, refl, sym, _∙_, ap}
-use mathlib.Core.List.{List, [], _∷_, _++_, append-nil}
+use mathlib.Core.List.{List, _++_, append-nil}
 use Prim.Native.Nat.{ℕ, _-_, _<_, _≤_}
 use native.Mathlib.Omega.{arith}
 use lib.ListN.{length, take, drop, length-set}
@@ -10,14 +10,6 @@ use Rattle.magnetic_symbol.specs.declared.reversals.Mode.the-variants.{B
 use borrow.Author.Needs.{needs}
 use Rattle.magnetic_symbol.proofs.reversals.blanked.Statement.{statement}
 use Rattle.magnetic_symbol.proofs.reversals.blanked.Tie as tie
-use Rattle.magnetic_symbol.proofs.reversals.blanked.Reads as reads
-use Rattle.magnetic_symbol.proofs.reversals.blanked.Lts as lts
-use Rattle.magnetic_symbol.proofs.reversals.after.Reads as after-reads
-use Rattle.magnetic_symbol.proofs.reversals.copied_byte.Reads as copied-byte-reads
-use Rattle.magnetic_symbol.proofs.reversals.ends.Reads as ends-reads
-use Rattle.magnetic_symbol.proofs.reversals.gives.Reads as gives-reads
-use Rattle.magnetic_symbol.proofs.reversals.noted.Reads as noted-reads
-use Rattle.magnetic_symbol.proofs.reversals.reverses.Reads as reverses-reads
 
 abbrev Inv-loop : tie.InvT-loop
 Inv-loop text bytes₀ list₀ mode₀ i₀ bytes list mode i =

@@ -1,14 +1,10 @@
 -- The text ends at the place, or a byte stands there.
-use mathlib.Core.Path.{_∙_, sym, ap}
 use native.Mathlib.Omega.{arith}
 use lib.ListN.{drop, drop-of-length-le}
 use lib.Seq.{drop-cons}
 use borrow.Author.Needs.{needs}
 use Rattle.magnetic_symbol.proofs.reversals.ends.Statement.{statement}
 use Rattle.magnetic_symbol.proofs.reversals.ends.Tie as tie
-use Rattle.magnetic_symbol.proofs.reversals.ends.Reads as reads
-use Rattle.magnetic_symbol.proofs.reversals.ends.Lts as lts
-use Rattle.magnetic_symbol.proofs.reversals.is_whitespace.Reads as is-whitespace-reads
 
 returns : tie.Need-returns
 returns c = rw (drop-of-length-le (c .before .before .args .text .now) (c .if1 .taken))

@@ -1,14 +1,8 @@
 -- Each way out is a case of the definition.
-use mathlib.Core.Path.{sym, _∙_}
 use borrow.Author.Tests.{not-true, not-false}
 use borrow.Author.Needs.{needs}
 use Rattle.magnetic_symbol.proofs.reversals.gives.Statement.{statement}
 use Rattle.magnetic_symbol.proofs.reversals.gives.Tie as tie
-use Rattle.magnetic_symbol.proofs.reversals.gives.Reads as reads
-use Rattle.magnetic_symbol.proofs.reversals.gives.Lts as lts
-use Rattle.magnetic_symbol.proofs.reversals.after.Reads as after-reads
-use Rattle.magnetic_symbol.proofs.reversals.in_token.Reads as in-token-reads
-use Rattle.magnetic_symbol.proofs.reversals.leads.Reads as leads-reads
 
 leads-requires : tie.Need-leads-requires
 leads-requires c κs = search needs

@@ -2,8 +2,6 @@
 use borrow.Author.Needs.{needs}
 use Rattle.magnetic_symbol.proofs.reversals.leads.Statement.{statement}
 use Rattle.magnetic_symbol.proofs.reversals.leads.Tie as tie
-use Rattle.magnetic_symbol.proofs.reversals.leads.Reads as reads
-use Rattle.magnetic_symbol.proofs.reversals.leads.Lts as lts
 
 enum-told : tie.Need-enum-told
 enum-told c = search needs

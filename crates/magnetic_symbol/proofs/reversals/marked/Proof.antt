@@ -3,8 +3,6 @@ use borrow.Author.Tests.{eq-eqb, ne-eqb}
 use Rattle.magnetic_symbol.specs.TimeReversals.{prime}
 use Rattle.magnetic_symbol.proofs.reversals.marked.Statement.{statement}
 use Rattle.magnetic_symbol.proofs.reversals.marked.Tie as tie
-use Rattle.magnetic_symbol.proofs.reversals.marked.Reads as reads
-use Rattle.magnetic_symbol.proofs.reversals.marked.Lts as lts
 
 returns : tie.Need-returns
 unfolding prime

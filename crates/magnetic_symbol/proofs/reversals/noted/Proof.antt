@@ -1,11 +1,8 @@
 -- Each way out is a case of the definition.
-use native.Mathlib.Omega.{arith}
 use borrow.Author.Tests.{le-leb, lt-leb, not-true, not-false}
 use borrow.Author.Needs.{needs}
 use Rattle.magnetic_symbol.proofs.reversals.noted.Statement.{statement}
 use Rattle.magnetic_symbol.proofs.reversals.noted.Tie as tie
-use Rattle.magnetic_symbol.proofs.reversals.noted.Reads as reads
-use Rattle.magnetic_symbol.proofs.reversals.noted.Lts as lts
 
 returns : tie.Need-returns
 returns c = let none = not-true (c .before .args .given) (c .if1 .taken) in rw none

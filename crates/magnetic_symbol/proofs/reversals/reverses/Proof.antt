@@ -4,8 +4,6 @@ use Rattle.magnetic_symbol.specs.TimeReversals.{prime}
 use borrow.Author.Needs.{needs}
 use Rattle.magnetic_symbol.proofs.reversals.reverses.Statement.{statement}
 use Rattle.magnetic_symbol.proofs.reversals.reverses.Tie as tie
-use Rattle.magnetic_symbol.proofs.reversals.reverses.Reads as reads
-use Rattle.magnetic_symbol.proofs.reversals.reverses.Lts as lts
 
 enum-told : tie.Need-enum-told
 enum-told c = search needs

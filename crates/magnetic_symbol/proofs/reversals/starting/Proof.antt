@@ -1,13 +1,9 @@
 -- The test of the byte.
-use mathlib.Core.Path.{_∙_}
 use borrow.Author.Tests.{eq-eqb, ne-eqb}
 use Rattle.hall_symbol.specs.Bytes.{opening}
 use borrow.Author.Needs.{needs}
 use Rattle.magnetic_symbol.proofs.reversals.starting.Statement.{statement}
 use Rattle.magnetic_symbol.proofs.reversals.starting.Tie as tie
-use Rattle.magnetic_symbol.proofs.reversals.starting.Reads as reads
-use Rattle.magnetic_symbol.proofs.reversals.starting.Lts as lts
-use Rattle.magnetic_symbol.proofs.reversals.marked.Reads as marked-reads
 
 returns : tie.Need-returns
 unfolding opening

@@ -1,12 +1,7 @@
 -- The test of the byte.
-use mathlib.Core.Path.{sym, _∙_}
-use borrow.Author.Tests.{not-true}
 use borrow.Author.Needs.{needs}
 use Rattle.magnetic_symbol.proofs.reversals.within.Statement.{statement}
 use Rattle.magnetic_symbol.proofs.reversals.within.Tie as tie
-use Rattle.magnetic_symbol.proofs.reversals.within.Reads as reads
-use Rattle.magnetic_symbol.proofs.reversals.within.Lts as lts
-use Rattle.magnetic_symbol.proofs.reversals.is_whitespace.Reads as is-whitespace-reads
 
 is-whitespace-requires : tie.Need-is-whitespace-requires
 is-whitespace-requires c κs = search needs

@@ -4,8 +4,6 @@ use Rattle.operation.specs.Code.{codeOf}
 use borrow.Author.Needs.{needs}
 use Rattle.operation.proofs.code.rotation_code.Statement.{statement}
 use Rattle.operation.proofs.code.rotation_code.Tie as tie
-use Rattle.operation.proofs.code.rotation_code.Reads as reads
-use Rattle.operation.proofs.code.rotation_code.Lts as lts
 
 cast-x : tie.Need-cast-x
 cast-x c = search needs

@@ -4,8 +4,6 @@ use Rattle.operation.specs.Code.{rotationOf}
 use borrow.Author.Needs.{needs}
 use Rattle.operation.proofs.code.rotation_of_code.Statement.{statement}
 use Rattle.operation.proofs.code.rotation_of_code.Tie as tie
-use Rattle.operation.proofs.code.rotation_of_code.Reads as reads
-use Rattle.operation.proofs.code.rotation_of_code.Lts as lts
 
 returns : tie.Need-returns
 returns c = simp (le-ltb _ _ (c .if1 .taken))

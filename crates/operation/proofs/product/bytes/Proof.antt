@@ -3,8 +3,6 @@ use Rattle.operation.specs.Twelves.{bytesOf}
 use borrow.Author.Needs.{needs}
 use Rattle.operation.proofs.product.bytes.Statement.{statement}
 use Rattle.operation.proofs.product.bytes.Tie as tie
-use Rattle.operation.proofs.product.bytes.Reads as reads
-use Rattle.operation.proofs.product.bytes.Lts as lts
 
 mul-result : tie.Need-mul-result
 mul-result c = search needs

@@ -9,10 +9,6 @@ use Rattle.operation.specs.declared.product.Column.the-variants.{Inside}
 use borrow.Author.Needs.{needs}
 use Rattle.operation.proofs.product.column_times.Statement.{statement}
 use Rattle.operation.proofs.product.column_times.Tie as tie
-use Rattle.operation.proofs.product.column_times.Reads as reads
-use Rattle.operation.proofs.product.column_times.Lts as lts
-use Rattle.operation.proofs.product.fours.Reads as fours-reads
-use Rattle.operation.proofs.product.raised_column.Reads as raised-column-reads
 
 raised-column-requires : tie.Need-raised-column-requires
 raised-column-requires c κs = search needs

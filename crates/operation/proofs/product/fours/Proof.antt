@@ -3,8 +3,6 @@ use Rattle.operation.specs.Lanes.{foursOf}
 use borrow.Author.Needs.{needs}
 use Rattle.operation.proofs.product.fours.Statement.{statement}
 use Rattle.operation.proofs.product.fours.Tie as tie
-use Rattle.operation.proofs.product.fours.Reads as reads
-use Rattle.operation.proofs.product.fours.Lts as lts
 
 mul-result : tie.Need-mul-result
 mul-result c = search needs

@@ -7,10 +7,6 @@ use Rattle.operation.specs.Lanes.{lanes-times}
 use borrow.Author.Needs.{needs}
 use Rattle.operation.proofs.product.lanes_times.Statement.{statement}
 use Rattle.operation.proofs.product.lanes_times.Tie as tie
-use Rattle.operation.proofs.product.lanes_times.Reads as reads
-use Rattle.operation.proofs.product.lanes_times.Lts as lts
-use Rattle.operation.proofs.product.lanes.Reads as lanes-reads
-use Rattle.operation.proofs.product.wide.Reads as wide-reads
 
 lanes-requires : tie.Need-lanes-requires
 lanes-requires c κs = search needs

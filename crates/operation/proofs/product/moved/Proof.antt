@@ -11,12 +11,6 @@ use Rattle.operation.specs.Twelves.{reducedOf, lanes-small-lanes}
 use borrow.Author.Needs.{needs}
 use Rattle.operation.proofs.product.moved.Statement.{statement}
 use Rattle.operation.proofs.product.moved.Tie as tie
-use Rattle.operation.proofs.product.moved.Reads as reads
-use Rattle.operation.proofs.product.moved.Lts as lts
-use Rattle.operation.proofs.product.lanes.Reads as lanes-reads
-use Rattle.operation.proofs.product.reduced.Reads as reduced-reads
-use Rattle.operation.proofs.product.rows_times.Reads as rows-times-reads
-use Rattle.operation.proofs.product.wide.Reads as wide-reads
 
 rows-times-requires : tie.Need-rows-times-requires
 rows-times-requires c κs = search needs

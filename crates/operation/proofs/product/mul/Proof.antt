@@ -8,10 +8,6 @@ use Rattle.operation.specs.Product.{productOf, operationOf, movedOf, col
 use borrow.Author.Needs.{needs}
 use Rattle.operation.proofs.product.mul.Statement.{statement}
 use Rattle.operation.proofs.product.mul.Tie as tie
-use Rattle.operation.proofs.product.mul.Reads as reads
-use Rattle.operation.proofs.product.mul.Lts as lts
-use Rattle.operation.proofs.product.column_times.Reads as column-times-reads
-use Rattle.operation.proofs.product.moved.Reads as moved-reads
 
 column-times-requires : tie.Need-column-times-requires
 column-times-requires c κs = search needs

@@ -6,10 +6,6 @@ use Rattle.operation.specs.Lanes.{raised-lanes}
 use borrow.Author.Needs.{needs}
 use Rattle.operation.proofs.product.raised_column.Statement.{statement}
 use Rattle.operation.proofs.product.raised_column.Tie as tie
-use Rattle.operation.proofs.product.raised_column.Reads as reads
-use Rattle.operation.proofs.product.raised_column.Lts as lts
-use Rattle.operation.proofs.product.rows_times.Reads as rows-times-reads
-use Rattle.operation.proofs.product.wide.Reads as wide-reads
 
 mul-base : tie.Need-mul-base
 mul-base c = search needs

@@ -6,9 +6,6 @@ use Rattle.operation.specs.Twelves.{bytesOf, first-covers, rest-small, s
 use borrow.Author.Needs.{needs}
 use Rattle.operation.proofs.product.reduced.Statement.{statement}
 use Rattle.operation.proofs.product.reduced.Tie as tie
-use Rattle.operation.proofs.product.reduced.Reads as reads
-use Rattle.operation.proofs.product.reduced.Lts as lts
-use Rattle.operation.proofs.product.bytes.Reads as bytes-reads
 
 bytes-requires : tie.Need-bytes-requires
 bytes-requires c κs = search needs

@@ -6,9 +6,6 @@ use Rattle.operation.specs.Product.{rotatedOf, movedOf}
 use borrow.Author.Needs.{needs}
 use Rattle.operation.proofs.product.rotated.Statement.{statement}
 use Rattle.operation.proofs.product.rotated.Tie as tie
-use Rattle.operation.proofs.product.rotated.Reads as reads
-use Rattle.operation.proofs.product.rotated.Lts as lts
-use Rattle.operation.proofs.product.moved.Reads as moved-reads
 
 moved-requires : tie.Need-moved-requires
 moved-requires c κs = search needs

@@ -7,8 +7,6 @@ use lib.ListN.{length, getD, take, drop, set, length-set}
 use Rattle.operation_line.specs.Building.{copy-next}
 use Rattle.operation_line.proofs.writer.copy_front.Statement.{statement}
 use Rattle.operation_line.proofs.writer.copy_front.Tie as tie
-use Rattle.operation_line.proofs.writer.copy_front.Reads as reads
-use Rattle.operation_line.proofs.writer.copy_front.Lts as lts
 
 abbrev Inv-loop : tie.InvT-loop
 Inv-loop out₀ line size i₀ out i = (i ≤ size) × (length out ≡ length out₀) × (out ≡ take i line ++ drop i out₀)

@@ -1,12 +1,10 @@
 -- By cases of the handedness.
 use mathlib.Core.Path.{sym, _∙_, ap}
-use Rattle.operation_line.specs.Writing.{isTurn, writable}
+use Rattle.operation_line.specs.Writing.{writable}
+use Rattle.operation.specs.RotationType.{isTurn}
 use borrow.Author.Needs.{needs}
 use Rattle.operation_line.proofs.writer.is_writable.Statement.{statement}
 use Rattle.operation_line.proofs.writer.is_writable.Tie as tie
-use Rattle.operation_line.proofs.writer.is_writable.Reads as reads
-use Rattle.operation_line.proofs.writer.is_writable.Lts as lts
-use Rattle.operation.proofs.rotation_type.identify_handedness.Reads as identify-handedness-reads
 
 identify-handedness-requires : tie.Need-identify-handedness-requires
 identify-handedness-requires c κs = search needs

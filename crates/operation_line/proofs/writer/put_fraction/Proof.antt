@@ -9,10 +9,6 @@ use Rattle.operation_line.specs.Building.{fractionBytes, fraction-signed
 use borrow.Author.Needs.{needs}
 use Rattle.operation_line.proofs.writer.put_fraction.Statement.{statement}
 use Rattle.operation_line.proofs.writer.put_fraction.Tie as tie
-use Rattle.operation_line.proofs.writer.put_fraction.Reads as reads
-use Rattle.operation_line.proofs.writer.put_fraction.Lts as lts
-use Rattle.operation_line.proofs.writer.put_numeral.Reads as put-numeral-reads
-use Rattle.operation_line.proofs.writer.put_sign.Reads as put-sign-reads
 
 returns : tie.Need-returns
 returns c = let a = c .before .before .args in put-named (sym (ap (fractionBytes (a .first)) (c .if1 .taken))) (put-nothing (a .out .now) (a .at))

@@ -7,9 +7,6 @@ use Rattle.operation_line.specs.Building.{letterBytes, letter-signed, si
 use borrow.Author.Needs.{needs}
 use Rattle.operation_line.proofs.writer.put_letter.Statement.{statement}
 use Rattle.operation_line.proofs.writer.put_letter.Tie as tie
-use Rattle.operation_line.proofs.writer.put_letter.Reads as reads
-use Rattle.operation_line.proofs.writer.put_letter.Lts as lts
-use Rattle.operation_line.proofs.writer.put_sign.Reads as put-sign-reads
 
 returns : tie.Need-returns
 returns c = let a = c .before .before .args in put-named (sym (ap (letterBytes (a .first) (a .letter)) (c .if1 .taken))) (put-nothing (a .out .now) (a .at))

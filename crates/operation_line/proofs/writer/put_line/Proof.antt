@@ -7,9 +7,6 @@ use Rattle.operation_line.specs.Building.{part-short}
 use borrow.Author.Needs.{needs}
 use Rattle.operation_line.proofs.writer.put_line.Statement.{statement}
 use Rattle.operation_line.proofs.writer.put_line.Tie as tie
-use Rattle.operation_line.proofs.writer.put_line.Reads as reads
-use Rattle.operation_line.proofs.writer.put_line.Lts as lts
-use Rattle.operation_line.proofs.writer.put_part.Reads as put-part-reads
 
 put-part-requires : tie.Need-put-part-requires
 put-part-requires c κs = search needs

@@ -6,8 +6,6 @@ use Rattle.operation_line.specs.Building.{one-digit, two-digits}
 use borrow.Author.Needs.{needs}
 use Rattle.operation_line.proofs.writer.put_numeral.Statement.{statement}
 use Rattle.operation_line.proofs.writer.put_numeral.Tie as tie
-use Rattle.operation_line.proofs.writer.put_numeral.Reads as reads
-use Rattle.operation_line.proofs.writer.put_numeral.Lts as lts
 
 add-out : tie.Need-add-out
 add-out c = search needs

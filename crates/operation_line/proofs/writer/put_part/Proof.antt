@@ -9,10 +9,6 @@ use Rattle.operation_line.specs.Building.{letter-short, first-letter, pu
 use borrow.Author.Needs.{needs}
 use Rattle.operation_line.proofs.writer.put_part.Statement.{statement}
 use Rattle.operation_line.proofs.writer.put_part.Tie as tie
-use Rattle.operation_line.proofs.writer.put_part.Reads as reads
-use Rattle.operation_line.proofs.writer.put_part.Lts as lts
-use Rattle.operation_line.proofs.writer.put_fraction.Reads as put-fraction-reads
-use Rattle.operation_line.proofs.writer.put_letter.Reads as put-letter-reads
 
 put-letter-requires : tie.Need-put-letter-requires
 put-letter-requires c κs = search needs

@@ -6,8 +6,6 @@ use Rattle.placed_text.specs.Placing.{put-byte, put-nothing, put-named}
 use borrow.Author.Needs.{needs}
 use Rattle.operation_line.proofs.writer.put_sign.Statement.{statement}
 use Rattle.operation_line.proofs.writer.put_sign.Tie as tie
-use Rattle.operation_line.proofs.writer.put_sign.Reads as reads
-use Rattle.operation_line.proofs.writer.put_sign.Lts as lts
 
 slice-write-out : tie.Need-slice-write-out
 slice-write-out c = search needs

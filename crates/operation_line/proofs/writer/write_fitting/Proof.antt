@@ -4,10 +4,6 @@ use Rattle.operation_line.specs.Placed.{line-short, no-room, with-room}
 use borrow.Author.Needs.{needs}
 use Rattle.operation_line.proofs.writer.write_fitting.Statement.{statement}
 use Rattle.operation_line.proofs.writer.write_fitting.Tie as tie
-use Rattle.operation_line.proofs.writer.write_fitting.Reads as reads
-use Rattle.operation_line.proofs.writer.write_fitting.Lts as lts
-use Rattle.operation_line.proofs.writer.copy_front.Reads as copy-front-reads
-use Rattle.operation_line.proofs.writer.put_line.Reads as put-line-reads
 
 slice-aggregate-put-line : tie.Need-slice-aggregate-put-line
 slice-aggregate-put-line c = search needs

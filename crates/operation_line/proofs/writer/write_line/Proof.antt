@@ -7,11 +7,6 @@ use Rattle.operation_line.specs.Placed.{no-operation, no-determinant, by
 use borrow.Author.Needs.{needs}
 use Rattle.operation_line.proofs.writer.write_line.Statement.{statement}
 use Rattle.operation_line.proofs.writer.write_line.Tie as tie
-use Rattle.operation_line.proofs.writer.write_line.Reads as reads
-use Rattle.operation_line.proofs.writer.write_line.Lts as lts
-use Rattle.five_bytes.proofs.operation_in.Reads as operation-in-reads
-use Rattle.operation_line.proofs.writer.is_writable.Reads as is-writable-reads
-use Rattle.operation_line.proofs.writer.write_fitting.Reads as write-fitting-reads
 
 operation-in-requires : tie.Need-operation-in-requires
 operation-in-requires c κs = search needs

@@ -4,10 +4,6 @@ use borrow.Author.Tests.{eq-eqb, ne-eqb}
 use borrow.Author.Needs.{needs}
 use Rattle.record_reading.proofs.allowed.alike.Statement.{statement}
 use Rattle.record_reading.proofs.allowed.alike.Tie as tie
-use Rattle.record_reading.proofs.allowed.alike.Reads as reads
-use Rattle.record_reading.proofs.allowed.alike.Lts as lts
-use Rattle.centering.proofs.Centering.congruent.Reads as congruent-reads
-use Rattle.record_reading.proofs.items.item_at.Reads as item-at-reads
 
 item-at-requires : tie.Need-item-at-requires
 item-at-requires c κs = search needs

@@ -5,16 +5,12 @@ use native.Mathlib.Omega.{arith}
 use lib.ListN.{drop}
 use borrow.Author.Needs.{needs}
 use borrow.Author.Tests.{not-true, not-false}
-use Rattle.laws.specs.Lattice.{all}
+use Rattle.laws.specs.Truth.{all}
 use Rattle.group_record.specs.Reading.{keepsItem}
 use Rattle.group_record.specs.BothEditions.{item-inside}
 use Rattle.record_reading.specs.Search.{itemsOf, itemAt, all-next, all-stop, all-end, kept-item}
 use Rattle.record_reading.proofs.allowed.all_keep.Statement.{statement}
 use Rattle.record_reading.proofs.allowed.all_keep.Tie as tie
-use Rattle.record_reading.proofs.allowed.all_keep.Reads as reads
-use Rattle.record_reading.proofs.allowed.all_keep.Lts as lts
-use Rattle.centering.proofs.Centering.keeps.Reads as keeps-reads
-use Rattle.record_reading.proofs.items.operation_at.Reads as operation-at-reads
 
 abbrev Inv-loop : tie.InvT-loop
 Inv-loop bytes edition c n i₀ i = (i ≤ n) × (all (keepsItem c) (drop i (itemsOf edition n bytes)) ≡ all (keepsItem c) (itemsOf edition n bytes))

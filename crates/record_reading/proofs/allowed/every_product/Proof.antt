@@ -9,18 +9,13 @@ use borrow.Author.Tests.{not-true, not-false}
 use lib.ListN.{length, length-map}
 use Rattle.operation.specs.Product.{identityOperation}
 use Rattle.operation.specs.declared.Operation.{Operation}
-use Rattle.space_group_theorems.specs.Acceptance.{member-at}
+use Rattle.laws.specs.Indices.{member-at}
 use Rattle.group_record.specs.Reading.{operationOfItem}
 use Rattle.record_reading.specs.Search.{itemsOf, itemAt, items-count}
 use Rattle.group_record.specs.Criterion.{Right}
 use Rattle.record_reading.specs.Closing.{operationsOf, listedAt, Sound, Stored, Widening, operation-listed, right-next, column-right, only-sound, stored-next}
 use Rattle.record_reading.proofs.allowed.every_product.Statement.{statement}
 use Rattle.record_reading.proofs.allowed.every_product.Tie as tie
-use Rattle.record_reading.proofs.allowed.every_product.Reads as reads
-use Rattle.record_reading.proofs.allowed.every_product.Lts as lts
-use Rattle.record_reading.proofs.allowed.make_column.Reads as make-column-reads
-use Rattle.record_reading.proofs.allowed.next_slot.Reads as next-slot-reads
-use Rattle.record_reading.proofs.allowed.widen.Reads as widen-reads
 
 abbrev Inv-loop : tie.InvT-loop
 Inv-loop bytes edition c n e columns₀ stored₀ known₀ members₀ count₀ j₀ columns stored known members count j =

@@ -5,7 +5,7 @@ use borrow.Author.Needs.{needs}
 use borrow.Author.Tests.{not-true, not-false}
 use mathlib.Core.Bool.{true}
 use Rattle.laws.specs.Growth.{place}
-use Rattle.laws.specs.Lattice.{all}
+use Rattle.laws.specs.Truth.{all}
 use Rattle.operation.specs.Product.{identityOperation, productOf}
 use Rattle.operation.specs.declared.Operation.{Operation}
 use Rattle.group_record.specs.Record.{itemOf}
@@ -14,12 +14,6 @@ use Rattle.record_reading.specs.Search.{itemsOf, items-count}
 use Rattle.record_reading.specs.Closing.{productAt, lost, unit-place, without-identity, keep-into, unit-right, decided}
 use Rattle.record_reading.proofs.allowed.is_allowed.Statement.{statement}
 use Rattle.record_reading.proofs.allowed.is_allowed.Tie as tie
-use Rattle.record_reading.proofs.allowed.is_allowed.Reads as reads
-use Rattle.record_reading.proofs.allowed.is_allowed.Lts as lts
-use Rattle.record_reading.proofs.allowed.all_keep.Reads as all-keep-reads
-use Rattle.record_reading.proofs.allowed.every_product.Reads as every-product-reads
-use Rattle.record_reading.proofs.allowed.product_at.Reads as product-at-reads
-use Rattle.operation.proofs.product.identity.Reads as identity-reads
 
 -- What was sought is the identity.
 unit-at : (c : tie.After-product-at)

@@ -12,10 +12,6 @@ use Rattle.record_reading.specs.Search.{itemsOf, next-item, none-left}
 use Rattle.record_reading.specs.Closing.{place-next, place-stop, place-end}
 use Rattle.record_reading.proofs.allowed.listed_at.Statement.{statement}
 use Rattle.record_reading.proofs.allowed.listed_at.Tie as tie
-use Rattle.record_reading.proofs.allowed.listed_at.Reads as reads
-use Rattle.record_reading.proofs.allowed.listed_at.Lts as lts
-use Rattle.record_reading.proofs.allowed.alike.Reads as alike-reads
-use Rattle.operation.proofs.code.rotation_code.Reads as rotation-code-reads
 
 abbrev Inv-loop : tie.InvT-loop
 Inv-loop bytes edition c n f code i₀ i =

@@ -13,10 +13,6 @@ use Rattle.record_reading.specs.Search.{itemsOf, items-count}
 use Rattle.record_reading.specs.Closing.{Leads, Made, operation-listed, index-found, index-lacks, column-next}
 use Rattle.record_reading.proofs.allowed.make_column.Statement.{statement}
 use Rattle.record_reading.proofs.allowed.make_column.Tie as tie
-use Rattle.record_reading.proofs.allowed.make_column.Reads as reads
-use Rattle.record_reading.proofs.allowed.make_column.Lts as lts
-use Rattle.record_reading.proofs.allowed.product_at.Reads as product-at-reads
-use Rattle.record_reading.proofs.items.operation_at.Reads as operation-at-reads
 
 abbrev Inv-loop : tie.InvT-loop
 Inv-loop bytes edition c n j columns₀ at g i₀ columns i =

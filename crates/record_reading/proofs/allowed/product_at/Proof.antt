@@ -5,10 +5,6 @@ use Rattle.record_reading.specs.Search.{itemsOf, items-count}
 use borrow.Author.Needs.{needs}
 use Rattle.record_reading.proofs.allowed.product_at.Statement.{statement}
 use Rattle.record_reading.proofs.allowed.product_at.Tie as tie
-use Rattle.record_reading.proofs.allowed.product_at.Reads as reads
-use Rattle.record_reading.proofs.allowed.product_at.Lts as lts
-use Rattle.record_reading.proofs.allowed.listed_at.Reads as listed-at-reads
-use Rattle.operation.proofs.product.mul.Reads as mul-reads
 
 mul-requires : tie.Need-mul-requires
 mul-requires c κs = search needs

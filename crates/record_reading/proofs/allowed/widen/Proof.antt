@@ -10,8 +10,6 @@ use Rattle.group_record.specs.Criterion.{Right}
 use Rattle.record_reading.specs.Closing.{listedAt, Widening, WidenedTo, reaches, sound-next}
 use Rattle.record_reading.proofs.allowed.widen.Statement.{statement}
 use Rattle.record_reading.proofs.allowed.widen.Tie as tie
-use Rattle.record_reading.proofs.allowed.widen.Reads as reads
-use Rattle.record_reading.proofs.allowed.widen.Lts as lts
 
 abbrev Inv-loop : tie.InvT-loop
 Inv-loop known₀ members₀ count columns stored reached₀ i₀ j₀ known members reached i j =

@@ -5,8 +5,6 @@ use Rattle.record_reading.specs.Search.{first-item-bytes}
 use borrow.Author.Needs.{needs}
 use Rattle.record_reading.proofs.items.first_item.Statement.{statement}
 use Rattle.record_reading.proofs.items.first_item.Tie as tie
-use Rattle.record_reading.proofs.items.first_item.Reads as reads
-use Rattle.record_reading.proofs.items.first_item.Lts as lts
 
 shared-slice-read-code : tie.Need-shared-slice-read-code
 shared-slice-read-code c = search needs

@@ -9,10 +9,6 @@ use Rattle.record_reading.specs.Search.{itemAt}
 use borrow.Author.Needs.{needs}
 use Rattle.record_reading.proofs.items.item_at.Statement.{statement}
 use Rattle.record_reading.proofs.items.item_at.Tie as tie
-use Rattle.record_reading.proofs.items.item_at.Reads as reads
-use Rattle.record_reading.proofs.items.item_at.Lts as lts
-use Rattle.record_reading.proofs.items.first_item.Reads as first-item-reads
-use Rattle.record_reading.proofs.items.third_item.Reads as third-item-reads
 
 -- What is asked, of the edition that is told.
 told-fits : (e k : Edition) (i size : ℕ) → e ≡ k → widthIn e * i + widthIn e ≤ size → widthIn k * i + widthIn k ≤ size

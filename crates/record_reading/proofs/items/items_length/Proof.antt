@@ -2,8 +2,6 @@
 use borrow.Author.Needs.{needs}
 use Rattle.record_reading.proofs.items.items_length.Statement.{statement}
 use Rattle.record_reading.proofs.items.items_length.Tie as tie
-use Rattle.record_reading.proofs.items.items_length.Reads as reads
-use Rattle.record_reading.proofs.items.items_length.Lts as lts
 
 enum-told : tie.Need-enum-told
 enum-told c = search needs

@@ -8,11 +8,6 @@ use Rattle.group_record.specs.declared.items.Item.{Item}
 use borrow.Author.Needs.{needs}
 use Rattle.record_reading.proofs.items.operation_at.Statement.{statement}
 use Rattle.record_reading.proofs.items.operation_at.Tie as tie
-use Rattle.record_reading.proofs.items.operation_at.Reads as reads
-use Rattle.record_reading.proofs.items.operation_at.Lts as lts
-use Rattle.record_reading.proofs.items.item_at.Reads as item-at-reads
-use Rattle.operation.proofs.code.rotation_of_code.Reads as rotation-of-code-reads
-use Rattle.operation.proofs.product.identity.Reads as identity-reads
 
 item-at-requires : tie.Need-item-at-requires
 item-at-requires c κs = search needs

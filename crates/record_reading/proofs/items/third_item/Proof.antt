@@ -7,8 +7,6 @@ use Rattle.group_record.specs.ThirdEdition.{numberedItemIn, itemOfNumber}
 use borrow.Author.Needs.{needs}
 use Rattle.record_reading.proofs.items.third_item.Statement.{statement}
 use Rattle.record_reading.proofs.items.third_item.Tie as tie
-use Rattle.record_reading.proofs.items.third_item.Reads as reads
-use Rattle.record_reading.proofs.items.third_item.Lts as lts
 
 shared-slice-read-high : tie.Need-shared-slice-read-high
 shared-slice-read-high c = search needs

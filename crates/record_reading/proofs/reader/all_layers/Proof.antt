@@ -4,7 +4,7 @@ use Prim.Native.Nat.{_-_, _≤_}
 use native.Mathlib.Omega.{arith}
 use lib.ListN.{drop}
 use borrow.Author.Tests.{not-true, not-false}
-use Rattle.laws.specs.Lattice.{all}
+use Rattle.laws.specs.Truth.{all}
 use Rattle.layer_group.specs.Layers.{isLayer}
 use Rattle.group_record.specs.BothEditions.{item-inside}
 use Rattle.group_record.specs.declared.items.Item.{Item}
@@ -13,10 +13,6 @@ use Rattle.record_reading.specs.Search.{itemsOf, all-next, all-stop, all
 use borrow.Author.Needs.{needs}
 use Rattle.record_reading.proofs.reader.all_layers.Statement.{statement}
 use Rattle.record_reading.proofs.reader.all_layers.Tie as tie
-use Rattle.record_reading.proofs.reader.all_layers.Reads as reads
-use Rattle.record_reading.proofs.reader.all_layers.Lts as lts
-use Rattle.record_reading.proofs.items.operation_at.Reads as operation-at-reads
-use Rattle.layer_group.proofs.is_layer.Reads as is-layer-reads
 
 abbrev Inv-loop : tie.InvT-loop
 Inv-loop bytes edition n i₀ i =

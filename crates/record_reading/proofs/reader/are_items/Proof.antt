@@ -4,10 +4,6 @@ use Rattle.group_record.specs.Reading.{areItems}
 use borrow.Author.Needs.{needs}
 use Rattle.record_reading.proofs.reader.are_items.Statement.{statement}
 use Rattle.record_reading.proofs.reader.are_items.Tie as tie
-use Rattle.record_reading.proofs.reader.are_items.Reads as reads
-use Rattle.record_reading.proofs.reader.are_items.Lts as lts
-use Rattle.record_reading.proofs.reader.codes_ascend.Reads as codes-ascend-reads
-use Rattle.record_reading.proofs.reader.items_fit.Reads as items-fit-reads
 
 items-fit-requires : tie.Need-items-fit-requires
 items-fit-requires c κs = search needs

@@ -6,9 +6,6 @@ use Rattle.record_reading.specs.Search.{all-operations}
 use borrow.Author.Needs.{needs}
 use Rattle.record_reading.proofs.reader.are_layers.Statement.{statement}
 use Rattle.record_reading.proofs.reader.are_layers.Tie as tie
-use Rattle.record_reading.proofs.reader.are_layers.Reads as reads
-use Rattle.record_reading.proofs.reader.are_layers.Lts as lts
-use Rattle.record_reading.proofs.reader.all_layers.Reads as all-layers-reads
 
 returns : tie.Need-returns
 returns c = rw (not-true (c .before .before .args .small) (c .if1 .taken))

@@ -11,9 +11,6 @@ use mathlib.Core.Path.{_≡_, refl, sym, _∙_, ap}
 use Rattle.record_reading.specs.Search.{itemAt, itemsOf, ascending-next, ascending-stop, ascending-end}
 use Rattle.record_reading.proofs.reader.codes_ascend.Statement.{statement}
 use Rattle.record_reading.proofs.reader.codes_ascend.Tie as tie
-use Rattle.record_reading.proofs.reader.codes_ascend.Reads as reads
-use Rattle.record_reading.proofs.reader.codes_ascend.Lts as lts
-use Rattle.record_reading.proofs.items.item_at.Reads as item-at-reads
 
 abbrev Inv-loop : tie.InvT-loop
 Inv-loop bytes edition n i₀ i = (i < n) × (ascending itemBefore (drop i (itemsOf edition n bytes)) ≡ ascending itemBefore (itemsOf edition n bytes))

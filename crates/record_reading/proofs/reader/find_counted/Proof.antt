@@ -1,6 +1,6 @@
 -- Where the length fits, the items are tried on the rest of the buffer from the record's start; what is found there stands for the group that is read.
 use Rattle.record_reading.specs.Search.{counted-fits, counted-fails}
-use Rattle.record_reading.specs.Parts.{tail-part}
+use Rattle.laws.specs.LentParts.{tail-part}
 use Rattle.record_reading.specs.Found.{nothing-found, stands-as, record-stands, items-wrong, items-barred, layers-barred, items-right}
 use Rattle.group_record.specs.Outcomes.{length-test}
 use Rattle.group_record.specs.ReadingTests.{items-test}
@@ -12,16 +12,6 @@ use mathlib.Core.Path.{sym, _∙_}
 use borrow.Author.Needs.{needs}
 use Rattle.record_reading.proofs.reader.find_counted.Statement.{statement}
 use Rattle.record_reading.proofs.reader.find_counted.Tie as tie
-use Rattle.record_reading.proofs.reader.find_counted.Reads as reads
-use Rattle.record_reading.proofs.reader.find_counted.Lts as lts
-use Rattle.record_reading.proofs.reader.are_items.Reads as are-items-reads
-use Rattle.record_reading.proofs.reader.are_layers.Reads as are-layers-reads
-use Rattle.record_reading.proofs.reader.from_end.Reads as from-end-reads
-use Rattle.record_reading.proofs.allowed.is_allowed.Reads as is-allowed-reads
-use Rattle.record_reading.proofs.reader.length_fits.Reads as length-fits-reads
-use Rattle.record_reading.proofs.reader.nothing.Reads as nothing-reads
-use Rattle.group_record.proofs.sign.Sign.is_small.Reads as is-small-reads
-use Rattle.group_record.proofs.sign.Sign.lattice.Reads as lattice-reads
 
 from-end-requires : tie.Need-from-end-requires
 from-end-requires c κs = search needs

@@ -5,11 +5,6 @@ use native.Mathlib.Omega.{arith}
 use borrow.Author.Needs.{needs}
 use Rattle.record_reading.proofs.reader.find_first.Statement.{statement}
 use Rattle.record_reading.proofs.reader.find_first.Tie as tie
-use Rattle.record_reading.proofs.reader.find_first.Reads as reads
-use Rattle.record_reading.proofs.reader.find_first.Lts as lts
-use Rattle.record_reading.proofs.reader.find_lettered.Reads as find-lettered-reads
-use Rattle.record_reading.proofs.reader.from_end.Reads as from-end-reads
-use Rattle.record_reading.proofs.reader.nothing.Reads as nothing-reads
 
 nothing-requires : tie.Need-nothing-requires
 nothing-requires c κs = search needs

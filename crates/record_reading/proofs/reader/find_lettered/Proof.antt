@@ -7,12 +7,6 @@ use Rattle.record_reading.specs.Search.{lettered-p, lettered-c, lettered
 use borrow.Author.Needs.{needs}
 use Rattle.record_reading.proofs.reader.find_lettered.Statement.{statement}
 use Rattle.record_reading.proofs.reader.find_lettered.Tie as tie
-use Rattle.record_reading.proofs.reader.find_lettered.Reads as reads
-use Rattle.record_reading.proofs.reader.find_lettered.Lts as lts
-use Rattle.centering.proofs.Centering.from_byte.Reads as from-byte-reads
-use Rattle.record_reading.proofs.reader.find_counted.Reads as find-counted-reads
-use Rattle.record_reading.proofs.reader.from_end.Reads as from-end-reads
-use Rattle.record_reading.proofs.reader.nothing.Reads as nothing-reads
 
 from-end-requires : tie.Need-from-end-requires
 from-end-requires c κs = search needs

@@ -4,8 +4,6 @@ use mathlib.Core.Path.{refl}
 use borrow.Author.Needs.{needs}
 use Rattle.record_reading.proofs.reader.from_end.Statement.{statement}
 use Rattle.record_reading.proofs.reader.from_end.Tie as tie
-use Rattle.record_reading.proofs.reader.from_end.Reads as reads
-use Rattle.record_reading.proofs.reader.from_end.Lts as lts
 
 sub-result : tie.Need-sub-result
 sub-result c = search needs

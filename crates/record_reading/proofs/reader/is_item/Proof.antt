@@ -8,11 +8,6 @@ use mathlib.Core.Path.{_∙_, ap}
 use borrow.Author.Needs.{needs}
 use Rattle.record_reading.proofs.reader.is_item.Statement.{statement}
 use Rattle.record_reading.proofs.reader.is_item.Tie as tie
-use Rattle.record_reading.proofs.reader.is_item.Reads as reads
-use Rattle.record_reading.proofs.reader.is_item.Lts as lts
-use Rattle.centering.proofs.Centering.smallest.Reads as smallest-reads
-use Rattle.record_reading.proofs.items.item_at.Reads as item-at-reads
-use Rattle.record_reading.proofs.reader.same.Reads as same-reads
 
 item-at-requires : tie.Need-item-at-requires
 item-at-requires c κs = search needs

@@ -5,14 +5,11 @@ use Prim.Native.Nat.{_-_, _≤_}
 use native.Mathlib.Omega.{arith}
 use lib.ListN.{drop}
 use borrow.Author.Tests.{not-true, not-false}
-use Rattle.laws.specs.Lattice.{all}
+use Rattle.laws.specs.Truth.{all}
 use Rattle.group_record.specs.Reading.{isItem}
 use Rattle.record_reading.specs.Search.{itemsOf, all-next, all-stop, all-end}
 use Rattle.record_reading.proofs.reader.items_fit.Statement.{statement}
 use Rattle.record_reading.proofs.reader.items_fit.Tie as tie
-use Rattle.record_reading.proofs.reader.items_fit.Reads as reads
-use Rattle.record_reading.proofs.reader.items_fit.Lts as lts
-use Rattle.record_reading.proofs.reader.is_item.Reads as is-item-reads
 
 abbrev Inv-loop : tie.InvT-loop
 Inv-loop bytes edition c n i₀ i = (i ≤ n) × (all (isItem c) (drop i (itemsOf edition n bytes)) ≡ all (isItem c) (itemsOf edition n bytes))

@@ -8,12 +8,6 @@ use Rattle.record_reading.specs.Found.{laidOut}
 use Rattle.record_reading.specs.Search.{filledTo, filled-next, filled-start, filled-end}
 use Rattle.record_reading.proofs.reader.laid_out.Statement.{statement}
 use Rattle.record_reading.proofs.reader.laid_out.Tie as tie
-use Rattle.record_reading.proofs.reader.laid_out.Reads as reads
-use Rattle.record_reading.proofs.reader.laid_out.Lts as lts
-use Rattle.record_reading.proofs.items.operation_at.Reads as operation-at-reads
-use Rattle.group_record.proofs.sign.Sign.is_small.Reads as is-small-reads
-use Rattle.group_record.proofs.sign.Sign.lattice.Reads as lattice-reads
-use Rattle.operation.proofs.product.identity.Reads as identity-reads
 
 abbrev Inv-loop : tie.InvT-loop
 Inv-loop bytes answer edition sign n operations₀ i₀ operations i = (i ≤ n) × (operations ≡ filledTo edition n bytes i)

@@ -1,5 +1,5 @@
 -- The part from the start on is laid out.
-use Rattle.record_reading.specs.Parts.{tail-part}
+use Rattle.laws.specs.LentParts.{tail-part}
 use Rattle.record_reading.specs.Found.{laidOut}
 use Prim.Native.Nat.{ℕ}
 use mathlib.Core.List.{List}
@@ -7,9 +7,6 @@ use mathlib.Core.Path.{_∙_, ap}
 use borrow.Author.Needs.{needs}
 use Rattle.record_reading.proofs.reader.lay_found.Statement.{statement}
 use Rattle.record_reading.proofs.reader.lay_found.Tie as tie
-use Rattle.record_reading.proofs.reader.lay_found.Reads as reads
-use Rattle.record_reading.proofs.reader.lay_found.Lts as lts
-use Rattle.record_reading.proofs.reader.laid_out.Reads as laid-out-reads
 
 sub-laid-out : tie.Need-sub-laid-out
 sub-laid-out c = search needs

@@ -6,9 +6,6 @@ use borrow.Author.Tests.{eq-eqb, ne-eqb, le-leb, lt-leb}
 use borrow.Author.Needs.{needs}
 use Rattle.record_reading.proofs.reader.length_fits.Statement.{statement}
 use Rattle.record_reading.proofs.reader.length_fits.Tie as tie
-use Rattle.record_reading.proofs.reader.length_fits.Reads as reads
-use Rattle.record_reading.proofs.reader.length_fits.Lts as lts
-use Rattle.record_reading.proofs.items.items_length.Reads as items-length-reads
 
 returns : tie.Need-returns
 unfolding lengthFits

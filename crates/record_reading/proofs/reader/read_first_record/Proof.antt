@@ -3,10 +3,6 @@ use mathlib.Core.Path.{_∙_}
 use borrow.Author.Needs.{needs}
 use Rattle.record_reading.proofs.reader.read_first_record.Statement.{statement}
 use Rattle.record_reading.proofs.reader.read_first_record.Tie as tie
-use Rattle.record_reading.proofs.reader.read_first_record.Reads as reads
-use Rattle.record_reading.proofs.reader.read_first_record.Lts as lts
-use Rattle.record_reading.proofs.reader.find_first.Reads as find-first-reads
-use Rattle.record_reading.proofs.reader.lay_found.Reads as lay-found-reads
 
 find-first-requires : tie.Need-find-first-requires
 find-first-requires c κs = search needs

@@ -3,10 +3,6 @@ use mathlib.Core.Path.{_∙_}
 use borrow.Author.Needs.{needs}
 use Rattle.record_reading.proofs.reader.read_record.Statement.{statement}
 use Rattle.record_reading.proofs.reader.read_record.Tie as tie
-use Rattle.record_reading.proofs.reader.read_record.Reads as reads
-use Rattle.record_reading.proofs.reader.read_record.Lts as lts
-use Rattle.record_reading.proofs.reader.find.Reads as find-reads
-use Rattle.record_reading.proofs.reader.lay_found.Reads as lay-found-reads
 
 find-requires : tie.Need-find-requires
 find-requires c κs = search needs

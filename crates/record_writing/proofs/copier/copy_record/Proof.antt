@@ -2,9 +2,6 @@
 use borrow.Author.Needs.{needs}
 use Rattle.record_writing.proofs.copier.copy_record.Statement.{statement}
 use Rattle.record_writing.proofs.copier.copy_record.Tie as tie
-use Rattle.record_writing.proofs.copier.copy_record.Reads as reads
-use Rattle.record_writing.proofs.copier.copy_record.Lts as lts
-use Rattle.record_writing.proofs.copier.write_read.Reads as write-read-reads
 
 write-read-requires : tie.Need-write-read-requires
 write-read-requires c κs = search needs

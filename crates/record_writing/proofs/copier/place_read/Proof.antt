@@ -4,10 +4,6 @@ use borrow.Author.Tests.{not-true, not-false}
 use borrow.Author.Needs.{needs}
 use Rattle.record_writing.proofs.copier.place_read.Statement.{statement}
 use Rattle.record_writing.proofs.copier.place_read.Tie as tie
-use Rattle.record_writing.proofs.copier.place_read.Reads as reads
-use Rattle.record_writing.proofs.copier.place_read.Lts as lts
-use Rattle.group_record.proofs.letter_byte.Reads as letter-byte-reads
-use Rattle.record_writing.proofs.writer.place_group.Reads as place-group-reads
 
 letter-byte-requires : tie.Need-letter-byte-requires
 letter-byte-requires c κs = search needs

@@ -10,11 +10,6 @@ use mathlib.Core.Path.{_∙_, ap}
 use borrow.Author.Needs.{needs}
 use Rattle.record_writing.proofs.copier.write_read.Statement.{statement}
 use Rattle.record_writing.proofs.copier.write_read.Tie as tie
-use Rattle.record_writing.proofs.copier.write_read.Reads as reads
-use Rattle.record_writing.proofs.copier.write_read.Lts as lts
-use Rattle.record_writing.proofs.copier.chosen.Reads as chosen-reads
-use Rattle.record_writing.proofs.copier.place_read.Reads as place-read-reads
-use Rattle.record_reading.proofs.reader.read_record.Reads as read-record-reads
 
 read-record-requires : tie.Need-read-record-requires
 read-record-requires c κs = search needs

@@ -12,12 +12,6 @@ use Rattle.record_writing.specs.declared.LayerRecord.the-variants.{Writt
 use borrow.Author.Needs.{needs}
 use Rattle.record_writing.proofs.layer.write_record.Statement.{statement}
 use Rattle.record_writing.proofs.layer.write_record.Tie as tie
-use Rattle.record_writing.proofs.layer.write_record.Reads as reads
-use Rattle.record_writing.proofs.layer.write_record.Lts as lts
-use Rattle.group_record.proofs.letter_byte.Reads as letter-byte-reads
-use Rattle.record_writing.proofs.writer.place_group.Reads as place-group-reads
-use Rattle.layer_group.proofs.order.Reads as order-reads
-use Rattle.layer_group.proofs.plain.Reads as plain-reads
 
 order-requires : tie.Need-order-requires
 order-requires c κs = search needs

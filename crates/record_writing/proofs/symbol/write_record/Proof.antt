@@ -13,11 +13,6 @@ use Rattle.record_writing.specs.declared.SymbolRecord.the-variants.{Writ
 use borrow.Author.Needs.{needs}
 use Rattle.record_writing.proofs.symbol.write_record.Statement.{statement}
 use Rattle.record_writing.proofs.symbol.write_record.Tie as tie
-use Rattle.record_writing.proofs.symbol.write_record.Reads as reads
-use Rattle.record_writing.proofs.symbol.write_record.Lts as lts
-use Rattle.centering.proofs.Centering.byte.Reads as byte-reads
-use Rattle.record_writing.proofs.writer.place_group.Reads as place-group-reads
-use Rattle.symbol_group.proofs.SymbolGroup.new.Reads as new-reads
 
 new-requires : tie.Need-new-requires
 new-requires c κs = search needs

@@ -4,9 +4,6 @@ use Rattle.space_group.specs.Slots.{answer-few, answer-all}
 use borrow.Author.Needs.{needs}
 use Rattle.space_group.proofs.SpaceGroup.new.Statement.{statement}
 use Rattle.space_group.proofs.SpaceGroup.new.Tie as tie
-use Rattle.space_group.proofs.SpaceGroup.new.Reads as reads
-use Rattle.space_group.proofs.SpaceGroup.new.Lts as lts
-use Rattle.space_group.proofs.group.group_of.Reads as group-of-reads
 
 group-of-requires : tie.Need-group-of-requires
 group-of-requires c κs = search needs

@@ -1,12 +1,10 @@
 -- The two cases of the definition.
 use native.Mathlib.Omega.{arith}
-use mathlib.Core.Path.{_≡_, refl}
+use mathlib.Core.Path.{refl}
 use borrow.Author.Tests.{lt-ltb, le-ltb}
 use Rattle.space_group.specs.FlaggedSlots.{atMostNine}
 use Rattle.space_group.proofs.flagged.at_most_nine.Statement.{statement}
 use Rattle.space_group.proofs.flagged.at_most_nine.Tie as tie
-use Rattle.space_group.proofs.flagged.at_most_nine.Reads as reads
-use Rattle.space_group.proofs.flagged.at_most_nine.Lts as lts
 
 returns : tie.Need-returns
 unfolding atMostNine

@@ -3,9 +3,6 @@ use borrow.Author.Needs.{needs}
 use Rattle.space_group.specs.FlaggedSlots.{part-cleared}
 use Rattle.space_group.proofs.flagged.clear_from.Statement.{statement}
 use Rattle.space_group.proofs.flagged.clear_from.Tie as tie
-use Rattle.space_group.proofs.flagged.clear_from.Reads as reads
-use Rattle.space_group.proofs.flagged.clear_from.Lts as lts
-use Rattle.space_group.proofs.flagged.fill.Reads as fill-reads
 
 mul-fill : tie.Need-mul-fill
 mul-fill c = search needs

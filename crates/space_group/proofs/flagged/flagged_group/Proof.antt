@@ -1,5 +1,4 @@
 -- The first n of nine generators, or all of them; what is behind the list is cleared.
-use mathlib.Core.Path.{_≡_, _∙_}
 use native.Mathlib.Omega.{arith}
 use lib.ListN.{length, length-set}
 use lib.Seq.{getD-set-same}
@@ -7,12 +6,6 @@ use borrow.Author.Needs.{needs}
 use Rattle.space_group.specs.FlaggedSlots.{all-cleared}
 use Rattle.space_group.proofs.flagged.flagged_group.Statement.{statement}
 use Rattle.space_group.proofs.flagged.flagged_group.Tie as tie
-use Rattle.space_group.proofs.flagged.flagged_group.Reads as reads
-use Rattle.space_group.proofs.flagged.flagged_group.Lts as lts
-use Rattle.space_group.proofs.flagged.at_most_nine.Reads as at-most-nine-reads
-use Rattle.space_group.proofs.flagged.clear_from.Reads as clear-from-reads
-use Rattle.space_group.proofs.flagged.listed.Reads as listed-reads
-use Rattle.space_group.proofs.flagged.listed_count.Reads as listed-count-reads
 
 element-write-numbers : tie.Need-element-write-numbers
 element-write-numbers c = search needs

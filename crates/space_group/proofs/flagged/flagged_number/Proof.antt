@@ -4,9 +4,6 @@ use borrow.Author.Needs.{needs}
 use Rattle.space_group.specs.FlaggedGenerators.{flag-free, with-flag, without-flag}
 use Rattle.space_group.proofs.flagged.flagged_number.Statement.{statement}
 use Rattle.space_group.proofs.flagged.flagged_number.Tie as tie
-use Rattle.space_group.proofs.flagged.flagged_number.Reads as reads
-use Rattle.space_group.proofs.flagged.flagged_number.Lts as lts
-use Rattle.space_group.proofs.traverse.generator_number.Reads as generator-number-reads
 
 generator-number-requires : tie.Need-generator-number-requires
 generator-number-requires c κs = search needs

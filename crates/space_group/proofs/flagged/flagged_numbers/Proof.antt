@@ -12,9 +12,6 @@ use Rattle.space_group.specs.NumberSlots.{filled-more}
 use Rattle.space_group.specs.FlaggedGenerators.{withFlags, flaggedNumber, with-length, with-at, with-take}
 use Rattle.space_group.proofs.flagged.flagged_numbers.Statement.{statement}
 use Rattle.space_group.proofs.flagged.flagged_numbers.Tie as tie
-use Rattle.space_group.proofs.flagged.flagged_numbers.Reads as reads
-use Rattle.space_group.proofs.flagged.flagged_numbers.Lts as lts
-use Rattle.space_group.proofs.flagged.flagged_number.Reads as flagged-number-reads
 
 abbrev Inv-loop : tie.InvT-loop
 Inv-loop n numbers₀ generators flags i₀ numbers i =

@@ -1,5 +1,5 @@
 -- Each answer follows from the outcome of the numbers of the generators.
-use mathlib.Core.Path.{_≡_, _∙_, ap}
+use mathlib.Core.Path.{_≡_}
 use native.Mathlib.Omega.{arith}
 use lib.ListN.{length, replicate}
 use borrow.Author.Needs.{needs}
@@ -7,11 +7,6 @@ use borrow.Author.Tests.{not-true, not-false}
 use Rattle.space_group.specs.FlaggedSlots.{begins-off, begins-unbounded, begins-torn, begins-listed}
 use Rattle.space_group.proofs.flagged.listed.Statement.{statement}
 use Rattle.space_group.proofs.flagged.listed.Tie as tie
-use Rattle.space_group.proofs.flagged.listed.Reads as reads
-use Rattle.space_group.proofs.flagged.listed.Lts as lts
-use Rattle.space_group.proofs.flagged.flagged_numbers.Reads as flagged-numbers-reads
-use Rattle.space_group.proofs.group.first_off.Reads as first-off-reads
-use Rattle.space_group.proofs.traverse.traverse.Reads as traverse-reads
 
 -- There are nine generators.
 nine : (c : tie.Start) → length (c .args .generators) ≡ 9

@@ -14,9 +14,6 @@ use Rattle.space_group.specs.Slots.{off-hit, off-miss, off-end}
 use Rattle.space_group.specs.Resuming.{generator-at}
 use Rattle.space_group.proofs.group.first_off.Statement.{statement}
 use Rattle.space_group.proofs.group.first_off.Tie as tie
-use Rattle.space_group.proofs.group.first_off.Reads as reads
-use Rattle.space_group.proofs.group.first_off.Lts as lts
-use Rattle.centering.proofs.Centering.keeps.Reads as keeps-reads
 
 abbrev Inv-loop : tie.InvT-loop
 Inv-loop c n generators i₀ i = (i ≤ n) × (firstOff c (take n generators) ≡ i + firstOff c (drop i (take n generators)))

@@ -11,11 +11,6 @@ use Rattle.space_group.specs.NumberSlots.{filled-more}
 use Rattle.space_group.specs.Heads.{answer-laid}
 use Rattle.space_group.proofs.group.group_of.Statement.{statement}
 use Rattle.space_group.proofs.group.group_of.Tie as tie
-use Rattle.space_group.proofs.group.group_of.Reads as reads
-use Rattle.space_group.proofs.group.group_of.Lts as lts
-use Rattle.operation.proofs.product.identity.Reads as identity-reads
-use Rattle.packed_operation.proofs.said.Reads as said-reads
-use Rattle.space_group.proofs.group.listed.Reads as listed-reads
 
 abbrev Inv-loop : tie.InvT-loop
 Inv-loop n numbers steps head count operations₀ k₀ operations k =

@@ -16,13 +16,6 @@ use Rattle.space_group.specs.declared.refusal.Refusal.the-variants.{Latt
 use borrow.Author.Needs.{needs}
 use Rattle.space_group.proofs.group.listed.Statement.{statement}
 use Rattle.space_group.proofs.group.listed.Tie as tie
-use Rattle.space_group.proofs.group.listed.Reads as reads
-use Rattle.space_group.proofs.group.listed.Lts as lts
-use Rattle.space_group.proofs.group.clear.Reads as clear-reads
-use Rattle.space_group.proofs.group.first_off.Reads as first-off-reads
-use Rattle.space_group.proofs.group.refused.Reads as refused-reads
-use Rattle.space_group.proofs.traverse.generator_numbers.Reads as generator-numbers-reads
-use Rattle.space_group.proofs.traverse.traverse.Reads as traverse-reads
 
 -- As many generators as are used.
 gens-long : (c : tie.Start) → length (take (c .args .n) (c .args .generators)) ≡ c .args .n

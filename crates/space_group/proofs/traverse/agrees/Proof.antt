@@ -8,10 +8,6 @@ use Rattle.centering.specs.Lattices.{congruentOf}
 use borrow.Author.Needs.{needs}
 use Rattle.space_group.proofs.traverse.agrees.Statement.{statement}
 use Rattle.space_group.proofs.traverse.agrees.Tie as tie
-use Rattle.space_group.proofs.traverse.agrees.Reads as reads
-use Rattle.space_group.proofs.traverse.agrees.Lts as lts
-use Rattle.centering.proofs.Centering.congruent.Reads as congruent-reads
-use Rattle.packed_operation.proofs.said.Reads as said-reads
 
 returns : tie.Need-returns
 returns c = let off = not-true (c .before .args .steady) (c .if1 .taken) in rw off

@@ -3,9 +3,6 @@ use Rattle.space_group.specs.NumberGrowth.{generatorNumber}
 use borrow.Author.Needs.{needs}
 use Rattle.space_group.proofs.traverse.generator_number.Statement.{statement}
 use Rattle.space_group.proofs.traverse.generator_number.Tie as tie
-use Rattle.space_group.proofs.traverse.generator_number.Reads as reads
-use Rattle.space_group.proofs.traverse.generator_number.Lts as lts
-use Rattle.packed_operation.proofs.number.Reads as number-reads
 
 number-requires : tie.Need-number-requires
 number-requires c κs = search needs

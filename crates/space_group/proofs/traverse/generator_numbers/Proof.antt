@@ -9,9 +9,6 @@ use Rattle.space_group.specs.NumberGrowth.{generatorNumber}
 use Rattle.space_group.specs.NumberSlots.{filled-more}
 use Rattle.space_group.proofs.traverse.generator_numbers.Statement.{statement}
 use Rattle.space_group.proofs.traverse.generator_numbers.Tie as tie
-use Rattle.space_group.proofs.traverse.generator_numbers.Reads as reads
-use Rattle.space_group.proofs.traverse.generator_numbers.Lts as lts
-use Rattle.space_group.proofs.traverse.generator_number.Reads as generator-number-reads
 
 abbrev Inv-loop : tie.InvT-loop
 Inv-loop n numbers₀ generators i₀ numbers i =

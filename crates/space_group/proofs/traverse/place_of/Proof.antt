@@ -7,15 +7,10 @@ use lib.ListN.{length, take, length-map}
 use lib.Seq.{getD-take, length-take-le}
 use Rattle.space_group.specs.NumberGrowth.{signOf}
 use Rattle.space_group.specs.Hints.{hint-none, hint-holds}
-use Rattle.space_group.specs.NumberSlots.{image-at}
+use Rattle.laws.specs.Indices.{image-at}
 use borrow.Author.Needs.{needs}
 use Rattle.space_group.proofs.traverse.place_of.Statement.{statement}
 use Rattle.space_group.proofs.traverse.place_of.Tie as tie
-use Rattle.space_group.proofs.traverse.place_of.Reads as reads
-use Rattle.space_group.proofs.traverse.place_of.Lts as lts
-use Rattle.space_group.proofs.traverse.search.Reads as search-reads
-use Rattle.space_group.proofs.traverse.sign.Reads as sign-reads
-use Rattle.space_group.proofs.traverse.wide.Reads as wide-reads
 
 element-copy-out-wide : tie.Need-element-copy-out-wide
 element-copy-out-wide c = search needs

@@ -8,14 +8,11 @@ use lib.ListN.{length, take, drop, length-map}
 use lib.Seq.{getD-take, length-take-le}
 use borrow.Author.Needs.{needs}
 use Rattle.laws.specs.Growth.{place}
+use Rattle.laws.specs.Indices.{image-at}
 use Rattle.space_group.specs.Places.{place-hit, place-miss, place-end}
 use Rattle.space_group.specs.NumberGrowth.{signOf}
-use Rattle.space_group.specs.NumberSlots.{image-at}
 use Rattle.space_group.proofs.traverse.search.Statement.{statement}
 use Rattle.space_group.proofs.traverse.search.Tie as tie
-use Rattle.space_group.proofs.traverse.search.Reads as reads
-use Rattle.space_group.proofs.traverse.search.Lts as lts
-use Rattle.space_group.proofs.traverse.sign.Reads as sign-reads
 
 abbrev Inv-loop : tie.InvT-loop
 Inv-loop numbers count sought i₀ i =

@@ -4,10 +4,6 @@ use Rattle.space_group.specs.NumberGrowth.{signOf}
 use borrow.Author.Needs.{needs}
 use Rattle.space_group.proofs.traverse.sign.Statement.{statement}
 use Rattle.space_group.proofs.traverse.sign.Tie as tie
-use Rattle.space_group.proofs.traverse.sign.Reads as reads
-use Rattle.space_group.proofs.traverse.sign.Lts as lts
-use Rattle.packed_operation.proofs.flag.Reads as flag-reads
-use Rattle.packed_operation.proofs.key.Reads as key-reads
 
 key-requires : tie.Need-key-requires
 key-requires c κs = search needs

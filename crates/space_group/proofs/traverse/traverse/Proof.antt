@@ -15,12 +15,6 @@ use Rattle.space_group.specs.NumberGrowth.{signOf, sameSign, sameShift, 
 use Rattle.space_group.specs.NumberSlots.{resume, resume-start, Shows, shows-start, shows-at, shows-front, shows-place, shows-hint, hints-start, shows-again, shows-new, shows-end, ends-none}
 use Rattle.space_group.proofs.traverse.traverse.Statement.{statement}
 use Rattle.space_group.proofs.traverse.traverse.Tie as tie
-use Rattle.space_group.proofs.traverse.traverse.Reads as reads
-use Rattle.space_group.proofs.traverse.traverse.Lts as lts
-use Rattle.packed_operation.proofs.product.Reads as product-reads
-use Rattle.space_group.proofs.traverse.agrees.Reads as agrees-reads
-use Rattle.space_group.proofs.traverse.place_of.Reads as place-of-reads
-use Rattle.space_group.proofs.traverse.sign.Reads as sign-reads
 
 abbrev Inv-loop : tie.InvT-loop
 Inv-loop c n generators limit numbers₀ steps₀ hints₀ count₀ made₀ steady₀ i₀ j₀ numbers steps hints count made steady i j =

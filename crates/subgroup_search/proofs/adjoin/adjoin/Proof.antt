@@ -8,8 +8,8 @@ use lib.Count.{ones, ones-le}
 use borrow.Author.Needs.{needs}
 use borrow.Author.Tests.{not-true, not-false}
 use Rattle.laws.specs.Sets.{member, member-below, bounded, shifted-one}
+use Rattle.laws.specs.Truth.{not-passing}
 use Rattle.subgroup_laws.specs.Adjoin.{Growing, growing-start}
-use Rattle.subgroup_laws.specs.Bounded.{not-passing}
 use Rattle.subgroup_laws.specs.Removal.{Without, without-old, without-ones}
 use Rattle.subgroup_laws.specs.Table.{product}
 use Rattle.subgroup_search.specs.Growth.{growing-next, adjoined-end}

@@ -4,7 +4,7 @@ use native.Mathlib.Omega.{arith}
 use lib.ListN.{length}
 use borrow.Author.Needs.{needs}
 use Rattle.subgroup_laws.specs.Table.{product}
-use Rattle.subgroup_search.specs.ListAnswers.{answer-count, answer-full}
+use Rattle.subgroup_search.specs.SearchAnswers.{answer-count, answer-full}
 use Rattle.subgroup_search.proofs.search.list_sets.Statement.{statement}
 use Rattle.subgroup_search.proofs.search.list_sets.Tie as tie
 

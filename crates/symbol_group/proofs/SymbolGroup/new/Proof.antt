@@ -3,11 +3,6 @@ use borrow.Author.Needs.{needs}
 use Rattle.symbol_group.specs.Slots.{symbol-laid}
 use Rattle.symbol_group.proofs.SymbolGroup.new.Statement.{statement}
 use Rattle.symbol_group.proofs.SymbolGroup.new.Tie as tie
-use Rattle.symbol_group.proofs.SymbolGroup.new.Reads as reads
-use Rattle.symbol_group.proofs.SymbolGroup.new.Lts as lts
-use Rattle.hall_symbol.proofs.HallSymbol.new.Reads as HallSymbol-new-reads
-use Rattle.space_group.proofs.SpaceGroup.new.Reads as SpaceGroup-new-reads
-use Rattle.symbol_group.proofs.head_of.Reads as head-of-reads
 
 new-requires : tie.Need-new-requires
 new-requires c κs = search needs

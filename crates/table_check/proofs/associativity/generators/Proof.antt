@@ -6,7 +6,7 @@ use borrow.Author.Needs.{needs}
 use Rattle.laws.specs.Sets.{member-below, shifted-one}
 use Rattle.subgroup_laws.specs.Generators.{Generating, generating-start, generating-next, fewer-left, generating-end}
 use Rattle.subgroup_laws.specs.Table.{product}
-use Rattle.subgroup_laws.specs.TableLaws.{product-below}
+use Rattle.subgroup_laws.specs.TableCells.{product-below}
 use Rattle.table_check.proofs.associativity.generators.Statement.{statement}
 use Rattle.table_check.proofs.associativity.generators.Tie as tie
 

@@ -13,7 +13,7 @@ use Rattle.subgroup_laws.specs.Generators.{Middle, generators-associate}
 use Rattle.subgroup_laws.specs.Groups.{associatesAt, associates}
 use Rattle.subgroup_laws.specs.Removal.{without-cases, without-less}
 use Rattle.subgroup_laws.specs.Table.{product}
-use Rattle.subgroup_laws.specs.TableLaws.{product-below}
+use Rattle.subgroup_laws.specs.TableCells.{product-below}
 use Rattle.table_check.proofs.associativity.is_associative.Statement.{statement}
 use Rattle.table_check.proofs.associativity.is_associative.Tie as tie
 

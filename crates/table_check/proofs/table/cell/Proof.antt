@@ -3,7 +3,7 @@ use mathlib.Core.Path.{refl}
 use Prim.Native.Nat.{_+_, _*_}
 use native.Mathlib.Omega.{arith}
 use Rattle.subgroup_laws.specs.Table.{product}
-use Rattle.subgroup_laws.specs.TableLaws.{cell-place}
+use Rattle.subgroup_laws.specs.TableCells.{cell-place}
 use Rattle.table_check.proofs.table.cell.Statement.{statement}
 use Rattle.table_check.proofs.table.cell.Tie as tie
 

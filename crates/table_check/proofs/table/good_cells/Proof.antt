@@ -7,9 +7,10 @@ use lib.Dec.{ltb, eqb}
 use lib.ListN.{length, getD}
 use borrow.Author.Count.{below-more}
 use borrow.Author.Tests.{eq-eqb, ne-eqb, lt-ltb, le-ltb}
-use Rattle.subgroup_laws.specs.Bounded.{fails-every, passes-every, and-fails, and-fails-left, both-and}
+use Rattle.subgroup_laws.specs.Bounded.{fails-every, passes-every}
+use Rattle.laws.specs.Truth.{and-fails, and-fails-left, both-and}
 use Rattle.subgroup_laws.specs.Table.{goodCells}
-use Rattle.subgroup_laws.specs.TableLaws.{square-limit}
+use Rattle.subgroup_laws.specs.TableCells.{square-limit}
 use Rattle.table_check.proofs.table.good_cells.Statement.{statement}
 use Rattle.table_check.proofs.table.good_cells.Tie as tie
 

@@ -7,7 +7,8 @@ use lib.Dec.{eqb}
 use borrow.Author.Count.{below-more}
 use borrow.Author.Needs.{needs}
 use borrow.Author.Tests.{eq-eqb, ne-eqb}
-use Rattle.subgroup_laws.specs.Bounded.{fails-every, passes-every, and-fails, and-fails-left, both-and}
+use Rattle.subgroup_laws.specs.Bounded.{fails-every, passes-every}
+use Rattle.laws.specs.Truth.{and-fails, and-fails-left, both-and}
 use Rattle.subgroup_laws.specs.Groups.{isIdentity}
 use Rattle.subgroup_laws.specs.Table.{product}
 use Rattle.table_check.proofs.table.is_identity.Statement.{statement}

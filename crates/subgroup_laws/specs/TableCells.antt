@@ -8,7 +8,8 @@ use lib.Arith.{digits-lt}
 use lib.Dec.{eqb, ltb}
 use lib.ListN.{length, getD}
 use borrow.Author.Tests.{eq-eqb, lt-ltb, eqb-true, ltb-true}
-use Rattle.subgroup_laws.specs.Bounded.{every, passes-every, every-passes, and-both, both-and}
+use Rattle.subgroup_laws.specs.Bounded.{every, passes-every, every-passes}
+use Rattle.laws.specs.Truth.{and-both, both-and}
 use Rattle.subgroup_laws.specs.Table.{product, Cells, goodCells}
 
 -- ---- cells

@@ -1,5 +1,5 @@
 -- Laws of the table of a list of operations: it has n² cells, and a cell is the index of the one listed operation that is the product modulo L.
-use mathlib.Core.Path.{_≡_, refl, sym, _∙_, ap}
+use mathlib.Core.Path.{_≡_, refl, sym, _∙_}
 use mathlib.Core.Bool.{Bool}
 use mathlib.Core.List.{List, [], _∷_, map, Memᴰ·map as mem-map}
 use Prim.Native.Nat.{ℕ, zero, suc, _+_, _*_, _<_}
@@ -9,50 +9,31 @@ use lib.Dec.{T, eqb-refl}
 use lib.ListN.{length, getD, length-map, length-append, List·getD-append, List·getD-map}
 use lib.Seq.{getD-append-add}
 use Rattle.laws.specs.Motion.{SpaceMotion, compose}
-use Rattle.laws.specs.Distinct.{Distinct, nil, cons, Equivalence, Mem→has, has→Mem, has-respects, equality-equivalence}
-use Rattle.laws.specs.Lattice.{sameTriple, triple-decides, and-left, and-right, both}
+use Rattle.laws.specs.Distinct.{Distinct, Equivalence, Mem→has, has→Mem, has-respects, equality-equivalence}
+use Rattle.laws.specs.Lattice.{sameTriple, triple-decides}
 use Rattle.laws.specs.SameMatrix.{sameRotation, same-rotation, rotation-same}
 use Rattle.laws.specs.Growth.{place}
 use Rattle.laws.specs.GrowthClosure.{place-lt, place-same}
+use Rattle.laws.specs.Truth.{and-left, and-right, both}
+use Rattle.laws.specs.Indices.{member-at, image-at, distinct-index}
 use Rattle.operation.specs.Code.{codeOf}
 use Rattle.operation.specs.Meaning.{motionOf}
 use Rattle.operation.specs.Product.{identityOperation}
 use Rattle.operation.specs.declared.Operation.{Operation}
 use Rattle.centering.specs.declared.Centering.{Centering}
 use Rattle.space_group.specs.Generated.{sameVectorClass}
-use Rattle.space_group_theorems.specs.Acceptance.{member-at}
 use Rattle.group_record.specs.Groups.{Alike, InSet, Allowed, Listing, sameCode}
 use Rattle.group_record.specs.ListedForm.{matrix-injective, code-equivalence, alike-reflexive, alike-symmetric, alike-transitive}
 use Rattle.group_table.specs.Tables.{sameModulo, indexOf, rowOf, rowsOf, tableOf}
 
 -- ---- lists
--- Within a list nothing else stands for what is missing.
-pub at-inside : {A : Type 0} (l : List A) (i : ℕ) (d e : A) → i < length l → getD l i d ≡ getD l i e
-at-inside [] i d e h = absurd (omega arith)
-at-inside (x ∷ l) zero d e h = refl
-at-inside (x ∷ l) (suc i) d e h = at-inside l i d e (omega arith)
-
--- What stands in the image of a list.
-pub image-at : {A B : Type 0} (f : A → B) (l : List A) (i : ℕ) (d : A) (e : B) → i < length l → getD (map f l) i e ≡ f (getD l i d)
-image-at f l i d e h = at-inside (map f l) i e (f d) (omega (arith, length-map l f)) ∙ List·getD-map f l i d
-
 module _ {A : Type 0} (same : A → A → Bool) (E : Equivalence same) where
-  -- In a list without repeats equivalents stand at one index.
-  distinct-index : {l : List A} → Distinct same l → (d : A) (i j : ℕ) → i < length l → j < length l → T (same (getD l i d) (getD l j d)) → i ≡ j
-  distinct-index nil d i j h k s = absurd (omega arith)
-  distinct-index (cons new D) d zero zero h k s = refl
-  distinct-index (cons {x} {l} new D) d zero (suc j) h k s =
-      absurd (new (has-respects same E x (getD l j d) l s (Mem→has same E (member-at l j d (omega arith)))))
-  distinct-index (cons {x} {l} new D) d (suc i) zero h k s =
-      absurd (new (has-respects same E x (getD l i d) l (E .symmetric _ _ s) (Mem→has same E (member-at l i d (omega arith)))))
-  distinct-index (cons new D) d (suc i) (suc j) h k s = ap suc (distinct-index D d i j (omega arith) (omega arith) s)
-
-  -- So what stands at an index has that index for its place.
+  -- In a list without repeats what stands at an index has that index for its place.
   pub distinct-place : {l : List A} → Distinct same l → (x d : A) (k : ℕ) → k < length l → T (same x (getD l k d)) → place same x l ≡ k
   distinct-place {l} D x d k h s =
       let there = has-respects same E x (getD l k d) l s (Mem→has same E (member-at l k d h)) in
       let found = place-same same x l d there in
-      distinct-index D d (place same x l) k (place-lt same x l there) h (E .transitive _ x _ (E .symmetric x _ found) s)
+      distinct-index same E D d (place same x l) k (place-lt same x l there) h (E .transitive _ x _ (E .symmetric x _ found) s)
 
 -- ---- the test of motions modulo L
 module _ (c : Centering) where

@@ -6,7 +6,7 @@ use Prim.Native.Nat.{ℕ, _*_, _/_, _≤_}
 use native.Mathlib.Omega.{arith}
 use lib.ListN.{length, drop, replicate}
 use borrow.Author.Tests.{lt-ltb, le-ltb}
-use Rattle.subgroup_laws.specs.Listing.{listed}
+use Rattle.subgroup_laws.specs.ListedSets.{listed}
 use Rattle.subgroup_laws.specs.Lists.{chosen}
 use Rattle.subgroup_laws.specs.Slots.{cleared}
 use Rattle.subgroup_search.specs.Answers.{listAnswer, listBytes}
