@@ -21,7 +21,7 @@ prove_and_build() { # FILE WORD...
     if [ -e "$file" ] && [ -f "$built" ] && [ "$(cat "$built")" = "$(rt version)" ] && [ -z "$(find $sources -newer "$built" -print -quit)" ]; then
         return
     fi
-    echo "$name: proving and building first; that takes some minutes" >&2
+    echo "$name: proving and building first; that takes some minutes, and there is nothing to tell in some of them" >&2
     mkdir -p target
     # Its time is that of the start, so that what changes meanwhile counts as changed.
     rt version >"$built.new"

@@ -14,7 +14,7 @@
 #include "marks.h"
 #include "measure.h"
 
-enum { LIST_ROOM = 8 * 512, RECORD_ROOM = 5 + 5 * 48, STACK_WORDS = 8192 };
+enum { LIST_ROOM = 8 * 512, RECORD_ROOM = 5 + 6 * 96, STACK_WORDS = 8192 };
 
 /* ---- what a call is given, and what it answers ---- */
 uint8_t source[SOURCE_ROOM];
@@ -41,8 +41,11 @@ static uint64_t set, element;
     CALL(symbol_operation, SYMBOL, number) \
     CALL(symbol_record, SYMBOL, OUT, number) CALL(record_copy, RECORD, OUT, number) \
     CALL(layer_order, SYMBOL) CALL(layer_letter, SYMBOL) CALL(layer_operation, SYMBOL, number) CALL(layer_record, SYMBOL, OUT, number) \
+    CALL(magnetic_order, SYMBOL) CALL(magnetic_letter, SYMBOL) CALL(magnetic_operation, SYMBOL, number) CALL(magnetic_record, SYMBOL, OUT, number) \
+    CALL(magnetic_record_order, RECORD) CALL(magnetic_record_letter, RECORD) CALL(magnetic_record_copy, RECORD, OUT, number) \
     CALL(record_edition, RECORD) CALL(record_move, RECORD, OUT, number) CALL(record_compare, RECORD, other, sizeof other, report, sizeof report) \
-    CALL(symbol_check, SYMBOL, other, 5) CALL(catalogue_piece, STATE, SYMBOL, OUT) \
+    CALL(symbol_check, SYMBOL, other, 5) CALL(line_operation, SYMBOL) CALL(operation_line, SYMBOL, OUT) \
+    CALL(catalogue_start, state, sizeof state) CALL(catalogue_piece, STATE, SYMBOL, OUT) \
     CALL(symbol_subgroups, SYMBOL, SETS) CALL(record_subgroups, RECORD, SETS) CALL(table_subgroups, TABLE, SETS) \
     CALL(symbol_classes, SYMBOL, SETS) CALL(record_classes, RECORD, SETS) CALL(table_classes, TABLE, SETS) \
     CALL(symbol_conjugate, SYMBOL, set, element) CALL(record_conjugate, RECORD, set, element) CALL(table_conjugate, TABLE, set, element) \
@@ -56,6 +59,13 @@ static uint64_t set, element;
 CALLS(FUNCTION)
 static void nothing(void) { answer = 0; }
 
+/* The end of a catalogue whose last line, kept in the state, is the source. */
+static void keep_line(void) {
+    state[0] = (uint8_t)length;
+    memcpy(state + 1, source, length);
+}
+static void catalogue_end(void) { answer = symmetry_catalogue_end(state, sizeof state, OUT); }
+
 /* The whole table by value, which answers its order. */
 uint64_t symbol_table_order(const uint8_t *text, size_t length);
 uint64_t record_table_order(const uint8_t *bytes, size_t length);
@@ -64,7 +74,8 @@ static void record_value(void) { answer = record_table_order(RECORD); }
 
 #define ENTRY(name, ...) { #name, name, NULL },
 static const struct entry entries[] = {
-    CALLS(ENTRY) { "symbol_value", symbol_value, NULL }, { "record_value", record_value, NULL }, { "nothing", nothing, NULL }, { NULL, NULL, NULL }
+    CALLS(ENTRY) { "catalogue_end", catalogue_end, keep_line },
+    { "symbol_value", symbol_value, NULL }, { "record_value", record_value, NULL }, { "nothing", nothing, NULL }, { NULL, NULL, NULL }
 };
 
 static const struct entry *entry_among(const struct entry *some, const char *name) {

@@ -17,11 +17,18 @@ import sys
 from collections import defaultdict
 from typing import NamedTuple
 
-RECORDED = os.path.join(os.path.dirname(os.path.abspath(__file__)), "..", "..", "oracle", "recorded")
+ORACLE = os.path.join(os.path.dirname(os.path.abspath(__file__)), "..", "..", "oracle")
+RECORDED = os.path.join(ORACLE, "recorded")
+sys.path.insert(0, ORACLE)
+import model
 DATABASE = 530
 MOST_FUNCTIONS = 20
 
 SYMBOLS = ("P 1", "-P 2ac 2n", "-F 4 2 3")
+# Each has 64 bytes, all that are read.
+LONG_LINES = [" " * (64 - len(line)) + line for line in (
+    "-x-y-z-11/12,-x-y-z-11/12,-x-y-z-11/12", "-x+y-11/12,-x+z-11/12,-y-z-11/12", "+ 11/12 - x + y, - 11/12 + x + z, + 11/12 - y - z", "x,y,z")]
+LARGEST_MAGNETIC = ("-P 4 2 3 1'", "-F 4 2 3 1'", "-F 4d 2 3 -1ad 1'", "-F 4ud 2vw 3 1'", "-I 4bd 2c 3 1'", "-P 4 2 3 1 1 1 1 1'")
 CUBIC, MANY = "-P 4 2 3", "C2 ^ 5"
 PROGRAMS = ("rust", "gemmi")
 # The heap of the Rust and of gemmi is warm after the first call, and each call of the Rust has other keys for its hash tables.
@@ -77,6 +84,8 @@ def of_symbols():
         yield from of_group(name, "symbol", text)
         yield from (Call(name, "symbol_" + entry, text) for entry in ("letter", "operation", "record", "check"))
         yield Call(name, "catalogue_piece", text + b"\n")
+        if len(text) <= 80:
+            yield Call(name, "catalogue_end", text)
         if refusal == "0":
             whole = 2 ** int(place) - 1
             yield from of_subgroup(name, "symbol", text, 0, whole)
@@ -89,6 +98,27 @@ def of_layers():
     for line in recorded("layers.txt"):
         text = bytes.fromhex(line.split()[0])
         yield from (Call("layer " + shown(text), "layer_" + entry, text) for entry in ("order", "letter", "operation", "record"))
+
+
+def of_magnetics():
+    """The magnetic symbols of the Rust's database and those with the most operations, and their records, by the model of the rules."""
+    texts = [bytes.fromhex(line.split()[0]) for line in recorded("magnetic.txt")]
+    for text in texts + [text.encode() for text in LARGEST_MAGNETIC]:
+        yield from (Call("magnetic " + shown(text), "magnetic_" + entry, text) for entry in ("order", "letter", "operation", "record"))
+        record = model.magnetic_record(*model.group_of_magnetic(text))
+        yield from (Call("record of magnetic " + shown(text), "magnetic_record_" + entry, record) for entry in ("order", "letter", "copy"))
+
+
+def of_lines():
+    """Operation lines: of each operation of the largest groups, and long ones that are read. A catalogue's start takes nothing."""
+    yield Call("a state", "catalogue_start", b"")
+    for line in LONG_LINES:
+        yield Call("line " + line.strip(), "line_operation", line.encode())
+    for line in recorded("symbols.txt")[:DATABASE]:
+        text, _, _, record = line.split()
+        record = bytes.fromhex(record)
+        for at in range(0, len(record) - 5, 5):
+            yield Call("operation %d of %s" % (at // 5, shown(bytes.fromhex(text))), "operation_line", record[at:at + 5])
 
 
 def of_values():
@@ -142,6 +172,8 @@ def of_all_groups():
 def all_calls():
     yield from of_symbols()
     yield from of_layers()
+    yield from of_magnetics()
+    yield from of_lines()
     yield from of_values()
     yield from of_buffers()
     yield from of_tables()

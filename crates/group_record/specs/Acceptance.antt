@@ -44,14 +44,18 @@ module _ {Sign Kind : Type 0} (G : GroupReading Sign Kind) where
       record {
         code = λ i m. g .each i m .0;
         smallest = λ i m. g .each i m .1;
-        ascend = sorted-by (λ (i j : Item). G .edition k .key i < G .edition k .key j) (λ (i j : Item). i .code < j .code) (λ i j h. rw (G .by-code k i, G .by-code k j) at h) (g .ascend);
+        ascend =
+            sorted-by (λ (i j : Item). G .edition k .key i < G .edition k .key j) (λ (i j : Item). i .code < j .code)
+            (λ i j h. rw (G .by-code k i, G .by-code k j) at h) (g .ascend);
       }
 
   items-good : (k : Kind) (c : Sign) (items : List Item) → GoodItems (G .lattice c) items → Good (rulesOf G) IsItem k c items
   items-good k c items g =
       record {
         each = λ i m. (g .code i m, g .smallest i m);
-        ascend = sorted-by (λ (i j : Item). i .code < j .code) (λ (i j : Item). G .edition k .key i < G .edition k .key j) (λ i j h. rw (G .by-code k i, G .by-code k j) h) (g .ascend);
+        ascend =
+            sorted-by (λ (i j : Item). i .code < j .code) (λ (i j : Item). G .edition k .key i < G .edition k .key j)
+            (λ i j h. rw (G .by-code k i, G .by-code k j) h) (g .ascend);
       }
 
   group-test : (k : Kind) (c : Sign) (items : List Item) → Good (rulesOf G) IsItem k c items → 1 ≤ length items → length items ≤ 48
@@ -60,7 +64,8 @@ module _ {Sign Kind : Type 0} (G : GroupReading Sign Kind) where
     (λ e.
         let (p, q) = both-true (isAllowed (G .lattice c) items) _ .0 e in
         (test .0 (ap (isAllowed (G .lattice c)) again ∙ p), G .further-test c (map operationOfItem items) form .0 q)),
-    λ (p, q). both-true (isAllowed (G .lattice c) items) _ .1 (sym (ap (isAllowed (G .lattice c)) again) ∙ test .1 p, G .further-test c (map operationOfItem items) form .1 q),
+    λ (p, q). both-true (isAllowed (G .lattice c) items) _ .1
+        (sym (ap (isAllowed (G .lattice c)) again) ∙ test .1 p, G .further-test c (map operationOfItem items) form .1 q),
   )
     where
       again : map itemOf (map operationOfItem items) ≡ items
@@ -100,7 +105,8 @@ module _ {Sign Kind : Type 0} (G : GroupReading Sign Kind) where
   Tells bytes k c l = (items : List Item) × (toldBy (rulesOf G) bytes ≡ holds k c items) × (map operationOfItem items ≡ l)
 
   -- What is held are the operations of the items that are held.
-  from-held : (bytes : List ℕ) (k : Kind) (c : Sign) (items : List Item) → Held (rulesOf G) meaningOf bytes k c items → Holds bytes k c (map operationOfItem items)
+  from-held : (bytes : List ℕ) (k : Kind) (c : Sign) (items : List Item) → Held (rulesOf G) meaningOf bytes k c items
+      → Holds bytes k c (map operationOfItem items)
   unfolding meaningOf
   from-held bytes k c items h =
       let good = good-items k c items (h .good) in
@@ -109,7 +115,8 @@ module _ {Sign Kind : Type 0} (G : GroupReading Sign Kind) where
         front = h .front;
         same-bytes =
             h .same-bytes
-            ∙ ap (λ (b : List ℕ). h .front ++ b) (ap (framed (G .edition k) (G .byte c)) (sym again) ∙ sym (written-items (G .edition k) (G .byte c) (map operationOfItem items)));
+            ∙ ap (λ (b : List ℕ). h .front ++ b) (ap (framed (G .edition k) (G .byte c)) (sym again)
+            ∙ sym (written-items (G .edition k) (G .byte c) (map operationOfItem items)));
         form = good-form (G .lattice c) items good;
         allowed = h .allowed .0;
         further = h .allowed .1;

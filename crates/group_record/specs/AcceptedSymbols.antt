@@ -1,4 +1,5 @@
--- What an accepted symbol's group is for a record: its operations are a listing, and they are allowed. All of it follows from what is listed for an accepted symbol.
+-- What an accepted symbol's group is for a record: its operations are a listing, and
+-- they are allowed. All of it follows from what is listed for an accepted symbol.
 use mathlib.Core.Path.{_≡_, refl, sym, _∙_, ap}
 use mathlib.Core.List.{List, map, List·Memᴰ as Mem, List·Memᴰ·head as here, Memᴰ·map as mem-map, Memᴰ·of-map as mem-of-map, Memᴰ·cast as mem-cast}
 use Prim.Native.Nat.{ℕ, _≤_}
@@ -44,7 +45,8 @@ module _ (c : Centering) (gens operations : List Operation) (steps : List ℕ) (
   accepted-identity = let (rest, e) = identity-first c gens operations steps A in rw e (here refl)
 
   -- The product of two listed motions is listed modulo L.
-  listed-product : (f g : SpaceMotion) → Mem f (map motionOf operations) → Mem g (map motionOf operations) → (h : SpaceMotion) × Mem h (map motionOf operations) × Alike c (compose f g) h
+  listed-product : (f g : SpaceMotion) → Mem f (map motionOf operations) → Mem g (map motionOf operations)
+      → (h : SpaceMotion) × Mem h (map motionOf operations) × Alike c (compose f g) h
   listed-product f g m k =
       let (o, n, p) = mem-of-map motionOf operations m in
       let (r, t, q) = mem-of-map motionOf operations k in
@@ -56,7 +58,10 @@ module _ (c : Centering) (gens operations : List Operation) (steps : List ℕ) (
   accepted-allowed =
       let (rest, first) = identity-first c gens operations steps A in
       record {
-        count = (omega (arith, length-map operations motionOf, ap length first), omega (arith, length-map operations motionOf, at-most-48 c gens operations steps A));
+        count = (
+          omega (arith, length-map operations motionOf, ap length first),
+          omega (arith, length-map operations motionOf, at-most-48 c gens operations steps A),
+        );
         determinant = λ f m. onto-unimodular (pointsOf c) (points c) (f .rotation) (listed-keeps f m);
         keeps = listed-keeps;
         holds-identity = mem-cast (sym identity-motion) (mem-map motionOf accepted-identity);
@@ -65,7 +70,8 @@ module _ (c : Centering) (gens operations : List Operation) (steps : List ℕ) (
 
 -- ---- what the writer is asked
 -- At most 48 operations, there, and a listing.
-pub symbol-writable : (text : List ℕ) (g : SymbolGroup) → g ≡ symbolAnswer text → g .answer ≡ Group → (g .count ≤ 48) × (g .count ≤ length (g .operations)) × Listing (take (g .count) (g .operations))
+pub symbol-writable : (text : List ℕ) (g : SymbolGroup) → g ≡ symbolAnswer text → g .answer ≡ Group
+    → (g .count ≤ 48) × (g .count ≤ length (g .operations)) × Listing (take (g .count) (g .operations))
 symbol-writable text g e a =
     let T = accepted-text text (sym (ap (λ (h : SymbolGroup). h .answer) e) ∙ a) in
     let listed : take (g .count) (g .operations) ≡ T .operations = ap (λ (h : SymbolGroup). take (h .count) (h .operations)) e ∙ T .same-operations in

@@ -1,5 +1,6 @@
 -- What is allowed is a group, and no more is asked: operations in the listed form, 1 to 48 of them, are allowed exactly if they are a group of motions with L.
--- The idea: a motion of the group between a translation of L and the motion's inverse is a translation again, so each rotation maps L into L, and its inverse too.
+-- The idea: a motion of the group between a translation of L and the motion's inverse
+-- is a translation again, so each rotation maps L into L, and its inverse too.
 use mathlib.Core.Path.{_≡_, sym, _∙_, ap, subst}
 use mathlib.Core.Logic.{_↔_}
 use mathlib.Core.List.{List, map, List·Memᴰ as Mem, Memᴰ·of-map as mem-of-map, Memᴰ·cast as mem-cast, Memᴰ·map as mem-map}

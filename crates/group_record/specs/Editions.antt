@@ -76,7 +76,8 @@ module _ {Item : Type 0} (E : Edition Item) where
   pub framed-items : (letter : ℕ) (items : List Item) → AllFit items → itemsIn (E .width) (E .read) (length items) (framed letter items) ≡ items
   unfolding framed
   framed-items letter items fit =
-      read-written (E .width) (E .write) (E .wide) (E .read) items (trailerBytes (E .width) (E .number) letter (length items)) (λ i more m. E .again i more (fit i m))
+      read-written (E .width) (E .write) (E .wide) (E .read) items (trailerBytes (E .width) (E .number) letter (length items))
+      (λ i more m. E .again i more (fit i m))
 
   -- So equal bytes have one letter's byte and the same items.
   pub framed-injective : (a b : ℕ) (l k : List Item) → AllFit l → AllFit k → framed a l ≡ framed b k → (a ≡ b) × (l ≡ k)

@@ -29,10 +29,12 @@ example = refl
 
 -- 00 54 52 80 01 B2 A3 00 50 03 02 00 0D
 pub third-example : recordBy Third P (identityOperation ∷ inversion ∷ []) ≡ 0 ∷ 84 ∷ 82 ∷ 128 ∷ 1 ∷ 178 ∷ 163 ∷ 0 ∷ 80 ∷ 3 ∷ 2 ∷ 0 ∷ 13 ∷ []
-unfolding recordBy recordIn writtenIn listedForm smallestOperation smallestOf smallest leastRank rank unrank _⊕_ sort insert codeOf bytesOf numberedBytes fourBytes numberOfItem
+unfolding recordBy recordIn writtenIn listedForm smallestOperation smallestOf smallest leastRank rank unrank _⊕_ sort insert codeOf bytesOf numberedBytes
+    fourBytes numberOfItem
 third-example = refl
 
 -- 01 B2 A3 00 50 03 01 00 09
 pub shortest-example : recordBy Third P (identityOperation ∷ []) ≡ 1 ∷ 178 ∷ 163 ∷ 0 ∷ 80 ∷ 3 ∷ 1 ∷ 0 ∷ 9 ∷ []
-unfolding recordBy recordIn writtenIn listedForm smallestOperation smallestOf smallest leastRank rank unrank _⊕_ sort insert codeOf bytesOf numberedBytes fourBytes numberOfItem
+unfolding recordBy recordIn writtenIn listedForm smallestOperation smallestOf smallest leastRank rank unrank _⊕_ sort insert codeOf bytesOf numberedBytes
+    fourBytes numberOfItem
 shortest-example = refl

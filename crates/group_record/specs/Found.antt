@@ -29,7 +29,14 @@ nothingFound why = record { answer = Refused why; edition = First; sign = Plain 
 -- An answer with the operations of the first n items.
 unfoldable pub laidOut : Reading → Known → Sign → ℕ → List ℕ → RecordGroup
 laidOut answer edition s n bytes =
-    record { answer = answer; edition = edition; layer = isSmall s; centering = latticeOf s; count = n; operations = slots (map operationOfItem (itemsOf edition n bytes)) }
+    record {
+      answer = answer;
+      edition = edition;
+      layer = isSmall s;
+      centering = latticeOf s;
+      count = n;
+      operations = slots (map operationOfItem (itemsOf edition n bytes));
+    }
 
 -- What was found lies in the buffer, and stands for a group.
 pub record Stands (bytes : List ℕ) (f : Found) (g : RecordGroup) : Type 0 where
@@ -51,7 +58,17 @@ record-stands bytes edition s n start few within =
     record {
       few = few;
       within = within;
-      same = ap (λ (k : ℕ). record { answer = Accepted; edition = edition; layer = isSmall s; centering = latticeOf s; count = k; operations = slots (map operationOfItem items) }) count;
+      same =
+          ap
+          (λ (k : ℕ).
+          record {
+            answer = Accepted;
+            edition = edition;
+            layer = isSmall s;
+            centering = latticeOf s;
+            count = k;
+            operations = slots (map operationOfItem items);
+          }) count;
     }
 
 pub stands-as : {bytes : List ℕ} {f : Found} {g h : RecordGroup} → Stands bytes f g → h ≡ g → Stands bytes f h
@@ -68,7 +85,8 @@ module _ (edition : Known) (s : Sign) (n : ℕ) (part rest : List ℕ) (lent : p
   by-group : (b : Bool) → isAllowed (latticeOf s) (itemsOf edition n part) ≡ b → isAllowed (latticeOf s) (itemsOf edition n rest) ≡ b
   by-group b h = ap (λ (l : List ℕ). isAllowed (latticeOf s) (itemsOf edition n l)) (sym lent) ∙ h
 
-  by-layers : (b : Bool) → layersIf (isSmall s) (map operationOfItem (itemsOf edition n part)) ≡ b → layersIf (isSmall s) (map operationOfItem (itemsOf edition n rest)) ≡ b
+  by-layers : (b : Bool) → layersIf (isSmall s) (map operationOfItem (itemsOf edition n part)) ≡ b
+      → layersIf (isSmall s) (map operationOfItem (itemsOf edition n rest)) ≡ b
   by-layers b h = ap (λ (l : List ℕ). layersIf (isSmall s) (map operationOfItem (itemsOf edition n l))) (sym lent) ∙ h
 
   pub items-wrong : areItems (latticeOf s) (itemsOf edition n part) ≡ false → readItems edition s (itemsOf edition n rest) ≡ refusedGroup WrongItem

@@ -28,16 +28,20 @@ use Rattle.group_record.specs.OneRecord.{translationBy, pure-translation
 
 -- ---- products of motions that differ by translations of L
 -- The difference of two products' translations.
-difference-moved : (R : Matrix) (u v s t : Vector) → plus (plus (act R u) s) (opposite (plus (act R v) t)) ≡ plus (act R (plus u (opposite v))) (plus s (opposite t))
+difference-moved : (R : Matrix) (u v s t : Vector)
+    → plus (plus (act R u) s) (opposite (plus (act R v) t)) ≡ plus (act R (plus u (opposite v))) (plus s (opposite t))
 unfolding plus opposite act
 difference-moved R u v s t = simp ring
 
 -- Products of alike motions are alike, where the left factor keeps L.
-pub compose-alike : (c : Centering) (f g h k : SpaceMotion) → MapsInto (pointsOf c) (f .rotation) → Alike c f g → Alike c h k → Alike c (compose f h) (compose g k)
+pub compose-alike : (c : Centering) (f g h k : SpaceMotion) → MapsInto (pointsOf c) (f .rotation) → Alike c f g → Alike c h k
+    → Alike c (compose f h) (compose g k)
 unfolding product
-compose-alike c f g h k into (p, q) (r, s) = (ap₂ times p r, rw (← p, difference-moved (f .rotation) (h .translation) (k .translation) (f .translation) (g .translation)) both)
+compose-alike c f g h k into (p, q) (r, s) =
+    (ap₂ times p r, rw (← p, difference-moved (f .rotation) (h .translation) (k .translation) (f .translation) (g .translation)) both)
   where
-    both : InLattice (pointsOf c) (plus (act (f .rotation) (plus (h .translation) (opposite (k .translation)))) (plus (f .translation) (opposite (g .translation))))
+    both : InLattice (pointsOf c)
+        (plus (act (f .rotation) (plus (h .translation) (opposite (k .translation)))) (plus (f .translation) (opposite (g .translation))))
     both = in-plus (pointsOf c) (points c) _ _ (into _ s) q
 
 -- ---- the inverse of a motion
@@ -54,7 +58,9 @@ unfolding product inverseMotion
 compose-inverse f u =
     motion≡ (times-inverse (f .rotation) u)
     (ap (λ v. plus v (f .translation))
-    (act-opposite (f .rotation) _ ∙ ap opposite (sym (act-times (f .rotation) (inverse (f .rotation)) (f .translation)) ∙ ap (λ A. act A (f .translation)) (times-inverse (f .rotation) u) ∙ act-unit (f .translation)))
+    (act-opposite (f .rotation) _
+    ∙ ap opposite (sym (act-times (f .rotation) (inverse (f .rotation)) (f .translation)) ∙ ap (λ A. act A (f .translation)) (times-inverse (f .rotation) u)
+    ∙ act-unit (f .translation)))
     ∙ plus-comm (opposite (f .translation)) (f .translation) ∙ plus-opposite (f .translation))
 
 -- and on the left.
@@ -77,7 +83,8 @@ inverse-unique A X u e = times-cancel A (inverse A) X u (times-inverse A u ∙ s
 inverse-sum : (B A : Matrix) (u t : Vector) → times B A ≡ unit → plus (opposite (act B t)) (opposite u) ≡ opposite (act B (plus (act A u) t))
 unfolding plus opposite
 inverse-sum B A u t e =
-    swap u (act B t) ∙ ap (λ v. opposite (plus v (act B t))) (sym (act-unit u) ∙ ap (λ C. act C u) (sym e) ∙ act-times B A u) ∙ ap opposite (sym (act-plus B (act A u) t))
+    swap u (act B t) ∙ ap (λ v. opposite (plus v (act B t))) (sym (act-unit u) ∙ ap (λ C. act C u) (sym e) ∙ act-times B A u)
+    ∙ ap opposite (sym (act-plus B (act A u) t))
   where
     swap : (v w : Vector) → plus (opposite w) (opposite v) ≡ opposite (plus v w)
     swap v w = simp ring
@@ -95,7 +102,8 @@ translation≡ p q r = λ i. record { x = p i; y = q i; z = r i }
 vector-injective : (s t : Translation) → vectorOf s ≡ vectorOf t → s ≡ t
 unfolding vectorOf
 vector-injective s t e =
-    translation≡ (pos-injective _ _ (ap (λ (v : Vector). v .x) e)) (pos-injective _ _ (ap (λ (v : Vector). v .y) e)) (pos-injective _ _ (ap (λ (v : Vector). v .z) e))
+    translation≡ (pos-injective _ _ (ap (λ (v : Vector). v .x) e)) (pos-injective _ _ (ap (λ (v : Vector). v .y) e))
+    (pos-injective _ _ (ap (λ (v : Vector). v .z) e))
 
 -- The identity operation's matrix.
 unit-matrix : matrixOf (identityOperation .rotation) ≡ unit
@@ -146,7 +154,8 @@ module _ (c : Centering) {l : List Operation} (L : Listing l) (A : Closed c (map
       let (h, o, e) = mem-of-map motionOf l n in
       (h, o, cast h p e a)
     where
-      cast : (h : Operation) (p : SpaceMotion) → motionOf h ≡ p → Alike c (compose (motionOf f) (motionOf g)) p → Alike c (compose (motionOf f) (motionOf g)) (motionOf h)
+      cast : (h : Operation) (p : SpaceMotion) → motionOf h ≡ p → Alike c (compose (motionOf f) (motionOf g)) p
+          → Alike c (compose (motionOf f) (motionOf g)) (motionOf h)
       cast h p e a = rw e a
 
   -- The product of f and x as an operation: its rotation is listed.
@@ -169,20 +178,26 @@ module _ (c : Centering) {l : List Operation} (L : Listing l) (A : Closed c (map
   into f m = A .keeps (motionOf f) (mem-map motionOf m) .0
 
   -- Two listed right factors with one product have one rotation.
-  rotations-cancel : (f x y g h : Operation) → Mem f l → Mem x l → Mem y l → Alike c (compose (motionOf f) (motionOf x)) (motionOf g) → Alike c (compose (motionOf f) (motionOf y)) (motionOf h) → g .rotation ≡ h .rotation → x .rotation ≡ y .rotation
+  rotations-cancel : (f x y g h : Operation) → Mem f l → Mem x l → Mem y l → Alike c (compose (motionOf f) (motionOf x)) (motionOf g)
+      → Alike c (compose (motionOf f) (motionOf y)) (motionOf h) → g .rotation ≡ h .rotation → x .rotation ≡ y .rotation
   unfolding motionOf product
   rotations-cancel f x y g h m k n p q e =
-      matrix-injective (x .rotation) (y .rotation) (L .entries x k) (L .entries y n) (times-cancel (matrixOf (f .rotation)) _ _ (unimodular f m) (p .0 ∙ ap matrixOf e ∙ sym (q .0)))
+      matrix-injective (x .rotation) (y .rotation) (L .entries x k) (L .entries y n)
+      (times-cancel (matrixOf (f .rotation)) _ _ (unimodular f m) (p .0 ∙ ap matrixOf e ∙ sym (q .0)))
 
   -- Each listed operation has a listed one that makes a translation of L of it.
   right-inverse : (f : Operation) → Mem f l → (x : Operation) × Mem x l × Alike c (compose (motionOf f) (motionOf x)) identity
   right-inverse f m =
       let one = identity-listed L (A .holds-identity) in
-      let hit = injection-onto sameCode code-equivalence (multiplied f) l injective (L .distinct) inside identityOperation (Mem→has sameCode code-equivalence one) in
+      let hit =
+      injection-onto sameCode code-equivalence (multiplied f) l injective (L .distinct) inside identityOperation (Mem→has sameCode code-equivalence one) in
       let (y, k, s) = has-member sameCode identityOperation (map (multiplied f) l) hit in
       let (x, n, e) = mem-of-map (multiplied f) l k in
-      let (h, o, a) = listed-product f x m n in
-      (x, n, reached x h o one a (eqb→eq (codeOf (identityOperation .rotation)) (codeOf (y .rotation)) s ∙ ap (λ (g : Operation). codeOf (g .rotation)) (sym e)))
+      let (h, o, a) = listed-product f x m n in (
+        x,
+        n,
+        reached x h o one a (eqb→eq (codeOf (identityOperation .rotation)) (codeOf (y .rotation)) s ∙ ap (λ (g : Operation). codeOf (g .rotation)) (sym e)),
+      )
     where
       inside : (x : Operation) → Mem x l → T (has sameCode (multiplied f x) l)
       inside x k = let (h, o, a) = listed-product f x m k in has-at (multiplied f x) h o (multiplied-rotation f x h o a)
@@ -192,29 +207,37 @@ module _ (c : Centering) {l : List Operation} (L : Listing l) (A : Closed c (map
           let (h, o, a) = listed-product f x m k in
           let (g, p, b) = listed-product f y m n in
           let codes : codeOf (h .rotation) ≡ codeOf (g .rotation) =
-          ap codeOf (sym (multiplied-rotation f x h o a)) ∙ eqb→eq (codeOf (multiplied f x .rotation)) (codeOf (multiplied f y .rotation)) t ∙ ap codeOf (multiplied-rotation f y g p b) in
+          ap codeOf (sym (multiplied-rotation f x h o a)) ∙ eqb→eq (codeOf (multiplied f x .rotation)) (codeOf (multiplied f y .rotation)) t
+          ∙ ap codeOf (multiplied-rotation f y g p b) in
           same-code x y (rotations-cancel f x y h g m k n a b (code-matrix (h .rotation) (g .rotation) (L .entries h o) (L .entries g p) codes))
 
-      reached : (x h : Operation) → Mem h l → Mem identityOperation l → Alike c (compose (motionOf f) (motionOf x)) (motionOf h) → codeOf (identityOperation .rotation) ≡ codeOf (multiplied f x .rotation) → Alike c (compose (motionOf f) (motionOf x)) identity
+      reached : (x h : Operation) → Mem h l → Mem identityOperation l → Alike c (compose (motionOf f) (motionOf x)) (motionOf h)
+          → codeOf (identityOperation .rotation) ≡ codeOf (multiplied f x .rotation) → Alike c (compose (motionOf f) (motionOf x)) identity
       reached x h o one a e =
           let rotations : h .rotation ≡ identityOperation .rotation =
-          code-matrix (h .rotation) (identityOperation .rotation) (L .entries h o) (L .entries identityOperation one) (ap codeOf (sym (multiplied-rotation f x h o a)) ∙ sym e) in
+          code-matrix (h .rotation) (identityOperation .rotation) (L .entries h o) (L .entries identityOperation one)
+          (ap codeOf (sym (multiplied-rotation f x h o a)) ∙ sym e) in
           alike-at x h (ap motionOf (told-by-rotation L o one rotations) ∙ identity-motion) a
         where
-          alike-at : (x h : Operation) → motionOf h ≡ identity → Alike c (compose (motionOf f) (motionOf x)) (motionOf h) → Alike c (compose (motionOf f) (motionOf x)) identity
+          alike-at : (x h : Operation) → motionOf h ≡ identity → Alike c (compose (motionOf f) (motionOf x)) (motionOf h)
+              → Alike c (compose (motionOf f) (motionOf x)) identity
           alike-at x h q a = rw q at a
 
   -- The inverse of a motion of the set is in the set.
-  inverse-alike : (f : SpaceMotion) (g x : Operation) → Mem g l → Mem x l → Alike c f (motionOf g) → Alike c (compose (motionOf g) (motionOf x)) identity → Unimodular (f .rotation) → MapsInto (pointsOf c) (f .rotation) → Alike c (inverseMotion f) (motionOf x)
+  inverse-alike : (f : SpaceMotion) (g x : Operation) → Mem g l → Mem x l → Alike c f (motionOf g) → Alike c (compose (motionOf g) (motionOf x)) identity
+      → Unimodular (f .rotation) → MapsInto (pointsOf c) (f .rotation) → Alike c (inverseMotion f) (motionOf x)
   unfolding inverseMotion motionOf product
   inverse-alike f g x m k a b u maps =
       let near : Alike c (compose f (motionOf x)) identity =
-      alike-transitive c (compose f (motionOf x)) (compose (motionOf g) (motionOf x)) identity (compose-alike c f (motionOf g) (motionOf x) (motionOf x) maps a (alike-reflexive c (motionOf x))) b in
+      alike-transitive c (compose f (motionOf x)) (compose (motionOf g) (motionOf x)) identity
+      (compose-alike c f (motionOf g) (motionOf x) (motionOf x) maps a (alike-reflexive c (motionOf x))) b in
       let turned = inverse-unique (f .rotation) (matrixOf (x .rotation)) u (near .0) in
       let moved : InLattice (pointsOf c) (plus (act (f .rotation) (vectorOf (x .translation))) (f .translation)) = rw (from-origin _) at (near .1) in
-      let back : InLattice (pointsOf c) (act (inverse (f .rotation)) (plus (act (f .rotation) (vectorOf (x .translation))) (f .translation))) = rw turned (into x k _ moved) in (
+      let back : InLattice (pointsOf c) (act (inverse (f .rotation)) (plus (act (f .rotation) (vectorOf (x .translation))) (f .translation))) =
+      rw turned (into x k _ moved) in (
         turned,
-        rw (inverse-sum (inverse (f .rotation)) (f .rotation) (vectorOf (x .translation)) (f .translation) (inverse-times (f .rotation) u)) (in-opposite (pointsOf c) (points c) _ back),
+        rw (inverse-sum (inverse (f .rotation)) (f .rotation) (vectorOf (x .translation)) (f .translation) (inverse-times (f .rotation) u))
+            (in-opposite (pointsOf c) (points c) _ back),
       )
 
   -- With L added, they are a group whose translations are L.
@@ -233,7 +256,8 @@ module _ (c : Centering) {l : List Operation} (L : Listing l) (A : Closed c (map
           let maps : MapsInto (pointsOf c) (f .rotation) = rw (a .0) (A .keeps h m .0) in
           (p, o, alike-transitive c (compose f g) (compose h k) p (compose-alike c f h g k maps a b) q)
 
-      inverses : (f : SpaceMotion) → InSet c (map motionOf l) f → (g : SpaceMotion) × InSet c (map motionOf l) g × (compose f g ≡ identity) × (compose g f ≡ identity)
+      inverses : (f : SpaceMotion) → InSet c (map motionOf l) f
+          → (g : SpaceMotion) × InSet c (map motionOf l) g × (compose f g ≡ identity) × (compose g f ≡ identity)
       inverses f (h, m, a) =
           let (g, n, e) = mem-of-map motionOf l m in
           let (x, k, b) = right-inverse g n in

@@ -67,7 +67,8 @@ module _ {A : Type 0} (width : ℕ) (write : A → List ℕ) (wide : (a : A) →
     read-written (a ∷ l) rest back =
         rw (append-assoc (write a) (bytesOf write l) rest)
         (ap₂ (λ (b : A) (r : List A). b ∷ r) (back a (bytesOf write l ++ rest) (here refl))
-        (ap (itemsIn width read (length l)) (drop-at (write a) (bytesOf write l ++ rest) width (wide a)) ∙ read-written l rest (λ b more m. back b more (there m))))
+        (ap (itemsIn width read (length l)) (drop-at (write a) (bytesOf write l ++ rest) width (wide a))
+        ∙ read-written l rest (λ b more m. back b more (there m))))
 
     -- What was read is written as the bytes it was read from, where each item fits.
     pub written-read : (Fits : A → Type 0) → ((b : List ℕ) → Bytes b → width ≤ length b → Fits (read b) → write (read b) ≡ take width b)
@@ -79,5 +80,6 @@ module _ {A : Type 0} (width : ℕ) (write : A → List ℕ) (wide : (a : A) →
         let first : width ≤ length bytes = omega arith in
         let after : width * n ≤ length (drop width bytes) = rw (length-drop width bytes) (omega arith) in
         let whole : width + width * n ≡ width * suc n = omega arith in
-        ap₂ _++_ (forth bytes g first (fit (read bytes) (here refl))) (written-read Fits forth n (drop width bytes) (bytes-left width bytes g) after (λ a m. fit a (there m)))
+        ap₂ _++_ (forth bytes g first (fit (read bytes) (here refl)))
+        (written-read Fits forth n (drop width bytes) (bytes-left width bytes g) after (λ a m. fit a (there m)))
         ∙ sym (take-add width (width * n) bytes) ∙ ap (λ (k : ℕ). take k bytes) whole

@@ -71,7 +71,8 @@ form-layers c o l layers f m =
     subst (λ (h : Operation). LayerMotion (motionOf h)) e (alike-layer c o _ (motionOf g) (smallest-alike c g) (layers g n))
 
 -- Under its small letter a record of a layer is read.
-small-reads : (s : Sign) → isSmall s ≡ true → {l : List Operation} → Listing l → Allowed (latticeOf s) (map motionOf l) → AllOfLayer (listedForm (latticeOf s) l) → (front : List ℕ)
+small-reads : (s : Sign) → isSmall s ≡ true → {l : List Operation} → Listing l → Allowed (latticeOf s) (map motionOf l)
+    → AllOfLayer (listedForm (latticeOf s) l) → (front : List ℕ)
     → readOf (front ++ smallRecord (latticeOf s) l) ≡ acceptedGroup First s (listedForm (latticeOf s) l)
 unfolding smallRecord signedRecord
 small-reads SmallP e L A layers front = reads-back-in First SmallP L A layers front
@@ -126,7 +127,8 @@ module _ (text : List ℕ) (a : layerAnswer text .answer ≡ Group) where
         set = λ m. rw (form-slots, lattice) (form-says m);
       }
 
-  record-reads : (s : Sign) → isSmall s ≡ true → latticeOf s ≡ A .letter → (front : List ℕ) → readOf (front ++ layerTextRecord text) ≡ acceptedGroup First s form
+  record-reads : (s : Sign) → isSmall s ≡ true → latticeOf s ≡ A .letter → (front : List ℕ)
+      → readOf (front ++ layerTextRecord text) ≡ acceptedGroup First s form
   record-reads s small lattice front =
       ap (λ (bytes : List ℕ). readOf (front ++ bytes)) (layer-record-of-list text a)
       ∙ subst (λ (c : Centering). Allowed c (map motionOf (A .operations)) → AllOfLayer (listedForm c (A .operations))
@@ -142,11 +144,13 @@ module _ (text : List ℕ) (a : layerAnswer text .answer ≡ Group) where
 
 -- ---- old software
 -- The letter p or c of a record is none that the lattices have.
-pub old-letter : (front : List ℕ) (c : Centering) (l : List Operation) → 1 ≤ length l → toldBy (rulesOf oldReading) (front ++ smallRecord c l) ≡ not-held WrongLetter
+pub old-letter : (front : List ℕ) (c : Centering) (l : List Operation) → 1 ≤ length l
+    → toldBy (rulesOf oldReading) (front ++ smallRecord c l) ≡ not-held WrongLetter
 unfolding smallRecord recordIn writtenIn
 old-letter front c l some =
     outcome-told (rulesOf oldReading) (meaningOf oldReading) _ _
-    (wrong-letter tt (front ++ body) (smallOf c) (length (listedForm c l)) _ _ enough (sym (append-assoc front body _)) (λ d e. absurd (omega (arith, capital-byte c, capital-byte d, e))))
+    (wrong-letter tt (front ++ body) (smallOf c) (length (listedForm c l)) _ _ enough (sym (append-assoc front body _))
+    (λ d e. absurd (omega (arith, capital-byte c, capital-byte d, e))))
   where
     body : List ℕ
     body = bytesOf (λ (f : Operation). firstEdition .write (itemOf f)) (listedForm c l)
@@ -157,7 +161,8 @@ old-letter front c l some =
         omega (arith, length-append front body, size, form-length c l)
 
 -- So old software answers 32 to the record of an accepted layer symbol, whatever stands before it.
-pub layer-old-software : (text front : List ℕ) → layerAnswer text .answer ≡ Group → toldAnswer (toldBy (rulesOf oldReading) (front ++ layerTextRecord text)) ≡ answer.refused 32 0 tt
+pub layer-old-software : (text front : List ℕ) → layerAnswer text .answer ≡ Group
+    → toldAnswer (toldBy (rulesOf oldReading) (front ++ layerTextRecord text)) ≡ answer.refused 32 0 tt
 layer-old-software text front a =
     let T = capital-accepted text a in
     let allowed = accepted-allowed (T .letter) (T .generators) (T .operations) (T .steps) (T .accepted) in

@@ -1,5 +1,5 @@
--- The record of a layer symbol's text: its bytes under the small letter, and what they say. For two layer symbols they are equal exactly when the sets of motions are,
--- and no layer symbol has the record of a plain one.
+-- The record of a layer symbol's text: its bytes under the small letter, and what they say. For two layer symbols
+-- they are equal exactly when the sets of motions are, and no layer symbol has the record of a plain one.
 use mathlib.Core.Path.{_≡_, refl, sym, _∙_, ap, ap₂}
 use mathlib.Core.Logic.{_↔_}
 use mathlib.Core.Bool.{Bool, cond}
@@ -82,17 +82,20 @@ module _ (text : List ℕ) where
   unfolding orderOf
   order-given n e = by (layerAnswer text .answer) refl e
     where
-      by : (a : Answer) → layerAnswer text .answer ≡ a → orderBy a (layerAnswer text .count) ≡ Is n → (layerAnswer text .answer ≡ Group) × (layerAnswer text .count ≡ n)
+      by : (a : Answer) → layerAnswer text .answer ≡ a → orderBy a (layerAnswer text .count) ≡ Is n
+          → (layerAnswer text .answer ≡ Group) × (layerAnswer text .count ≡ n)
       by Group p q = (p, cc)
       by (Refused r) p q = let z : _≡_ {A = ℕ} 0 1 = cc in absurd (omega arith)
 
   -- A refused symbol is not written.
-  pub record-refused : (out : List ℕ) (start : ℕ) (r : Refusal) → orderOf text ≡ OrderRefused r → (NotWritten r ≡ layerRecordOf text out start) × (out ≡ layerBufferOf text out start)
+  pub record-refused : (out : List ℕ) (start : ℕ) (r : Refusal) → orderOf text ≡ OrderRefused r
+      → (NotWritten r ≡ layerRecordOf text out start) × (out ≡ layerBufferOf text out start)
   unfolding orderOf layerRecordOf layerBufferOf
   record-refused out start r e = by (layerAnswer text .answer) refl e
     where
       by : (a : Answer) → layerAnswer text .answer ≡ a → orderBy a (layerAnswer text .count) ≡ OrderRefused r
-          → (NotWritten r ≡ layerWrittenBy (layerAnswer text .answer) (layerAnswer text .count) start (length out)) × (out ≡ layerPlacedBy (layerAnswer text .answer) out start (layerTextRecord text))
+          → (NotWritten r ≡ layerWrittenBy (layerAnswer text .answer) (layerAnswer text .count) start (length out))
+          × (out ≡ layerPlacedBy (layerAnswer text .answer) out start (layerTextRecord text))
       by Group p q = let z : _≡_ {A = ℕ} 0 1 = cc in absurd (omega arith)
       by (Refused t) p q = let same : t ≡ r = cc in (rw p (ap NotWritten (sym same)), rw p refl)
 
@@ -131,7 +134,8 @@ capital-set text m = (
 pub capital-accepted : (text : List ℕ) → layerAnswer text .answer ≡ Group → AcceptedText (capitalised text)
 capital-accepted text a = accepted-text (capitalised text) (layer-table text a .0)
 
-pub layer-record-of-list : (text : List ℕ) (a : layerAnswer text .answer ≡ Group) → let A = capital-accepted text a in layerTextRecord text ≡ smallRecord (A .letter) (A .operations)
+pub layer-record-of-list : (text : List ℕ) (a : layerAnswer text .answer ≡ Group) → let A = capital-accepted text a in
+    layerTextRecord text ≡ smallRecord (A .letter) (A .operations)
 unfolding layerTextRecord
 layer-record-of-list text a =
     let A = capital-accepted text a in
@@ -184,7 +188,8 @@ layer-records-say-sets a b p q = (
 record-letter : (letter : ℕ) (c : Centering) (l : List Operation) → fromEnd (recordIn firstEdition letter c l) 5 ≡ letter
 unfolding recordIn
 record-letter letter c l =
-    ap (λ (bytes : List ℕ). fromEnd bytes 5) (written-items firstEdition letter (listedForm c l)) ∙ framed-letter firstEdition letter (map itemOf (listedForm c l))
+    ap (λ (bytes : List ℕ). fromEnd bytes 5) (written-items firstEdition letter (listedForm c l))
+    ∙ framed-letter firstEdition letter (map itemOf (listedForm c l))
 
 -- A capital letter's byte is 65 to 90.
 pub capital-byte : (c : Centering) → (65 ≤ byteOf c) × (byteOf c ≤ 90)

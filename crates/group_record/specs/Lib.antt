@@ -31,10 +31,12 @@ pub mod SymbolSets
 pub mod LayerRecords
 pub mod SymbolReading
 pub mod RefusalNumbers
+pub mod WritingNumbers
 pub mod LayerReading
 pub mod Moving
 pub mod OldSoftware
 pub mod Example
+pub mod ExampleText
 -- What the code does with items.
 pub mod Search
 pub mod Found

@@ -89,7 +89,8 @@ module _ (c : Centering) where
   smallest-again t = smallest-same c (smallestOf c t) t .0 (smallest-is c t (smallestOf c t) .1 refl .class)
 
   -- Operations that differ by a translation of L have one smallest form.
-  pub alike-smallest : (f g : Operation) → Entries (matrixOf (f .rotation)) → Entries (matrixOf (g .rotation)) → Alike c (motionOf f) (motionOf g) → smallestOperation c f ≡ smallestOperation c g
+  pub alike-smallest : (f g : Operation) → Entries (matrixOf (f .rotation)) → Entries (matrixOf (g .rotation)) → Alike c (motionOf f) (motionOf g)
+      → smallestOperation c f ≡ smallestOperation c g
   unfolding smallestOperation motionOf
   alike-smallest f g d e (p, q) =
       operation≡ (matrix-injective (f .rotation) (g .rotation) d e p) (smallest-same c (f .translation) (g .translation) .0 q)
@@ -119,7 +120,8 @@ module _ (c : Centering) where
   -- So codes stay different.
   distinct-smallest : {l : List Operation} → Distinct sameCode l → Distinct sameCode (map (smallestOperation c) l)
   distinct-smallest nil = nil
-  distinct-smallest (cons {x} {l} new d) = cons {x = smallestOperation c x} {l = map (smallestOperation c) l} (λ t. new (rw (has-smallest x l) at t)) (distinct-smallest d)
+  distinct-smallest (cons {x} {l} new d) =
+      cons {x = smallestOperation c x} {l = map (smallestOperation c) l} (λ t. new (rw (has-smallest x l) at t)) (distinct-smallest d)
 
 -- A list with each code once is a list without repeats.
 distinct-nodup : {l : List Operation} → Distinct sameCode l → Nodup l
@@ -147,7 +149,8 @@ module _ (c : Centering) where
             (key-decides codeKey _) (key-strict codeKey)
             (key-total codeKey (λ f. Mem f (map (smallestOperation c) l)) told)
             (map (smallestOperation c) l) (λ y m. m) (distinct-nodup (distinct-smallest c (L .distinct)));
-        smallest = λ f m. let (g, k, e) = form-member c l m in rw (← e) (smallest-is c (smallestOf c (g .translation)) (smallestOf c (g .translation)) .1 (sym (smallest-again c (g .translation))));
+        smallest = λ f m. let (g, k, e) = form-member c l m in
+            rw (← e) (smallest-is c (smallestOf c (g .translation)) (smallestOf c (g .translation)) .1 (sym (smallest-again c (g .translation))));
       }
     where
       told : (f g : Operation) → Mem f (map (smallestOperation c) l) → Mem g (map (smallestOperation c) l) → codeOf (f .rotation) ≡ codeOf (g .rotation) → f ≡ g
@@ -157,7 +160,8 @@ module _ (c : Centering) where
   ascending-distinct : {l : List Operation} → Sorted CodeBefore l → Distinct sameCode l
   ascending-distinct sorted-nil = nil
   ascending-distinct (sorted-cons {x} {l} first s) =
-      cons (λ t. let (y, m, e) = has-member sameCode x l t in absurd (omega (arith, first y m, eqb→eq (codeOf (x .rotation)) (codeOf (y .rotation)) e))) (ascending-distinct s)
+      cons (λ t. let (y, m, e) = has-member sameCode x l t in absurd (omega (arith, first y m, eqb→eq (codeOf (x .rotation)) (codeOf (y .rotation)) e)))
+      (ascending-distinct s)
 
   -- So what is in the form is a listing.
   pub form-listing : {l : List Operation} → Form c l → Listing l

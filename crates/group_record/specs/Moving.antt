@@ -63,7 +63,8 @@ unfolding readOf
 read-told bytes = refl
 
 -- The record of what is told, in any edition, reads back as the same group of that edition.
-told-reads-in : (bytes : List ℕ) → Bytes bytes → (t : Told Item Sign Known) → toldBy bothRules bytes ≡ t → groupOf t .answer ≡ Accepted → (edition : Known) (front : List ℕ)
+told-reads-in : (bytes : List ℕ) → Bytes bytes → (t : Told Item Sign Known) → toldBy bothRules bytes ≡ t → groupOf t .answer ≡ Accepted
+    → (edition : Known) (front : List ℕ)
     → readOf (front ++ groupBytes edition (groupOf t)) ≡ inEdition edition (groupOf t)
 unfolding refusedGroup acceptedGroup slots signedRecord
 told-reads-in bytes b (not-held r) p a edition front = let z : _≡_ {A = ℕ} 0 1 = cc in absurd (omega arith)
@@ -73,7 +74,8 @@ told-reads-in bytes b (holds k s items) p a edition front =
     let h = tells-exactly bothReading bytes b k s l .0 (items, p, refl) in
     let same = form-again c (h .form) in
     rw (take-at l (replicate (48 - length l) identityOperation) (length l) refl)
-    (reads-back-in edition s (form-listing c (h .form)) (h .allowed) (subst (LayersIf (isSmall s)) (sym same) (h .further)) front ∙ ap (acceptedGroup edition s) same)
+    (reads-back-in edition s (form-listing c (h .form)) (h .allowed) (subst (LayersIf (isSmall s)) (sym same) (h .further)) front
+    ∙ ap (acceptedGroup edition s) same)
 
 module _ (bytes : List ℕ) (b : Bytes bytes) (accepted : readOf bytes .answer ≡ Accepted) where
   -- Its record in any edition reads back as the same, whatever stands before it.
@@ -94,8 +96,10 @@ module _ (bytes : List ℕ) (b : Bytes bytes) (accepted : readOf bytes .answer �
       → InSet (readOf bytes .centering) (map motionOf (heldOperations (readOf bytes))) m
       ↔ InSet (readOf (front ++ movedBytes bytes) .centering) (map motionOf (heldOperations (readOf (front ++ movedBytes bytes)))) m
   moved-set front m =
-      let same = moved-read front in
-      ((λ h. subst (λ (g : RecordGroup). InSet (g .centering) (map motionOf (heldOperations g)) m) (sym same) h), λ h. subst (λ (g : RecordGroup). InSet (g .centering) (map motionOf (heldOperations g)) m) same h)
+      let same = moved-read front in (
+        (λ h. subst (λ (g : RecordGroup). InSet (g .centering) (map motionOf (heldOperations g)) m) (sym same) h),
+        λ h. subst (λ (g : RecordGroup). InSet (g .centering) (map motionOf (heldOperations g)) m) same h,
+      )
 
   -- Moved twice, it has the bytes that were read: the last ones of the buffer, of either edition.
   pub moved-twice : (front : List ℕ)
@@ -119,7 +123,8 @@ module _ (bytes : List ℕ) (b : Bytes bytes) (accepted : readOf bytes .answer �
 
   -- Where n operations were written, the buffer up to the record's end is read as what was moved.
   pub moved-buffer-read : (out : List ℕ) (start n : ℕ) → movedOf bytes out start ≡ Written n
-      → readOf (take (start + totalLength (widthIn (otherEdition (readOf bytes .edition))) n) (movedBufferOf bytes out start)) ≡ inEdition (otherEdition (readOf bytes .edition)) (readOf bytes)
+      → readOf (take (start + totalLength (widthIn (otherEdition (readOf bytes .edition))) n) (movedBufferOf bytes out start))
+      ≡ inEdition (otherEdition (readOf bytes .edition)) (readOf bytes)
   unfolding writtenAs bufferAs movedBytes
   moved-buffer-read out start n e = by (readOf bytes .answer) accepted e
     where
@@ -130,7 +135,8 @@ module _ (bytes : List ℕ) (b : Bytes bytes) (accepted : readOf bytes .answer �
           → readOf (take (start + totalLength (widthIn other) n) (placedIn out start (groupBytes other (readOf bytes)))) ≡ inEdition other (readOf bytes)
       by-room true room w =
           let count : readOf bytes .count ≡ n = cc in
-          rw (← count, placed-end out start (totalLength (widthIn other) (readOf bytes .count)) (groupBytes other (readOf bytes)) moved-length room) (record-reads-in other (take start out))
+          rw (← count, placed-end out start (totalLength (widthIn other) (readOf bytes .count)) (groupBytes other (readOf bytes)) moved-length room)
+          (record-reads-in other (take start out))
       by-room false room w = let z : _≡_ {A = ℕ} 0 1 = cc in absurd (omega arith)
 
       by : (a : Reading) → a ≡ Accepted → copiedBy a other (readOf bytes .count) start (length out) ≡ Written n
@@ -139,7 +145,8 @@ module _ (bytes : List ℕ) (b : Bytes bytes) (accepted : readOf bytes .answer �
       by (Refused r) p w = let z : _≡_ {A = ℕ} 0 1 = cc in absurd (omega arith)
 
 -- ---- nothing is touched by a refusal
-pub refused-untouched : (moved : Bool) (bytes out : List ℕ) (start number place : ℕ) → Bytes bytes → copyAnswer (writtenAs moved bytes out start) ≡ refused number place tt → bufferAs moved bytes out start ≡ out
+pub refused-untouched : (moved : Bool) (bytes out : List ℕ) (start number place : ℕ) → Bytes bytes
+    → copyAnswer (writtenAs moved bytes out start) ≡ refused number place tt → bufferAs moved bytes out start ≡ out
 unfolding writtenAs bufferAs
 refused-untouched moved bytes out start number place b e = by (readOf bytes .answer) refl e
   where
@@ -154,12 +161,14 @@ refused-untouched moved bytes out start number place b e = by (readOf bytes .ans
         record-in-length (editionOf chosen) _ _ (heldOperations g)
         ∙ ap (totalLength (widthIn chosen)) (length-take-le (g .count) (g .operations) (read-writable bytes g b refl accepted .there))
 
-    by-room : g .answer ≡ Accepted → (r : Bool) → roomBy chosen start (g .count) (length out) ≡ r → copyAnswer (cond r (Written (g .count)) NoRoom) ≡ refused number place tt
+    by-room : g .answer ≡ Accepted → (r : Bool) → roomBy chosen start (g .count) (length out) ≡ r
+        → copyAnswer (cond r (Written (g .count)) NoRoom) ≡ refused number place tt
         → placedIn out start (groupBytes chosen g) ≡ out
     by-room a true room w = let z : _≡_ {A = ℕ} 0 1 = cc in absurd (omega arith)
     by-room a false room w = nothing-placed out start (totalLength (widthIn chosen) (g .count)) (groupBytes chosen g) (size a) room
 
-    by : (a : Reading) → g .answer ≡ a → copyAnswer (copiedBy a chosen (g .count) start (length out)) ≡ refused number place tt → bufferBy a out start (groupBytes chosen g) ≡ out
+    by : (a : Reading) → g .answer ≡ a → copyAnswer (copiedBy a chosen (g .count) start (length out)) ≡ refused number place tt
+        → bufferBy a out start (groupBytes chosen g) ≡ out
     by Accepted p w = by-room p (roomBy chosen start (g .count) (length out)) refl w
     by (Refused r) p w = refl
 
@@ -179,12 +188,15 @@ symbol-record-moved text front a =
     read : readOf (front ++ textRecord text) ≡ acceptedGroup First (Plain (A .letter)) form
     read =
         ap (λ (bytes : List ℕ). readOf (front ++ bytes)) (record-of-list text A)
-        ∙ reads-back (A .letter) (accepted-listing (A .letter) (A .generators) (A .operations) (A .steps) (A .accepted)) (accepted-allowed (A .letter) (A .generators) (A .operations) (A .steps) (A .accepted)) front
+        ∙ reads-back (A .letter) (accepted-listing (A .letter) (A .generators) (A .operations) (A .steps) (A .accepted))
+        (accepted-allowed (A .letter) (A .generators) (A .operations) (A .steps) (A .accepted)) front
 
-    formed : groupBytes (otherEdition (acceptedGroup First (Plain (A .letter)) form .edition)) (acceptedGroup First (Plain (A .letter)) form) ≡ recordBy Third (A .letter) (A .operations)
+    formed : groupBytes (otherEdition (acceptedGroup First (Plain (A .letter)) form .edition)) (acceptedGroup First (Plain (A .letter)) form)
+        ≡ recordBy Third (A .letter) (A .operations)
     formed =
         ap (λ (l : List Operation). recordBy Third (A .letter) l) (take-at form (replicate (48 - length form) identityOperation) (length form) refl)
-        ∙ ap (writtenIn (editionOf Third) (byteOf (A .letter))) (form-again (A .letter) (listed-form (A .letter) (accepted-listing (A .letter) (A .generators) (A .operations) (A .steps) (A .accepted))))
+        ∙ ap (writtenIn (editionOf Third) (byteOf (A .letter)))
+        (form-again (A .letter) (listed-form (A .letter) (accepted-listing (A .letter) (A .generators) (A .operations) (A .steps) (A .accepted))))
 
 -- So for two accepted texts: one moved record, exactly if one set of motions.
 pub moved-records-say-sets : (a b front other : List ℕ) → symbolAnswer a .answer ≡ Group → symbolAnswer b .answer ≡ Group

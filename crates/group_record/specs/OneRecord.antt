@@ -48,7 +48,8 @@ pub operation-of-item : (f : Operation) → Entries (matrixOf (f .rotation)) →
 unfolding operationOfItem
 operation-of-item f e =
     operation≡
-    (rw (lt-ltb (codeOf (f .rotation)) 19683 (code-lt (f .rotation) (digits-entries (f .rotation) .1 e))) (rotation-code (f .rotation) (digits-entries (f .rotation) .1 e)))
+    (rw (lt-ltb (codeOf (f .rotation)) 19683 (code-lt (f .rotation) (digits-entries (f .rotation) .1 e)))
+    (rotation-code (f .rotation) (digits-entries (f .rotation) .1 e)))
     refl
 
 -- An operation's bytes say the operation.
@@ -93,7 +94,8 @@ module _ (E : Edition Item) where
     -- So equal bytes have one letter's byte and the same operations.
     pub written-injective : (a b : ℕ) (c d : Centering) (l k : List Operation) → Form c l → Form d k → writtenIn E a l ≡ writtenIn E b k → (a ≡ b) × (l ≡ k)
     written-injective a b c d l k F K e =
-        let (p, q) = framed-injective E a b (map itemOf l) (map itemOf k) (form-fits c l F) (form-fits d k K) (sym (written-items a l) ∙ e ∙ written-items b k) in
+        let (p, q) =
+        framed-injective E a b (map itemOf l) (map itemOf k) (form-fits c l F) (form-fits d k K) (sym (written-items a l) ∙ e ∙ written-items b k) in
         (p, sym (operations-of-items l (F .entries)) ∙ ap (map operationOfItem) q ∙ operations-of-items k (K .entries))
 
 -- A record's length by its edition,
@@ -121,14 +123,17 @@ abbrev pub translationBy : Vector → SpaceMotion
 translationBy v = record { rotation = unit; translation = v }
 
 -- The pure translations of a listing that holds the identity are L.
-pub pure-translations : (c : Centering) {l : List Operation} → Listing l → Mem identityOperation l → (v : Vector) → InSet c (map motionOf l) (translationBy v) ↔ InLattice (pointsOf c) v
+pub pure-translations : (c : Centering) {l : List Operation} → Listing l → Mem identityOperation l → (v : Vector)
+    → InSet c (map motionOf l) (translationBy v) ↔ InLattice (pointsOf c) v
 unfolding motionOf
 pure-translations c {l} L one v = (forth, back)
   where
     here-identity : (g : Operation) → Mem g l → matrixOf (g .rotation) ≡ unit → motionOf g ≡ identity
     here-identity g m e =
         let unit-matrix : matrixOf (identityOperation .rotation) ≡ unit = ap (λ (f : SpaceMotion). f .rotation) identity-motion in
-        let same = told-by-rotation L m one (matrix-injective (g .rotation) (identityOperation .rotation) (L .entries g m) (L .entries identityOperation one) (e ∙ sym unit-matrix)) in
+        let same =
+        told-by-rotation L m one
+        (matrix-injective (g .rotation) (identityOperation .rotation) (L .entries g m) (L .entries identityOperation one) (e ∙ sym unit-matrix)) in
         ap motionOf same ∙ identity-motion
 
     near : (k : SpaceMotion) → k ≡ identity → Congruent (pointsOf c) v (k .translation) → InLattice (pointsOf c) v
@@ -144,7 +149,8 @@ pure-translations c {l} L one v = (forth, back)
     back h = (identity, mem-cast (sym identity-motion) (mem-map motionOf one), (refl, rw (from-origin v) h))
 
 -- Every listed operation, in its smallest form, is told by the set.
-same-forms : (c : Centering) {l k : List Operation} → Listing l → Listing k → ((m : SpaceMotion) → InSet c (map motionOf l) m → InSet c (map motionOf k) m) → (f : Operation) → Mem f (listedForm c l) → Mem f (listedForm c k)
+same-forms : (c : Centering) {l k : List Operation} → Listing l → Listing k → ((m : SpaceMotion) → InSet c (map motionOf l) m → InSet c (map motionOf k) m)
+    → (f : Operation) → Mem f (listedForm c l) → Mem f (listedForm c k)
 same-forms c {l} {k} L K into f m =
     let (g, n, e) = form-member c l m in
     let (a, h, near) = into (motionOf g) (motionOf g, mem-map motionOf n, alike-reflexive c (motionOf g)) in
@@ -159,7 +165,8 @@ set-cast : (c d : Centering) (l k : List Operation) (m : SpaceMotion) → c ≡ 
 set-cast c d l k m p q h = subst (λ e. InSet e (map motionOf k) m) p (subst (λ a. InSet c (map motionOf a) m) q h)
 
 -- Records of one edition are equal byte for byte exactly when the sets of motions are: under letters of which equal bytes mean equal lattices, and back.
-pub one-record-in : (E : Edition Item) → ((i : Item) → InRange i → E .Fits i) → (a b : ℕ) (c d : Centering) (l k : List Operation) → (a ≡ b → c ≡ d) → (c ≡ d → a ≡ b)
+pub one-record-in : (E : Edition Item) → ((i : Item) → InRange i → E .Fits i) → (a b : ℕ) (c d : Centering) (l k : List Operation) → (a ≡ b → c ≡ d)
+    → (c ≡ d → a ≡ b)
     → Listing l → Listing k → Mem identityOperation l → Mem identityOperation k
     → (recordIn E a c l ≡ recordIn E b d k) ↔ ((m : SpaceMotion) → InSet c (map motionOf l) m ↔ InSet d (map motionOf k) m)
 unfolding recordIn

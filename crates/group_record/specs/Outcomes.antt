@@ -75,9 +75,10 @@ five-of (p ∷ q ∷ r ∷ s ∷ t ∷ u ∷ b) h = absurd (omega arith)
 
 -- ---- what the tests mean
 -- What 34 asks of items: each is one under the letter, and keys ascend.
-pub record Good {Item Letter Kind : Type 0} (R : Rules Item Letter Kind) (IsItem : Letter → Item → Type 0) (k : Kind) (c : Letter) (items : List Item) : Type 0 where
-  pub each : (i : Item) → Mem i items → IsItem c i
-  pub ascend : Sorted (λ (i j : Item). R .edition k .key i < R .edition k .key j) items
+pub record Good {Item Letter Kind : Type 0} (R : Rules Item Letter Kind) (IsItem : Letter → Item → Type 0) (k : Kind) (c : Letter) (items : List Item) : Type 0
+  where
+    pub each : (i : Item) → Mem i items → IsItem c i
+    pub ascend : Sorted (λ (i j : Item). R .edition k .key i < R .edition k .key j) items
 
 -- What the tests of a reading say, and that no record is under its least length.
 pub record Meaning {Item Letter Kind : Type 0} (R : Rules Item Letter Kind) : Type 1 where
@@ -125,7 +126,8 @@ module _ {Item Letter Kind : Type 0} (R : Rules Item Letter Kind) (W : Meaning R
         → bytes ≡ front ++ five k letter n high low → ((c : Letter) → ¬ (letter ≡ R .byte c)) → Outcome bytes (refused WrongLetter)
     -- 33: count or length wrong
     wrong-length : (k : Kind) (c : Letter) (front : List ℕ) (n high low : ℕ) → R .least ≤ length front + 5
-        → bytes ≡ front ++ five k (R .byte c) n high low → ¬ Counted (widthOf k) (R .limit) n (high * 256 + low) (length bytes) → Outcome bytes (refused WrongLength)
+        → bytes ≡ front ++ five k (R .byte c) n high low → ¬ Counted (widthOf k) (R .limit) n (high * 256 + low) (length bytes)
+        → Outcome bytes (refused WrongLength)
     -- 34: an item wrong, or keys that do not ascend
     wrong-item : (k : Kind) (c : Letter) (front body : List ℕ) (n : ℕ) → 1 ≤ n → n ≤ R .limit → length body ≡ widthOf k * n
         → bytes ≡ front ++ (body ++ trailerOf k c n) → ¬ GoodBy k c (firstItems k n (body ++ trailerOf k c n)) → Outcome bytes (refused WrongItem)
@@ -144,12 +146,15 @@ module _ {Item Letter Kind : Type 0} (R : Rules Item Letter Kind) (W : Meaning R
         let (p, q) = both-true (all (R .isItem c) items) _ .0 e in
         record {
           each = λ i m. W .item-test c i .0 (all-true (R .isItem c) items .0 p i m);
-          ascend = ascending-sorted (λ (i j : Item). R .edition k .key i < R .edition k .key j) (λ i. Mem i items) (keyBefore R k) (key-decides (R .edition k .key) _) (key-strict (R .edition k .key)) items (λ i m. m) q;
+          ascend =
+              ascending-sorted (λ (i j : Item). R .edition k .key i < R .edition k .key j) (λ i. Mem i items) (keyBefore R k)
+              (key-decides (R .edition k .key) _) (key-strict (R .edition k .key)) items (λ i m. m) q;
         }),
     λ g.
         both-true (all (R .isItem c) items) _ .1 (
           all-true (R .isItem c) items .1 (λ i m. W .item-test c i .1 (g .each i m)),
-          sorted-ascending (λ (i j : Item). R .edition k .key i < R .edition k .key j) (λ i. Mem i items) (keyBefore R k) (key-decides (R .edition k .key) _) (λ i m. m) (g .ascend),
+          sorted-ascending (λ (i j : Item). R .edition k .key i < R .edition k .key j) (λ i. Mem i items) (keyBefore R k) (key-decides (R .edition k .key) _)
+              (λ i m. m) (g .ascend),
         ),
   )
 
@@ -188,7 +193,8 @@ module _ {Item Letter Kind : Type 0} (R : Rules Item Letter Kind) (W : Meaning R
   -- The letter's byte and the edition's number lead to count and length.
   told-counted : (k : Kind) (c : Letter) (front : List ℕ) (n high low : ℕ) → R .least ≤ length front + 5
       → toldBy R (front ++ five k (R .byte c) n high low)
-      ≡ cond (lengthFits (widthOf k) (R .limit) n (high * 256 + low) (length (front ++ five k (R .byte c) n high low))) (itemsTold R k c (lastItems R k n (front ++ five k (R .byte c) n high low))) (refused WrongLength)
+      ≡ cond (lengthFits (widthOf k) (R .limit) n (high * 256 + low) (length (front ++ five k (R .byte c) n high low)))
+      (itemsTold R k c (lastItems R k n (front ++ five k (R .byte c) n high low))) (refused WrongLength)
   told-counted k c front n high low h =
       let bytes = front ++ five k (R .byte c) n high low in
       told-edition front (R .byte c) (R .edition k .number) n high low h
@@ -201,7 +207,8 @@ module _ {Item Letter Kind : Type 0} (R : Rules Item Letter Kind) (W : Meaning R
   told-body : (k : Kind) (c : Letter) (front body : List ℕ) (n : ℕ) → 1 ≤ n → n ≤ R .limit → length body ≡ widthOf k * n
       → toldBy R (front ++ (body ++ trailerOf k c n)) ≡ itemsTold R k c (firstItems k n (body ++ trailerOf k c n))
   told-body k c front body n one few wide =
-      ap (toldBy R) (sym (append-assoc front body rest)) ∙ told-counted k c (front ++ body) n _ _ enough ∙ rw fits (ap (λ (b : List ℕ). itemsTold R k c (firstItems k n b)) behind)
+      ap (toldBy R) (sym (append-assoc front body rest)) ∙ told-counted k c (front ++ body) n _ _ enough
+      ∙ rw fits (ap (λ (b : List ℕ). itemsTold R k c (firstItems k n b)) behind)
     where
       rest : List ℕ
       rest = trailerOf k c n
@@ -212,7 +219,8 @@ module _ {Item Letter Kind : Type 0} (R : Rules Item Letter Kind) (W : Meaning R
       enough : R .least ≤ length (front ++ body) + 5
       enough = omega (arith, length-append front body, wide, W .long-enough k, one-shortest (widthOf k) n one)
 
-      fits : lengthFits (widthOf k) (R .limit) n (totalLength (widthOf k) n / 256 * 256 + totalLength (widthOf k) n % 256) (length ((front ++ body) ++ rest)) ≡ true
+      fits : lengthFits (widthOf k) (R .limit) n (totalLength (widthOf k) n / 256 * 256 + totalLength (widthOf k) n % 256) (length ((front ++ body) ++ rest))
+          ≡ true
       fits = length-test _ _ _ _ _ .1 (one, few, omega arith, omega (arith, size))
 
       behind : drop (length ((front ++ body) ++ rest) - totalLength (widthOf k) n) ((front ++ body) ++ rest) ≡ body ++ rest
@@ -221,11 +229,13 @@ module _ {Item Letter Kind : Type 0} (R : Rules Item Letter Kind) (W : Meaning R
           ap (drop (length ((front ++ body) ++ rest) - totalLength (widthOf k) n)) (append-assoc front body rest) ∙ drop-at front (body ++ rest) _ place
 
   -- So the record of items that fit is read as these items.
-  told-record : (k : Kind) (c : Letter) (front : List ℕ) (items : List Item) → 1 ≤ length items → length items ≤ R .limit → ((i : Item) → Mem i items → R .edition k .Fits i)
+  told-record : (k : Kind) (c : Letter) (front : List ℕ) (items : List Item) → 1 ≤ length items → length items ≤ R .limit
+      → ((i : Item) → Mem i items → R .edition k .Fits i)
       → toldBy R (front ++ record-bytes k c items) ≡ itemsTold R k c items
   unfolding framed
   told-record k c front items one few fit =
-      told-body k c front (bytesOf (R .edition k .write) items) (length items) one few (bytes-length (widthOf k) (R .edition k .write) (R .edition k .wide) items)
+      told-body k c front (bytesOf (R .edition k .write) items) (length items) one few
+      (bytes-length (widthOf k) (R .edition k .write) (R .edition k .wide) items)
       ∙ ap (itemsTold R k c) (framed-items (R .edition k) (R .byte c) items fit)
 
   -- ---- the rules give the reading
@@ -244,7 +254,8 @@ module _ {Item Letter Kind : Type 0} (R : Rules Item Letter Kind) (W : Meaning R
   outcome-told bytes t (wrong-item k c front body n one few wide e wrong) =
       ap (toldBy R) e ∙ told-body k c front body n one few wide ∙ rw (fails _ (good-test k c _) wrong)
   outcome-told bytes t (not-allowed k c front items one few e g wrong) =
-      ap (toldBy R) e ∙ told-record k c front items one few (good-fit k c items g) ∙ rw (good-test k c items .1 g, fails _ (W .allowed-test k c items g one few) wrong)
+      ap (toldBy R) e ∙ told-record k c front items one few (good-fit k c items g)
+      ∙ rw (good-test k c items .1 g, fails _ (W .allowed-test k c items g one few) wrong)
   outcome-told bytes t (accepted k c front items one few e g a) =
       ap (toldBy R) e ∙ told-record k c front items one few (good-fit k c items g) ∙ rw (good-test k c items .1 g, W .allowed-test k c items g one few .1 a)
 
@@ -299,7 +310,8 @@ module _ {Item Letter Kind : Type 0} (R : Rules Item Letter Kind) (W : Meaning R
     items-bytes g =
         buffer-is
         ∙ ap₂ (λ (b : List ℕ) (m : ℕ). take start buffer ++ (b ++ trailerOf k c m))
-        (sym (written-read (widthOf k) (R .edition k .write) (R .edition k .wide) (R .edition k .read) (R .edition k .Fits) (R .edition k .back) n (drop start buffer) (bytes-left start buffer bytes) enough-bytes (good-fit k c itemsThere g)))
+        (sym (written-read (widthOf k) (R .edition k .write) (R .edition k .wide) (R .edition k .read) (R .edition k .Fits) (R .edition k .back) n
+        (drop start buffer) (bytes-left start buffer bytes) enough-bytes (good-fit k c itemsThere g)))
         (sym items-count)
 
     -- What the items decide.
@@ -314,10 +326,14 @@ module _ {Item Letter Kind : Type 0} (R : Rules Item Letter Kind) (W : Meaning R
         few-there = rw items-count (counted .1)
 
         by-group : GoodBy k c itemsThere → (b : Bool) → R .isAllowed c itemsThere ≡ b → Outcome buffer (cond b (holds k c itemsThere) (refused NotAllowed))
-        by-group g true e = accepted k c (take start buffer) itemsThere some-there few-there (items-bytes g) g (W .allowed-test k c itemsThere g some-there few-there .0 e)
-        by-group g false e = not-allowed k c (take start buffer) itemsThere some-there few-there (items-bytes g) g (failed _ (W .allowed-test k c itemsThere g some-there few-there) e)
+        by-group g true e =
+            accepted k c (take start buffer) itemsThere some-there few-there (items-bytes g) g (W .allowed-test k c itemsThere g some-there few-there .0 e)
+        by-group g false e =
+            not-allowed k c (take start buffer) itemsThere some-there few-there (items-bytes g) g
+            (failed _ (W .allowed-test k c itemsThere g some-there few-there) e)
 
-        by-items : (b : Bool) → areGood R k c itemsThere ≡ b → Outcome buffer (cond b (cond (R .isAllowed c itemsThere) (holds k c itemsThere) (refused NotAllowed)) (refused WrongItem))
+        by-items : (b : Bool) → areGood R k c itemsThere ≡ b
+            → Outcome buffer (cond b (cond (R .isAllowed c itemsThere) (holds k c itemsThere) (refused NotAllowed)) (refused WrongItem))
         by-items true e = by-group (good-test k c itemsThere .0 e) (R .isAllowed c itemsThere) refl
         by-items false e =
             wrong-item k c (take start buffer) body n (counted .0) (counted .1) (length-take-le (widthOf k * n) (drop start buffer) enough-bytes) buffer-is
@@ -328,18 +344,21 @@ module _ {Item Letter Kind : Type 0} (R : Rules Item Letter Kind) (W : Meaning R
       → Outcome (front ++ lastFive letter edition n high low) (toldBy R (front ++ lastFive letter edition n high low))
   unfolding editionTold letteredTold
   outcome-trailer front letter edition n high low h bytes =
-      subst (Outcome (front ++ lastFive letter edition n high low)) (sym (told-edition front letter edition n high low h)) (by-edition (R .editions .from edition) refl)
+      subst (Outcome (front ++ lastFive letter edition n high low)) (sym (told-edition front letter edition n high low h))
+      (by-edition (R .editions .from edition) refl)
     where
       by-length : (k : Kind) (c : Letter) → letter ≡ R .byte c → edition ≡ R .edition k .number
           → Outcome (front ++ lastFive letter edition n high low) (letteredTold R k (some c) (front ++ lastFive letter edition n high low))
       by-length k c p q =
           subst (λ (b : List ℕ). Outcome b (letteredTold R k (some c) b)) (ap₂ (λ (a e : ℕ). front ++ lastFive a e n high low) (sym p) (sym q))
           (subst (Outcome (front ++ five k (R .byte c) n high low)) (sym (told-length front (R .byte c) (R .edition k .number) n high low k c))
-          (decide (subst Bytes (ap₂ (λ (a e : ℕ). front ++ lastFive a e n high low) p q) bytes) (lengthFits (widthOf k) (R .limit) n (high * 256 + low) (length (front ++ five k (R .byte c) n high low))) refl))
+          (decide (subst Bytes (ap₂ (λ (a e : ℕ). front ++ lastFive a e n high low) p q) bytes)
+          (lengthFits (widthOf k) (R .limit) n (high * 256 + low) (length (front ++ five k (R .byte c) n high low))) refl))
         where
           decide : Bytes (front ++ five k (R .byte c) n high low) → (b : Bool)
               → lengthFits (widthOf k) (R .limit) n (high * 256 + low) (length (front ++ five k (R .byte c) n high low)) ≡ b
-              → Outcome (front ++ five k (R .byte c) n high low) (cond b (itemsTold R k c (lastItems R k n (front ++ five k (R .byte c) n high low))) (refused WrongLength))
+              → Outcome (front ++ five k (R .byte c) n high low)
+              (cond b (itemsTold R k c (lastItems R k n (front ++ five k (R .byte c) n high low))) (refused WrongLength))
           decide g true e = outcome-items k c front n high low g (length-test _ _ n (high * 256 + low) _ .0 e)
           decide g false e = wrong-length k c front n high low h refl (failed _ (length-test _ _ n (high * 256 + low) _) e)
 
@@ -348,9 +367,11 @@ module _ {Item Letter Kind : Type 0} (R : Rules Item Letter Kind) (W : Meaning R
       by-letter k (some c) p q = by-length k c (R .letters .back letter c p) q
       by-letter k none p q = wrong-letter k front letter n high low h (ap (λ (e : ℕ). front ++ lastFive letter e n high low) q) (nobody (R .letters) letter p)
 
-      by-edition : (o : Option Kind) → R .editions .from edition ≡ o → Outcome (front ++ lastFive letter edition n high low) (editionTold R o (front ++ lastFive letter edition n high low))
+      by-edition : (o : Option Kind) → R .editions .from edition ≡ o
+          → Outcome (front ++ lastFive letter edition n high low) (editionTold R o (front ++ lastFive letter edition n high low))
       by-edition (some k) e =
-          subst (Outcome (front ++ lastFive letter edition n high low)) (sym (told-letter front letter edition n high low k)) (by-letter k (R .letters .from letter) refl (R .editions .back edition k e))
+          subst (Outcome (front ++ lastFive letter edition n high low)) (sym (told-letter front letter edition n high low k))
+          (by-letter k (R .letters .from letter) refl (R .editions .back edition k e))
       by-edition none e = wrong-edition front letter edition n high low h refl (nobody (R .editions) edition e)
 
   -- Every buffer is read as the rules say.
@@ -358,7 +379,9 @@ module _ {Item Letter Kind : Type 0} (R : Rules Item Letter Kind) (W : Meaning R
   unfolding toldBy
   told-outcome bytes g = elim (decLt (length bytes) (R .least)) [
     | yes h ↦ rw (lt-ltb (length bytes) (R .least) h) (too-short h)
-    | no h ↦ subst (λ (b : List ℕ). Outcome b (toldBy R b)) (sym (split h)) (outcome-trailer front (at 0) (at 1) (at 2) (at 3) (at 4) (front-long h) (subst Bytes (split h) g))
+    | no h ↦
+        subst (λ (b : List ℕ). Outcome b (toldBy R b)) (sym (split h))
+        (outcome-trailer front (at 0) (at 1) (at 2) (at 3) (at 4) (front-long h) (subst Bytes (split h) g))
   ]
     where
       front : List ℕ
@@ -373,7 +396,8 @@ module _ {Item Letter Kind : Type 0} (R : Rules Item Letter Kind) (W : Meaning R
       split : ¬ (length bytes < R .least) → bytes ≡ front ++ lastFive (at 0) (at 1) (at 2) (at 3) (at 4)
       split h =
           let five : length (drop (length bytes - 5) bytes) ≡ 5 = length-drop (length bytes - 5) bytes ∙ omega (arith, W .trailer-there) in
-          sym (take-append-drop (length bytes - 5) bytes) ∙ ap (λ (b : List ℕ). take (length bytes - 5) bytes ++ b) (five-of (drop (length bytes - 5) bytes) five)
+          sym (take-append-drop (length bytes - 5) bytes)
+          ∙ ap (λ (b : List ℕ). take (length bytes - 5) bytes ++ b) (five-of (drop (length bytes - 5) bytes) five)
 
   -- The reading is the rules: each refusal is given, and each record read, exactly when they say so.
   pub told-exactly : (bytes : List ℕ) → Bytes bytes → (t : Told Item Letter Kind) → (toldBy R bytes ≡ t) ↔ Outcome bytes t

@@ -1,5 +1,5 @@
--- What the tests of the reading say of items, operations and motions: refusal 34 is given exactly where the items are not those of operations in the listed form,
--- and refusal 35 exactly where these are not allowed.
+-- What the tests of the reading say of items, operations and motions: refusal 34 is given exactly where the
+-- items are not those of operations in the listed form, and refusal 35 exactly where these are not allowed.
 use mathlib.Core.Path.{_≡_, refl, sym, _∙_, ap, ap₂, subst}
 use mathlib.Core.Logic.{_↔_}
 use mathlib.Core.Bool.{Bool, true, false, _&&_, true≢false}
@@ -57,7 +57,8 @@ item-test c i = (forth, back)
 
     back : (i .code < 19683) × Smallest c (i .translation) (i .translation) → isItem c i ≡ true
     back (h, s) =
-        let same : tripleOf (smallestOf c (i .translation)) ≡ tripleOf (i .translation) = ap tripleOf (sym (smallest-is c (i .translation) (i .translation) .0 s)) in
+        let same : tripleOf (smallestOf c (i .translation)) ≡ tripleOf (i .translation) =
+        ap tripleOf (sym (smallest-is c (i .translation) (i .translation) .0 s)) in
         let (x, y, z) = s .below in
         both-true (ltb (i .code) 19683) _ .1 (
           lt-ltb (i .code) 19683 h,
@@ -68,7 +69,8 @@ item-test c i = (forth, back)
         )
 
 -- The smallest triple of a class is below 12, so the comparison with it decides.
-pub item-by-smallest : (c : Centering) (i : Item) → i .code < 19683 → sameTriple (tripleOf (smallestOf c (i .translation))) (tripleOf (i .translation)) ≡ isItem c i
+pub item-by-smallest : (c : Centering) (i : Item) → i .code < 19683
+    → sameTriple (tripleOf (smallestOf c (i .translation))) (tripleOf (i .translation)) ≡ isItem c i
 unfolding isItem
 item-by-smallest c i h =
     same-test _ _
@@ -141,7 +143,9 @@ congruent-residues c u v w e m =
     mem-cast (reduced-plus u (opposite w) ∙ ap (λ t. t ⊕ reduced (opposite w)) e ∙ sym (reduced-plus v (opposite w))) m
 
 -- Two items are alike exactly if their codes are equal and their translations differ by a vector of L.
-pub alike-test : (c : Centering) (f g : Operation) → (alikeItems c (itemOf f) (itemOf g) ≡ true) ↔ ((codeOf (f .rotation) ≡ codeOf (g .rotation)) × Congruent (pointsOf c) (vectorOf (f .translation)) (vectorOf (g .translation)))
+pub alike-test : (c : Centering) (f g : Operation)
+    → (alikeItems c (itemOf f) (itemOf g) ≡ true) ↔
+    ((codeOf (f .rotation) ≡ codeOf (g .rotation)) × Congruent (pointsOf c) (vectorOf (f .translation)) (vectorOf (g .translation)))
 unfolding alikeItems
 alike-test c f g = (
   (λ e.
@@ -151,22 +155,28 @@ alike-test c f g = (
 )
 
 -- An item is among those of a list up to L exactly if an operation of the list is alike.
-listed-test : (c : Centering) (l : List Operation) (f : Operation) → (has (alikeItems c) (itemOf f) (map itemOf l) ≡ true) ↔ ((g : Operation) × Mem g l × (codeOf (f .rotation) ≡ codeOf (g .rotation)) × Congruent (pointsOf c) (vectorOf (f .translation)) (vectorOf (g .translation)))
+listed-test : (c : Centering) (l : List Operation) (f : Operation)
+    → (has (alikeItems c) (itemOf f) (map itemOf l) ≡ true) ↔ ((g : Operation) × Mem g l × (codeOf (f .rotation) ≡ codeOf (g .rotation))
+    × Congruent (pointsOf c) (vectorOf (f .translation)) (vectorOf (g .translation)))
 listed-test c l f = (forth, λ (g, m, p, q). has-true (alikeItems c) (itemOf f) (map itemOf l) .1 (itemOf g, mem-map itemOf m, alike-test c f g .1 (p, q)))
   where
-    forth : has (alikeItems c) (itemOf f) (map itemOf l) ≡ true → (g : Operation) × Mem g l × (codeOf (f .rotation) ≡ codeOf (g .rotation)) × Congruent (pointsOf c) (vectorOf (f .translation)) (vectorOf (g .translation))
+    forth : has (alikeItems c) (itemOf f) (map itemOf l) ≡ true
+        → (g : Operation) × Mem g l × (codeOf (f .rotation) ≡ codeOf (g .rotation))
+        × Congruent (pointsOf c) (vectorOf (f .translation)) (vectorOf (g .translation))
     forth e =
         let (i, m, t) = has-true (alikeItems c) (itemOf f) (map itemOf l) .0 e in
         let (g, k, q) = mem-of-map itemOf l m in
         let (p, r) = alike-test c f g .0 (rw q t) in
         (g, k, p, r)
 
-product-within : (f g : Operation) → Entries (compose (motionOf f) (motionOf g) .rotation) → productOf f g ≡ Inside (operationOf (compose (motionOf f) (motionOf g)))
+product-within : (f g : Operation) → Entries (compose (motionOf f) (motionOf g) .rotation)
+    → productOf f g ≡ Inside (operationOf (compose (motionOf f) (motionOf g)))
 unfolding productOf
 product-within f g inside = rw (all-entries (compose (motionOf f) (motionOf g) .rotation) .1 inside)
 
 -- A product is listed exactly if the composed motion is, modulo L.
-pub product-test : (c : Centering) (l : List Operation) → ((f : Operation) → Mem f l → Entries (matrixOf (f .rotation))) → (f g : Operation) → (productListed c (map itemOf l) (productOf f g) ≡ true) ↔ ((h : Operation) × Mem h l × Alike c (compose (motionOf f) (motionOf g)) (motionOf h))
+pub product-test : (c : Centering) (l : List Operation) → ((f : Operation) → Mem f l → Entries (matrixOf (f .rotation))) → (f g : Operation)
+    → (productListed c (map itemOf l) (productOf f g) ≡ true) ↔ ((h : Operation) × Mem h l × Alike c (compose (motionOf f) (motionOf g)) (motionOf h))
 unfolding motionOf
 product-test c l entries f g = (λ e. forth (productOf f g) refl e, back)
   where
@@ -178,15 +188,30 @@ product-test c l entries f g = (λ e. forth (productOf f g) refl e, back)
     forth (Inside k) e t =
         let (inside, reduces) = product-inside f g k e in
         let (h, n, p, q) = listed-test c l k .0 t in
-        let same = code-matrix (k .rotation) (h .rotation) (rw (reduces .rotation) inside) (entries h n) p in
-        (h, n, (sym (reduces .rotation) ∙ ap matrixOf same, congruent-residues c (m .translation) (vectorOf (k .translation)) (vectorOf (h .translation)) (sym (reduces .translation)) q))
+        let same = code-matrix (k .rotation) (h .rotation) (rw (reduces .rotation) inside) (entries h n) p in (
+          h,
+          n,
+          (
+            sym (reduces .rotation) ∙ ap matrixOf same,
+            congruent-residues c (m .translation) (vectorOf (k .translation)) (vectorOf (h .translation))
+                (sym (reduces .translation)) q,
+          ),
+        )
 
     back : (h : Operation) × Mem h l × Alike c m (motionOf h) → productListed c (map itemOf l) (productOf f g) ≡ true
     back (h, n, (p, q)) =
         let inside : Entries (m .rotation) = rw p (entries h n) in
         let reduces = operation-reduces m inside in
-        let same : operationOf m .rotation ≡ h .rotation = matrix-injective (operationOf m .rotation) (h .rotation) (rw (reduces .rotation) inside) (entries h n) (reduces .rotation ∙ p) in
-        rw (is-inside inside) (listed-test c l (operationOf m) .1 (h, n, ap codeOf same, congruent-residues c (vectorOf (operationOf m .translation)) (m .translation) (vectorOf (h .translation)) (reduces .translation) q))
+        let same : operationOf m .rotation ≡ h .rotation =
+        matrix-injective (operationOf m .rotation) (h .rotation) (rw (reduces .rotation) inside) (entries h n) (reduces .rotation ∙ p) in
+        rw (is-inside inside)
+        (listed-test c l (operationOf m) .1 (
+          h,
+          n,
+          ap codeOf same,
+          congruent-residues c (vectorOf (operationOf m .translation)) (m .translation) (vectorOf (h .translation))
+              (reduces .translation) q,
+        ))
       where
         is-inside : Entries (m .rotation) → productOf f g ≡ Inside (operationOf m)
         is-inside inside = product-within f g inside
@@ -211,27 +236,36 @@ origin-smallest c =
     none-before t (by-y p q) = omega arith
     none-before t (by-z p q r) = omega arith
 
-pub identity-test : (c : Centering) (l : List Operation) → Form c l → (has (alikeItems c) (itemOf identityOperation) (map itemOf l) ≡ true) ↔ Mem identityOperation l
+pub identity-test : (c : Centering) (l : List Operation) → Form c l
+    → (has (alikeItems c) (itemOf identityOperation) (map itemOf l) ≡ true) ↔ Mem identityOperation l
 identity-test c l F = (
   (λ e.
       let (g, m, p, q) = listed-test c l identityOperation .0 e in
       let rotations = code-matrix (identityOperation .rotation) (g .rotation) identity-entries (F .entries g m) p in
-      let translations = sym (origin-smallest c) ∙ smallest-same c (identityOperation .translation) (g .translation) .0 q ∙ sym (smallest-is c (g .translation) (g .translation) .0 (F .smallest g m)) in
+      let translations =
+      sym (origin-smallest c) ∙ smallest-same c (identityOperation .translation) (g .translation) .0 q
+      ∙ sym (smallest-is c (g .translation) (g .translation) .0 (F .smallest g m)) in
       mem-cast (operation≡ rotations translations) m),
-  λ m. listed-test c l identityOperation .1 (identityOperation, m, refl, congruent-reflexive (pointsOf c) (points c) (vectorOf (identityOperation .translation))),
+  λ m. listed-test c l identityOperation .1
+      (identityOperation, m, refl, congruent-reflexive (pointsOf c) (points c) (vectorOf (identityOperation .translation))),
 )
 
-pub keeps-test : (c : Centering) (f : Operation) → Entries (matrixOf (f .rotation)) → (keepsItem c (itemOf f) ≡ true) ↔ MapsOnto (pointsOf c) (matrixOf (f .rotation))
+pub keeps-test : (c : Centering) (f : Operation) → Entries (matrixOf (f .rotation))
+    → (keepsItem c (itemOf f) ≡ true) ↔ MapsOnto (pointsOf c) (matrixOf (f .rotation))
 unfolding keepsItem
 keeps-test c f e =
-    let same : keepsOf c (operationOfItem (itemOf f) .rotation) ≡ keepsOf c (f .rotation) = ap (λ (g : Operation). keepsOf c (g .rotation)) (operation-of-item f e) in
+    let same : keepsOf c (operationOfItem (itemOf f) .rotation) ≡ keepsOf c (f .rotation) =
+    ap (λ (g : Operation). keepsOf c (g .rotation)) (operation-of-item f e) in
     ((λ t. keeps-lattice c (f .rotation) .0 (sym same ∙ t) .1), λ m. same ∙ keeps-lattice c (f .rotation) .1 (e, m))
 
-pair-of-operations : (c : Centering) (items : List Item) (f g : Operation) → Entries (matrixOf (f .rotation)) → Entries (matrixOf (g .rotation)) → pairListed c items (itemOf f) (itemOf g) ≡ productListed c items (productOf f g)
+pair-of-operations : (c : Centering) (items : List Item) (f g : Operation) → Entries (matrixOf (f .rotation)) → Entries (matrixOf (g .rotation))
+    → pairListed c items (itemOf f) (itemOf g) ≡ productListed c items (productOf f g)
 unfolding pairListed
 pair-of-operations c items f g d e = ap₂ (λ (h k : Operation). productListed c items (productOf h k)) (operation-of-item f d) (operation-of-item g e)
 
-row-test : (c : Centering) (l : List Operation) → ((f : Operation) → Mem f l → Entries (matrixOf (f .rotation))) → (f : Operation) → Mem f l → (all (pairListed c (map itemOf l) (itemOf f)) (map itemOf l) ≡ true) ↔ ((g : Operation) → Mem g l → (h : Operation) × Mem h l × Alike c (compose (motionOf f) (motionOf g)) (motionOf h))
+row-test : (c : Centering) (l : List Operation) → ((f : Operation) → Mem f l → Entries (matrixOf (f .rotation))) → (f : Operation) → Mem f l
+    → (all (pairListed c (map itemOf l) (itemOf f)) (map itemOf l) ≡ true) ↔
+    ((g : Operation) → Mem g l → (h : Operation) × Mem h l × Alike c (compose (motionOf f) (motionOf g)) (motionOf h))
 row-test c l entries f m = (
   (λ e g k.
       let pair = all-true (pairListed c (map itemOf l) (itemOf f)) (map itemOf l) .0 e (itemOf g) (mem-map itemOf k) in
@@ -243,7 +277,10 @@ row-test c l entries f m = (
 )
 
 -- A member is allowed exactly if its rotation maps L onto L and its products are listed modulo L.
-member-test : (c : Centering) (l : List Operation) → ((f : Operation) → Mem f l → Entries (matrixOf (f .rotation))) → (f : Operation) → Mem f l → (memberAllowed c (map itemOf l) (itemOf f) ≡ true) ↔ (MapsOnto (pointsOf c) (matrixOf (f .rotation)) × ((g : Operation) → Mem g l → (h : Operation) × Mem h l × Alike c (compose (motionOf f) (motionOf g)) (motionOf h)))
+member-test : (c : Centering) (l : List Operation) → ((f : Operation) → Mem f l → Entries (matrixOf (f .rotation))) → (f : Operation) → Mem f l
+    → (memberAllowed c (map itemOf l) (itemOf f) ≡ true) ↔
+    (MapsOnto (pointsOf c) (matrixOf (f .rotation))
+    × ((g : Operation) → Mem g l → (h : Operation) × Mem h l × Alike c (compose (motionOf f) (motionOf g)) (motionOf h)))
 unfolding memberAllowed
 member-test c l entries f m = (
   (λ e.
@@ -253,20 +290,24 @@ member-test c l entries f m = (
 )
 
 -- The test of 35: operations in the listed form, 1 to 48 of them, are allowed.
-pub allowed-test : (c : Centering) (l : List Operation) → Form c l → 1 ≤ length l → length l ≤ 48 → (isAllowed c (map itemOf l) ≡ true) ↔ Allowed c (map motionOf l)
+pub allowed-test : (c : Centering) (l : List Operation) → Form c l → 1 ≤ length l → length l ≤ 48
+    → (isAllowed c (map itemOf l) ≡ true) ↔ Allowed c (map motionOf l)
 unfolding isAllowed motionOf
 allowed-test c l F some few = (forth, back)
   where
-    cast : (a b : SpaceMotion) (f g : Operation) → motionOf f ≡ a → motionOf g ≡ b → (h : SpaceMotion) → Alike c (compose (motionOf f) (motionOf g)) h → Alike c (compose a b) h
+    cast : (a b : SpaceMotion) (f g : Operation) → motionOf f ≡ a → motionOf g ≡ b → (h : SpaceMotion) → Alike c (compose (motionOf f) (motionOf g)) h
+        → Alike c (compose a b) h
     cast a b f g u v h x = rw (← u, ← v) x
 
     forth : isAllowed c (map itemOf l) ≡ true → Allowed c (map motionOf l)
     forth e =
         let (p, q) = both-true (has (alikeItems c) (itemOf identityOperation) (map itemOf l)) _ .0 e in
-        let member : (f : Operation) → Mem f l → _ = λ f m. member-test c l (F .entries) f m .0 (all-true (memberAllowed c (map itemOf l)) (map itemOf l) .0 q (itemOf f) (mem-map itemOf m)) in
+        let member : (f : Operation) → Mem f l → _ =
+        λ f m. member-test c l (F .entries) f m .0 (all-true (memberAllowed c (map itemOf l)) (map itemOf l) .0 q (itemOf f) (mem-map itemOf m)) in
         record {
           count = rw (length-map l motionOf) (some, few);
-          determinant = λ a m. let (f, k, u) = mem-of-map motionOf l m in rw (← u) (onto-unimodular (pointsOf c) (points c) (matrixOf (f .rotation)) (member f k .0));
+          determinant = λ a m. let (f, k, u) = mem-of-map motionOf l m in
+              rw (← u) (onto-unimodular (pointsOf c) (points c) (matrixOf (f .rotation)) (member f k .0));
           keeps = λ a m. let (f, k, u) = mem-of-map motionOf l m in rw (← u) (member f k .0);
           holds-identity = mem-cast (sym identity-motion) (mem-map motionOf (identity-test c l F .0 p));
           product =

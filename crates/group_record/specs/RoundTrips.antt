@@ -1,4 +1,5 @@
--- What was written reads back as the same group, and what was read is written as the same bytes. Both follow from the rules of the reading and from the listed form.
+-- What was written reads back as the same group, and what was read is written as the
+-- same bytes. Both follow from the rules of the reading and from the listed form.
 use mathlib.Core.Path.{_≡_, refl, sym, _∙_, ap, subst, ap₂}
 use mathlib.Core.Logic.{_↔_}
 use mathlib.Core.Bool.{Bool}
@@ -8,7 +9,6 @@ use native.Mathlib.Omega.{arith}
 use lib.ListN.{length, take, length-map, length-append, replicate, drop}
 use lib.Seq.{take-at, drop-at, length-take-le}
 use Rattle.laws.specs.Motion.{SpaceMotion, compose}
-use Rattle.operation.specs.Answer.{given}
 use Rattle.operation.specs.Composed.{identity-motion}
 use Rattle.operation.specs.Meaning.{motionOf}
 use Rattle.operation.specs.Product.{identityOperation}
@@ -20,7 +20,7 @@ use Rattle.group_record.specs.BothEditions.{editionOf, widthIn}
 use Rattle.group_record.specs.Record.{totalLength, smallestOperation, listedForm, writtenIn, recordIn, signedRecord, recordOf}
 use Rattle.group_record.specs.Rules.{Told, holds, toldBy}
 use Rattle.group_record.specs.Rules.{refused as not-held}
-use Rattle.group_record.specs.Reading.{GroupReading, rulesOf, bothReading, bothRules, groupOf, readOf, acceptedGroup, refusedGroup, slots, groupAnswer}
+use Rattle.group_record.specs.Reading.{GroupReading, rulesOf, bothReading, bothRules, groupOf, readOf, acceptedGroup, refusedGroup, slots}
 use Rattle.group_record.specs.Groups.{Alike, InSet, Allowed, Listing, Form}
 use Rattle.group_record.specs.ListedForm.{form-member, member-form, form-length, listed-form, form-listing, form-again, alike-symmetric, alike-transitive, smallest-alike}
 use Rattle.group_record.specs.OneRecord.{operations-of-items, record-in-length}
@@ -36,11 +36,6 @@ use Rattle.group_record.specs.declared.RecordGroup.{RecordGroup}
 use Rattle.group_record.specs.declared.sign.Sign.{Sign}
 use Rattle.group_record.specs.declared.sign.Sign.the-variants.{Plain}
 
--- ---- the answer says the letter and the operations
-pub accepted-answer : (edition : Known) (s : Sign) (l : List Operation) → groupAnswer (acceptedGroup edition s l) ≡ given (isSmall s, latticeOf s, l)
-unfolding acceptedGroup slots
-accepted-answer edition s l = ap (λ (k : List Operation). given (isSmall s, latticeOf s, k)) (take-at l (replicate (48 - length l) identityOperation) (length l) refl)
-
 accepted-says : (edition : Known) (s : Sign) (l : List Operation) → acceptedGroup edition s l .answer ≡ Accepted
 unfolding acceptedGroup
 accepted-says edition s l = refl
@@ -50,8 +45,11 @@ module _ (c : Centering) {l : List Operation} (L : Listing l) (A : Allowed c (ma
   -- A listed motion is alike to one of the listed form, and the other way round.
   into-form : (a : SpaceMotion) → Mem a (map motionOf l) → (b : SpaceMotion) × Mem b (map motionOf (listedForm c l)) × Alike c a b
   into-form a m =
-      let (f, k, e) = mem-of-map motionOf l m in
-      (motionOf (smallestOperation c f), mem-map motionOf (member-form c l k), subst (λ b. Alike c b (motionOf (smallestOperation c f))) e (alike-symmetric c (motionOf (smallestOperation c f)) (motionOf f) (smallest-alike c f)))
+      let (f, k, e) = mem-of-map motionOf l m in (
+        motionOf (smallestOperation c f),
+        mem-map motionOf (member-form c l k),
+        subst (λ b. Alike c b (motionOf (smallestOperation c f))) e (alike-symmetric c (motionOf (smallestOperation c f)) (motionOf f) (smallest-alike c f)),
+      )
 
   out-of-form : (a : SpaceMotion) → Mem a (map motionOf (listedForm c l)) → (b : SpaceMotion) × Mem b (map motionOf l) × Alike c a b
   out-of-form a m =
@@ -73,19 +71,25 @@ module _ (c : Centering) {l : List Operation} (L : Listing l) (A : Allowed c (ma
       unchanged : smallestOperation c identityOperation ≡ identityOperation
       unchanged = ap (λ t. record { rotation = identityOperation .rotation; translation = t }) (origin-smallest c)
 
-      products : (f g : SpaceMotion) → Mem f (map motionOf (listedForm c l)) → Mem g (map motionOf (listedForm c l)) → (h : SpaceMotion) × Mem h (map motionOf (listedForm c l)) × Alike c (compose f g) h
+      products : (f g : SpaceMotion) → Mem f (map motionOf (listedForm c l)) → Mem g (map motionOf (listedForm c l))
+          → (h : SpaceMotion) × Mem h (map motionOf (listedForm c l)) × Alike c (compose f g) h
       products f g m k =
           let (a, n, p) = out-of-form f m in
           let (b, o, q) = out-of-form g k in
           let (h, r, s) = A .product a b n o in
-          let (j, t, u) = into-form h r in
-          (j, t, alike-transitive c (compose f g) h j (alike-transitive c (compose f g) (compose a b) h (compose-alike c f a g b (rw (p .0) (A .keeps a n .0)) p q) s) u)
+          let (j, t, u) = into-form h r in (
+            j,
+            t,
+            alike-transitive c (compose f g) h j
+                (alike-transitive c (compose f g) (compose a b) h (compose-alike c f a g b (rw (p .0) (A .keeps a n .0)) p q) s) u,
+          )
 
 -- ---- there and back, for any reading of groups
 module _ {Sign Kind : Type 0} (G : GroupReading Sign Kind) where
   -- What was written is told, wherever it stands at the end of a buffer of bytes; and it is the same group.
   pub tells-back : (k : Kind) (c : Sign) {l : List Operation} → Listing l → Allowed (G .lattice c) (map motionOf l) → G .Further c (listedForm (G .lattice c) l)
-      → (front : List ℕ) → toldBy (rulesOf G) (front ++ recordIn (G .edition k) (G .byte c) (G .lattice c) l) ≡ holds k c (map itemOf (listedForm (G .lattice c) l))
+      → (front : List ℕ)
+      → toldBy (rulesOf G) (front ++ recordIn (G .edition k) (G .byte c) (G .lattice c) l) ≡ holds k c (map itemOf (listedForm (G .lattice c) l))
   unfolding recordIn
   tells-back k c {l} L A further front =
       holds-told G _ k c (listedForm (G .lattice c) l) (record {
@@ -110,7 +114,8 @@ module _ {Sign Kind : Type 0} (G : GroupReading Sign Kind) where
   holds-again bytes k c l h =
       record {
         front = h .front;
-        same-bytes = h .same-bytes ∙ ap (λ (m : List Operation). h .front ++ writtenIn (G .edition k) (G .byte c) m) (sym (form-again (G .lattice c) (h .form)));
+        same-bytes =
+            h .same-bytes ∙ ap (λ (m : List Operation). h .front ++ writtenIn (G .edition k) (G .byte c) m) (sym (form-again (G .lattice c) (h .form)));
         form = h .form;
         allowed = h .allowed;
         further = h .further;
@@ -119,7 +124,8 @@ module _ {Sign Kind : Type 0} (G : GroupReading Sign Kind) where
 
 -- ---- editions 1 and 3
 -- What was written reads back, wherever it stands at the end of a buffer; and it is the same group.
-pub reads-back-in : (edition : Known) (s : Sign) {l : List Operation} → Listing l → Allowed (latticeOf s) (map motionOf l) → LayersIf (isSmall s) (listedForm (latticeOf s) l) → (front : List ℕ)
+pub reads-back-in : (edition : Known) (s : Sign) {l : List Operation} → Listing l → Allowed (latticeOf s) (map motionOf l)
+    → LayersIf (isSmall s) (listedForm (latticeOf s) l) → (front : List ℕ)
     → readOf (front ++ signedRecord edition s l) ≡ acceptedGroup edition s (listedForm (latticeOf s) l)
 unfolding readOf signedRecord
 reads-back-in edition s {l} L A layers front =
@@ -127,7 +133,8 @@ reads-back-in edition s {l} L A layers front =
     ∙ ap (acceptedGroup edition s) (operations-of-items (listedForm (latticeOf s) l) (listed-form (latticeOf s) L .entries))
 
 -- In edition 1, under a lattice's letter.
-pub reads-back : (c : Centering) {l : List Operation} → Listing l → Allowed c (map motionOf l) → (front : List ℕ) → readOf (front ++ recordOf c l) ≡ acceptedGroup First (Plain c) (listedForm c l)
+pub reads-back : (c : Centering) {l : List Operation} → Listing l → Allowed c (map motionOf l) → (front : List ℕ)
+    → readOf (front ++ recordOf c l) ≡ acceptedGroup First (Plain c) (listedForm c l)
 unfolding signedRecord recordOf
 reads-back c L A front = reads-back-in First (Plain c) L A tt front
 
@@ -152,7 +159,15 @@ written-again bytes g e = by (toldBy bothRules bytes) refl e
     by (holds k s items) p a =
         let l = map operationOfItem items in
         let again = holds-again bothReading bytes k s l (tells-exactly bothReading bytes g k s l .0 (items, p, refl)) in
-        rw (take-at l (replicate (48 - length l) identityOperation) (length l) refl) (record { front = again .front; same-bytes = again .same-bytes; form = again .form; allowed = again .allowed; layers = again .further; group = again .group })
+        rw (take-at l (replicate (48 - length l) identityOperation) (length l) refl)
+        (record {
+          front = again .front;
+          same-bytes = again .same-bytes;
+          form = again .form;
+          allowed = again .allowed;
+          layers = again .further;
+          group = again .group;
+        })
 
 -- ---- what the writer is asked
 -- Operations that may be written: at most 48, there, and a listing.
@@ -191,7 +206,8 @@ accepted-injective a b s t l k e = (
 )
 
 -- What is read as a group are the operations that are told.
-accepted-tells : (bytes : List ℕ) (edition : Known) (s : Sign) (l : List Operation) → readOf bytes ≡ acceptedGroup edition s l → Tells bothReading bytes edition s l
+accepted-tells : (bytes : List ℕ) (edition : Known) (s : Sign) (l : List Operation) → readOf bytes ≡ acceptedGroup edition s l
+    → Tells bothReading bytes edition s l
 unfolding readOf refusedGroup
 accepted-tells bytes edition s l e = by (toldBy bothRules bytes) refl e
   where
@@ -207,12 +223,15 @@ accepted-tells bytes edition s l e = by (toldBy bothRules bytes) refl e
 -- A buffer is read as a group exactly if it ends with the record of allowed operations in the listed form, under a small letter all of a layer.
 pub accepted-exactly : (bytes : List ℕ) → Bytes bytes → (edition : Known) (s : Sign) (l : List Operation)
     → (readOf bytes ≡ acceptedGroup edition s l)
-    ↔ ((front : List ℕ) × (bytes ≡ front ++ writtenIn (editionOf edition) (signByte s) l) × Form (latticeOf s) l × Allowed (latticeOf s) (map motionOf l) × LayersIf (isSmall s) l)
+    ↔ ((front : List ℕ) × (bytes ≡ front ++ writtenIn (editionOf edition) (signByte s) l) × Form (latticeOf s) l × Allowed (latticeOf s) (map motionOf l)
+    × LayersIf (isSmall s) l)
 unfolding readOf
 accepted-exactly bytes g edition s l = (
-  (λ e. let h = tells-exactly bothReading bytes g edition s l .0 (accepted-tells bytes edition s l e) in (h .front, h .same-bytes, h .form, h .allowed, h .further)),
+  (λ e. let h = tells-exactly bothReading bytes g edition s l .0 (accepted-tells bytes edition s l e) in
+      (h .front, h .same-bytes, h .form, h .allowed, h .further)),
   λ (front, e, form, A, layers).
-      let (items, p, q) = tells-exactly bothReading bytes g edition s l .1 (record { front = front; same-bytes = e; form = form; allowed = A; further = layers }) in
+      let (items, p, q) =
+      tells-exactly bothReading bytes g edition s l .1 (record { front = front; same-bytes = e; form = form; allowed = A; further = layers }) in
       ap groupOf p ∙ ap (acceptedGroup edition s) q,
 )
 
@@ -227,5 +246,7 @@ copied-bytes bytes g e =
     let few = length-take-le n (readOf bytes .operations) (read-writable bytes (readOf bytes) g refl e .there) in
     let size : length written ≡ totalLength (widthIn edition) n =
     record-in-length (editionOf edition) _ _ (take n (readOf bytes .operations)) ∙ ap (totalLength (widthIn edition)) few in
-    let place : length (r .front) ≡ length bytes - totalLength (widthIn edition) n = omega (arith, size, length-append (r .front) written, ap length (r .same-bytes)) in
-    sym (ap (drop (length bytes - totalLength (widthIn edition) n)) (r .same-bytes) ∙ drop-at (r .front) written (length bytes - totalLength (widthIn edition) n) place)
+    let place : length (r .front) ≡ length bytes - totalLength (widthIn edition) n =
+    omega (arith, size, length-append (r .front) written, ap length (r .same-bytes)) in
+    sym (ap (drop (length bytes - totalLength (widthIn edition) n)) (r .same-bytes)
+    ∙ drop-at (r .front) written (length bytes - totalLength (widthIn edition) n) place)

@@ -53,7 +53,8 @@ module _ (edition : Known) (n : ℕ) (bytes : List ℕ) where
   unfolding itemAt
   next-item i h =
       drop-cons (itemsOf edition n bytes) i emptyItem (omega (arith, items-count))
-      ∙ ap₂ (λ (a : Item) (r : List Item). a ∷ r) (item-at (widthIn edition) (editionOf edition .read) n bytes i emptyItem h) (ap (λ (k : ℕ). drop k (itemsOf edition n bytes)) (sym (add-one i)))
+      ∙ ap₂ (λ (a : Item) (r : List Item). a ∷ r) (item-at (widthIn edition) (editionOf edition .read) n bytes i emptyItem h)
+      (ap (λ (k : ℕ). drop k (itemsOf edition n bytes)) (sym (add-one i)))
 
   pub none-left : (i : ℕ) → n ≤ i → i ≤ n → drop i (itemsOf edition n bytes) ≡ []
   none-left i h k =
@@ -62,7 +63,8 @@ module _ (edition : Known) (n : ℕ) (bytes : List ℕ) where
 
   -- A test of every item: it goes on, fails, or is done.
   module _ (test : Item → Bool) where
-    pub all-next : (i : ℕ) → i < n → test (itemAt edition bytes i) ≡ true → all test (drop i (itemsOf edition n bytes)) ≡ all test (drop (i + 1) (itemsOf edition n bytes))
+    pub all-next : (i : ℕ) → i < n → test (itemAt edition bytes i) ≡ true
+        → all test (drop i (itemsOf edition n bytes)) ≡ all test (drop (i + 1) (itemsOf edition n bytes))
     unfolding all
     all-next i h e = rw (next-item i h, e)
 
@@ -75,11 +77,13 @@ module _ (edition : Known) (n : ℕ) (bytes : List ℕ) where
     all-end i h k = rw (none-left i h k)
 
   -- The order of neighbours: it goes on, fails, or is done with the last item.
-  pub ascending-next : (i : ℕ) → i + 1 < n → itemBefore (itemAt edition bytes i) (itemAt edition bytes (i + 1)) ≡ true → ascending itemBefore (drop i (itemsOf edition n bytes)) ≡ ascending itemBefore (drop (i + 1) (itemsOf edition n bytes))
+  pub ascending-next : (i : ℕ) → i + 1 < n → itemBefore (itemAt edition bytes i) (itemAt edition bytes (i + 1)) ≡ true
+      → ascending itemBefore (drop i (itemsOf edition n bytes)) ≡ ascending itemBefore (drop (i + 1) (itemsOf edition n bytes))
   unfolding ascending
   ascending-next i h e = rw (next-item i (omega arith), next-item (i + 1) h, e)
 
-  pub ascending-stop : (i : ℕ) → i + 1 < n → itemBefore (itemAt edition bytes i) (itemAt edition bytes (i + 1)) ≡ false → ascending itemBefore (drop i (itemsOf edition n bytes)) ≡ false
+  pub ascending-stop : (i : ℕ) → i + 1 < n → itemBefore (itemAt edition bytes i) (itemAt edition bytes (i + 1)) ≡ false
+      → ascending itemBefore (drop i (itemsOf edition n bytes)) ≡ false
   unfolding ascending
   ascending-stop i h e = rw (next-item i (omega arith), next-item (i + 1) h, e)
 
@@ -94,13 +98,21 @@ module _ (edition : Known) (n : ℕ) (bytes : List ℕ) where
   pub filled-next : (i : ℕ) → i < n → n ≤ 48 → set (filledTo i) i (operationOfItem (itemAt edition bytes i)) ≡ filledTo (i + 1)
   unfolding filledTo itemAt
   filled-next i h few =
-      let long : length (map operationOfItem (take i (itemsOf edition n bytes))) ≡ i = length-map (take i (itemsOf edition n bytes)) operationOfItem ∙ length-take-le i (itemsOf edition n bytes) (omega (arith, items-count)) in
+      let long : length (map operationOfItem (take i (itemsOf edition n bytes))) ≡ i =
+      length-map (take i (itemsOf edition n bytes)) operationOfItem ∙ length-take-le i (itemsOf edition n bytes) (omega (arith, items-count)) in
       let room : 48 - i ≡ suc (48 - (i + 1)) = omega arith in
       let more : take (i + 1) (itemsOf edition n bytes) ≡ take i (itemsOf edition n bytes) ++ (itemAt edition bytes i ∷ []) =
-      ap (λ (k : ℕ). take k (itemsOf edition n bytes)) (add-one i) ∙ take-suc (itemsOf edition n bytes) i emptyItem (omega (arith, items-count)) ∙ ap (λ (a : Item). take i (itemsOf edition n bytes) ++ (a ∷ [])) (item-at (widthIn edition) (editionOf edition .read) n bytes i emptyItem h) in
-      ap (λ (k : ℕ). set (map operationOfItem (take i (itemsOf edition n bytes)) ++ replicate k identityOperation) i (operationOfItem (itemAt edition bytes i))) room
-      ∙ set-at (map operationOfItem (take i (itemsOf edition n bytes))) identityOperation (replicate (48 - (i + 1)) identityOperation) (operationOfItem (itemAt edition bytes i)) i long
-      ∙ sym (ap (λ (l : List Item). map operationOfItem l ++ replicate (48 - (i + 1)) identityOperation) more ∙ ap (λ (l : List Operation). l ++ replicate (48 - (i + 1)) identityOperation) (map-append operationOfItem (take i (itemsOf edition n bytes)) (itemAt edition bytes i ∷ [])) ∙ append-assoc (map operationOfItem (take i (itemsOf edition n bytes))) (operationOfItem (itemAt edition bytes i) ∷ []) (replicate (48 - (i + 1)) identityOperation))
+      ap (λ (k : ℕ). take k (itemsOf edition n bytes)) (add-one i) ∙ take-suc (itemsOf edition n bytes) i emptyItem (omega (arith, items-count))
+      ∙ ap (λ (a : Item). take i (itemsOf edition n bytes) ++ (a ∷ [])) (item-at (widthIn edition) (editionOf edition .read) n bytes i emptyItem h) in
+      ap (λ (k : ℕ). set (map operationOfItem (take i (itemsOf edition n bytes)) ++ replicate k identityOperation) i (operationOfItem (itemAt edition bytes i)))
+      room
+      ∙ set-at (map operationOfItem (take i (itemsOf edition n bytes))) identityOperation (replicate (48 - (i + 1)) identityOperation)
+      (operationOfItem (itemAt edition bytes i)) i long
+      ∙ sym (ap (λ (l : List Item). map operationOfItem l ++ replicate (48 - (i + 1)) identityOperation) more
+      ∙ ap (λ (l : List Operation). l ++ replicate (48 - (i + 1)) identityOperation)
+      (map-append operationOfItem (take i (itemsOf edition n bytes)) (itemAt edition bytes i ∷ []))
+      ∙ append-assoc (map operationOfItem (take i (itemsOf edition n bytes)))
+      (operationOfItem (itemAt edition bytes i) ∷ []) (replicate (48 - (i + 1)) identityOperation))
 
   pub filled-start : filledTo 0 ≡ replicate 48 identityOperation
   unfolding filledTo
@@ -111,19 +123,26 @@ module _ (edition : Known) (n : ℕ) (bytes : List ℕ) where
   unfolding filledTo slots
   filled-end i h k =
       let end : i ≡ n = omega arith in
-      let all-taken : take i (itemsOf edition n bytes) ≡ itemsOf edition n bytes = ap (λ (j : ℕ). take j (itemsOf edition n bytes)) (end ∙ sym items-count) ∙ take-length (itemsOf edition n bytes) in
-      let count : i ≡ length (map operationOfItem (itemsOf edition n bytes)) = end ∙ sym items-count ∙ sym (length-map (itemsOf edition n bytes) operationOfItem) in
+      let all-taken : take i (itemsOf edition n bytes) ≡ itemsOf edition n bytes =
+      ap (λ (j : ℕ). take j (itemsOf edition n bytes)) (end ∙ sym items-count) ∙ take-length (itemsOf edition n bytes) in
+      let count : i ≡ length (map operationOfItem (itemsOf edition n bytes)) =
+      end ∙ sym items-count ∙ sym (length-map (itemsOf edition n bytes) operationOfItem) in
       ap₂ (λ (l : List Item) (j : ℕ). map operationOfItem l ++ replicate (48 - j) identityOperation) all-taken count
 
   pub filled-length : (i : ℕ) → i ≤ n → n ≤ 48 → length (filledTo i) ≡ 48
   unfolding filledTo
   filled-length i h few =
-      let long : length (map operationOfItem (take i (itemsOf edition n bytes))) ≡ i = length-map (take i (itemsOf edition n bytes)) operationOfItem ∙ length-take-le i (itemsOf edition n bytes) (omega (arith, items-count)) in
-      length-append (map operationOfItem (take i (itemsOf edition n bytes))) (replicate (48 - i) identityOperation) ∙ omega (arith, long, length-replicate (48 - i) identityOperation)
+      let long : length (map operationOfItem (take i (itemsOf edition n bytes))) ≡ i =
+      length-map (take i (itemsOf edition n bytes)) operationOfItem ∙ length-take-le i (itemsOf edition n bytes) (omega (arith, items-count)) in
+      length-append (map operationOfItem (take i (itemsOf edition n bytes))) (replicate (48 - i) identityOperation)
+      ∙ omega (arith, long, length-replicate (48 - i) identityOperation)
 
 -- ---- an item's bytes, by their places
 pub first-item-bytes : (bytes : List ℕ) (at : ℕ)
-    → record { code = getD bytes at 0 * 256 + getD bytes (at + 1) 0; translation = record { x = getD bytes (at + 2) 0; y = getD bytes (at + 3) 0; z = getD bytes (at + 4) 0 } }
+    → record {
+      code = getD bytes at 0 * 256 + getD bytes (at + 1) 0;
+      translation = record { x = getD bytes (at + 2) 0; y = getD bytes (at + 3) 0; z = getD bytes (at + 4) 0 };
+    }
     ≡ itemIn (drop at bytes)
 unfolding itemIn
 first-item-bytes bytes at =
@@ -194,9 +213,11 @@ module _ (edition : Known) (c : Sign) (bytes : List ℕ) (n high low : ℕ) (p :
   unfolding countedTold
   counted-fits e =
       rw (← p, ← q, ← r, e)
-      (ap (λ (k : ℕ). readItems edition c (itemsOf edition n (drop (length bytes - k) bytes))) (sym (length-test (widthIn edition) 48 n (high * 256 + low) (length bytes) .0 e .2)))
+      (ap (λ (k : ℕ). readItems edition c (itemsOf edition n (drop (length bytes - k) bytes)))
+      (sym (length-test (widthIn edition) 48 n (high * 256 + low) (length bytes) .0 e .2)))
 
-  pub counted-fails : lengthFits (widthIn edition) 48 n (high * 256 + low) (length bytes) ≡ false → readCounted edition c (fromEnd bytes 3) bytes ≡ refusedGroup WrongLength
+  pub counted-fails : lengthFits (widthIn edition) 48 n (high * 256 + low) (length bytes) ≡ false
+      → readCounted edition c (fromEnd bytes 3) bytes ≡ refusedGroup WrongLength
   unfolding countedTold
   counted-fails e = rw (← p, ← q, ← r, e)
 
@@ -224,7 +245,9 @@ module _ (bytes : List ℕ) where
   unfolding itemsTold areGood
   same-items c items = by (areGood firstRules tt c items) (firstRules .isAllowed c items)
     where
-      by : (good allowed : Bool) → firstGroupOf (cond good (cond allowed (holds tt c items) (refused NotAllowed)) (refused WrongItem)) ≡ groupOf (cond good (cond allowed (holds First c items) (refused NotAllowed)) (refused WrongItem))
+      by : (good allowed : Bool)
+          → firstGroupOf (cond good (cond allowed (holds tt c items) (refused NotAllowed)) (refused WrongItem))
+          ≡ groupOf (cond good (cond allowed (holds First c items) (refused NotAllowed)) (refused WrongItem))
       by true true = refl
       by true false = refl
       by false allowed = refl
@@ -236,7 +259,9 @@ module _ (bytes : List ℕ) where
       items : List Item
       items = lastItems firstRules tt n bytes
 
-      by : (fits : Bool) → firstGroupOf (cond fits (itemsTold firstRules tt c items) (refused WrongLength)) ≡ groupOf (cond fits (itemsTold bothRules First c items) (refused WrongLength))
+      by : (fits : Bool)
+          → firstGroupOf (cond fits (itemsTold firstRules tt c items) (refused WrongLength))
+          ≡ groupOf (cond fits (itemsTold bothRules First c items) (refused WrongLength))
       by true = same-items c items
       by false = refl
 

@@ -80,7 +80,8 @@ spelled-letter b c None e q = let z : _≡_ {A = ℕ} 0 1 = cc in absurd (omega 
 
 -- The letters of the lattices.
 abbrev pub latticeLetters : Spelled byteOf
-latticeLetters = record { from = λ b. letterIn (letterOf b); there = λ c. ap letterIn (letter-by-byte c); back = λ b c e. spelled-letter b c (letterOf b) refl e }
+latticeLetters =
+    record { from = λ b. letterIn (letterOf b); there = λ c. ap letterIn (letter-by-byte c); back = λ b c e. spelled-letter b c (letterOf b) refl e }
 
 abbrev pub letterByte : Bool → Centering → ℕ
 letterByte true c = smallOf c

@@ -75,7 +75,8 @@ module _ (text : List ℕ) (A : AcceptedText text) where
   record-reads : (front : List ℕ) → readOf (front ++ textRecord text) ≡ acceptedGroup First (Plain (A .letter)) form
   record-reads front =
       ap (λ (bytes : List ℕ). readOf (front ++ bytes)) (record-of-list text A)
-      ∙ reads-back (A .letter) (accepted-listing (A .letter) (A .generators) (A .operations) (A .steps) (A .accepted)) (accepted-allowed (A .letter) (A .generators) (A .operations) (A .steps) (A .accepted)) front
+      ∙ reads-back (A .letter) (accepted-listing (A .letter) (A .generators) (A .operations) (A .steps) (A .accepted))
+      (accepted-allowed (A .letter) (A .generators) (A .operations) (A .steps) (A .accepted)) front
 
 -- Every accepted symbol's record is read as the symbol's group, whatever stands before it.
 pub symbol-record-read : (text front : List ℕ) → symbolAnswer text .answer ≡ Group → ReadsAs text (readOf (front ++ textRecord text))
@@ -88,18 +89,23 @@ module _ (text out : List ℕ) (start n : ℕ) where
   text-length A = ap length (record-of-list text A) ∙ record-length (A .letter) (A .operations) ∙ ap (totalLength itemWidth) (sym (A .same-count))
 
   -- An accepted text is written where there is room,
-  by-room : symbolAnswer text .answer ≡ Group → (b : Bool) → roomFor start (symbolAnswer text .count) (length out) ≡ b → cond b (Written (symbolAnswer text .count)) NoRoom ≡ Written n → ReadsAs text (readOf (take (start + totalLength itemWidth n) (placedIn out start (textRecord text))))
+  by-room : symbolAnswer text .answer ≡ Group → (b : Bool) → roomFor start (symbolAnswer text .count) (length out) ≡ b
+      → cond b (Written (symbolAnswer text .count)) NoRoom ≡ Written n
+      → ReadsAs text (readOf (take (start + totalLength itemWidth n) (placedIn out start (textRecord text))))
   by-room a true room e =
       let count : symbolAnswer text .count ≡ n = cc in
-      rw (← count, placed-end out start (totalLength itemWidth (symbolAnswer text .count)) (textRecord text) (text-length (accepted-text text a)) room) (symbol-record-read text (take start out) a)
+      rw (← count, placed-end out start (totalLength itemWidth (symbolAnswer text .count)) (textRecord text) (text-length (accepted-text text a)) room)
+      (symbol-record-read text (take start out) a)
   by-room a false room e = let z : _≡_ {A = ℕ} 0 1 = cc in absurd (omega arith)
 
   -- and a refused one nowhere.
-  by-answer : (a : Answer) → symbolAnswer text .answer ≡ a → writtenBy a (symbolAnswer text .count) start (length out) ≡ Written n → ReadsAs text (readOf (take (start + totalLength itemWidth n) (placedBy a out start (textRecord text))))
+  by-answer : (a : Answer) → symbolAnswer text .answer ≡ a → writtenBy a (symbolAnswer text .count) start (length out) ≡ Written n
+      → ReadsAs text (readOf (take (start + totalLength itemWidth n) (placedBy a out start (textRecord text))))
   by-answer Group a e = by-room a (roomFor start (symbolAnswer text .count) (length out)) refl e
   by-answer (Refused r) a e = let z : _≡_ {A = ℕ} 0 1 = cc in absurd (omega arith)
 
   -- Where n operations were written, the buffer up to the record's end is read as the symbol's group.
-  pub symbol-buffer-read : symbolRecordOf text out start ≡ Written n → ReadsAs text (readOf (take (start + totalLength itemWidth n) (symbolBufferOf text out start)))
+  pub symbol-buffer-read : symbolRecordOf text out start ≡ Written n
+      → ReadsAs text (readOf (take (start + totalLength itemWidth n) (symbolBufferOf text out start)))
   unfolding symbolRecordOf symbolBufferOf
   symbol-buffer-read e = by-answer (symbolAnswer text .answer) refl e

@@ -61,6 +61,7 @@ module _ (text out : List ℕ) (start : ℕ) (g : SymbolGroup) (e : g ≡ symbol
 
   -- The answer to one that is accepted, by whether there was room, and the buffer.
   pub accepted-by : g .answer ≡ Group → (b : Bool) → b ≡ roomFor start (g .count) (length out)
-      → (left : List ℕ) → left ≡ placedIn out start (groupRecord g) → (cond b (Written (g .count)) NoRoom ≡ symbolRecordOf text out start) × (left ≡ symbolBufferOf text out start)
+      → (left : List ℕ) → left ≡ placedIn out start (groupRecord g)
+      → (cond b (Written (g .count)) NoRoom ≡ symbolRecordOf text out start) × (left ≡ symbolBufferOf text out start)
   unfolding symbolRecordOf symbolBufferOf textRecord
   accepted-by a b room left placed = (rw (room, ← e, a), rw (placed, ← e, a))

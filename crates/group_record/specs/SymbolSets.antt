@@ -91,7 +91,8 @@ records-in-say-sets edition a b p q = (
     B : AcceptedText b
     B = accepted-text b q
 
-    one : (recordBy edition (A .letter) (A .operations) ≡ recordBy edition (B .letter) (B .operations)) ↔ ((m : SpaceMotion) → InSet (A .letter) (map motionOf (A .operations)) m ↔ InSet (B .letter) (map motionOf (B .operations)) m)
+    one : (recordBy edition (A .letter) (A .operations) ≡ recordBy edition (B .letter) (B .operations)) ↔
+        ((m : SpaceMotion) → InSet (A .letter) (map motionOf (A .operations)) m ↔ InSet (B .letter) (map motionOf (B .operations)) m)
     one =
         one-record-by edition (A .letter) (B .letter) (A .operations) (B .operations)
         (accepted-listing (A .letter) (A .generators) (A .operations) (A .steps) (A .accepted))
@@ -100,7 +101,8 @@ records-in-say-sets edition a b p q = (
         (accepted-identity (B .letter) (B .generators) (B .operations) (B .steps) (B .accepted))
 
 -- In edition 1, as it is written for a symbol;
-pub records-say-sets : (a b : List ℕ) → symbolAnswer a .answer ≡ Group → symbolAnswer b .answer ≡ Group → (textRecord a ≡ textRecord b) ↔ ((m : SpaceMotion) → InSetOf a m ↔ InSetOf b m)
+pub records-say-sets : (a b : List ℕ) → symbolAnswer a .answer ≡ Group → symbolAnswer b .answer ≡ Group
+    → (textRecord a ≡ textRecord b) ↔ ((m : SpaceMotion) → InSetOf a m ↔ InSetOf b m)
 records-say-sets a b p q = (
   (λ e. records-in-say-sets First a b p q .0 (text-record a ∙ e ∙ sym (text-record b))),
   λ same. sym (text-record a) ∙ records-in-say-sets First a b p q .1 same ∙ text-record b,

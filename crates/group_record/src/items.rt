@@ -20,14 +20,13 @@ pub struct Item {
     pub translation: Translation,
 }
 
-// How many bytes n items take.
-pub(crate) fn items_length(edition: Edition, n: usize) -> usize
-    requires { ⌜ n ≤ 48 ⌝ }
+// How many bytes n items take. A record states its count in a byte.
+pub fn items_length(edition: Edition, n: u8) -> usize
     ensures { λ r. ⌜ r ≡ widthIn edition * n ⌝ }
 {
     match edition {
-        Edition::First => 5 * n,
-        Edition::Third => 4 * n,
+        Edition::First => 5 * (n as usize),
+        Edition::Third => 4 * (n as usize),
     }
 }
 

@@ -172,7 +172,7 @@ fn length_fits(edition: Edition, n: usize, stated: usize, size: usize) -> bool
     if 48 < n {
         return false;
     }
-    let total = items_length(edition, n) + 5;
+    let total = items_length(edition, n as u8) + 5;
     if stated != total {
         return false;
     }

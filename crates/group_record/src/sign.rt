@@ -11,7 +11,7 @@ pub enum Sign {
 }
 
 impl Sign {
-    pub(crate) fn is_small(self) -> bool
+    pub fn is_small(self) -> bool
         ensures { λ r. ⌜ r ≡ isSmall self ⌝ }
     {
         match self {
@@ -21,7 +21,7 @@ impl Sign {
         }
     }
 
-    pub(crate) fn lattice(self) -> Centering
+    pub fn lattice(self) -> Centering
         ensures { λ r. ⌜ r ≡ latticeOf self ⌝ }
     {
         match self {

@@ -42,7 +42,8 @@ module _ (c : Centering) {l : List Operation} (L : Listing l) where
       ∙ sym (place-key turnOf f l) ∙ distinct-place sameCode code-equivalence (L .distinct) f identityOperation k h (eqb-refl (codeOf (f .rotation)))
 
   -- A product that is operation k modulo L has its code there.
-  product-place : (f g : Operation) (k : ℕ) → k < length l → Alike c (compose (motionOf f) (motionOf g)) (motionAt c l k) → (rest : List ℕ) → productPlace (productOf f g) (map turnOf l ++ rest) ≡ k
+  product-place : (f g : Operation) (k : ℕ) → k < length l → Alike c (compose (motionOf f) (motionOf g)) (motionAt c l k) → (rest : List ℕ)
+      → productPlace (productOf f g) (map turnOf l ++ rest) ≡ k
   unfolding productOf operationOf motionOf
   product-place f g k h a rest =
       let m = compose (motionOf f) (motionOf g) in
@@ -61,7 +62,8 @@ module _ (c : Centering) (n : ℕ) (operations : List Operation) (there : n ≤ 
   pub cells-count : length (tableOf c (take n operations)) ≡ n * n
   cells-count = rw (table-length c (take n operations), length-take-le n operations there)
 
-  module _ (L : Listing (take n operations)) (A : Allowed c (map motionOf (take n operations))) (codes : List ℕ) (e : codes ≡ padded 48 0 (map turnOf (take n operations))) (i j : ℕ) (d d′ : Operation) (h : i < n) (k : j < n) where
+  module _ (L : Listing (take n operations)) (A : Allowed c (map motionOf (take n operations))) (codes : List ℕ)
+      (e : codes ≡ padded 48 0 (map turnOf (take n operations))) (i j : ℕ) (d d′ : Operation) (h : i < n) (k : j < n) where
     -- The product of two of them has its code at the index that the table has in its cell,
     pub cell-found : productPlace (productOf (getD operations i d) (getD operations j d′)) codes ≡ getD (tableOf c (take n operations)) (i * n + j) 0
     cell-found =

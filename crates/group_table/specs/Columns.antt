@@ -185,7 +185,8 @@ pub composing-below : (n : ℕ) (table cells : List ℕ) (p g q : ℕ) → Compo
 composing-below n table cells p g q D = rw (D .leads) at (D .products .below p g (D .first .0) (D .second .0))
 
 -- ---- the table of allowed operations
-module _ (c : Centering) (n : ℕ) (operations : List Operation) (there : n ≤ length operations) (few : n ≤ 48) (L : Listing (take n operations)) (A : Allowed c (map motionOf (take n operations))) where
+module _ (c : Centering) (n : ℕ) (operations : List Operation) (there : n ≤ length operations) (few : n ≤ 48) (L : Listing (take n operations))
+    (A : Allowed c (map motionOf (take n operations))) where
   count : length (take n operations) ≡ n
   count = length-take-le n operations there
 
@@ -218,7 +219,8 @@ filling-none n table cells generators few =
       begun = λ k h. absurd (omega arith);
     }
 
-module _ (n : ℕ) (table cells known members : List ℕ) (count : ℕ) (generators : List ℕ) (m i j : ℕ) (F : Filling n table cells known members count generators m i j) where
+module _ (n : ℕ) (table cells known members : List ℕ) (count : ℕ) (generators : List ℕ) (m i j : ℕ)
+    (F : Filling n table cells known members count generators m i j) where
   -- then cell by cell of a column,
   pub filling-cell : i < n → (x : ℕ) → i * n + j < length cells → x ≡ getD table (i * n + j) 0
       → Filling n table (set cells (i * n + j) x) known members count generators m (i + 1) j
@@ -253,7 +255,8 @@ module _ (n : ℕ) (table cells known members : List ℕ) (count : ℕ) (generat
           }
 
       -- and the next that is not known is to be made.
-      pub filling-next : (after wider more : List ℕ) (filled : ℕ) → WidenedTo n cells noted-known noted-members noted (set generators m j) (m + 1) after wider more filled
+      pub filling-next : (after wider more : List ℕ) (filled : ℕ)
+          → WidenedTo n cells noted-known noted-members noted (set generators m j) (m + 1) after wider more filled
           → (next : ℕ) → NextUnknown wider (j + 1) n next → Filling n table after wider more filled (set generators m j) (m + 1) 0 next
       filling-next after wider more filled D next U =
           let W = D .1 table filling-widens in

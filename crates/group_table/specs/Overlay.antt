@@ -19,7 +19,8 @@ pub begun-none : (table lent : List ℕ) → lent ≡ begun 0 table lent
 unfolding begun
 begun-none table lent = refl
 
-begun-suc : (at : ℕ) (table lent : List ℕ) → at < length table → length table ≤ length lent → set (take at table ++ drop at lent) at (getD table at 0) ≡ take (suc at) table ++ drop (suc at) lent
+begun-suc : (at : ℕ) (table lent : List ℕ) → at < length table → length table ≤ length lent
+    → set (take at table ++ drop at lent) at (getD table at 0) ≡ take (suc at) table ++ drop (suc at) lent
 begun-suc at [] lent h fits = absurd (omega arith)
 begun-suc at (x ∷ table) [] h fits = absurd (omega arith)
 begun-suc zero (x ∷ table) (y ∷ lent) h fits = refl

@@ -42,7 +42,8 @@ module _ {A G : Type 0} (same : A → A → Bool) (_·_ : A → G → A) (unit :
       found = taken ++ x ∷ waiting
 
       -- What is found last comes from x.
-      last : (k : ℕ) → k < length r → (p : ℕ) × (g : G) × (p < length found + k) × Mem g gens × (getD (found ++ r) p unit · g ≡ getD (found ++ r) (length found + k) unit)
+      last : (k : ℕ) → k < length r
+          → (p : ℕ) × (g : G) × (p < length found + k) × Mem g gens × (getD (found ++ r) p unit · g ≡ getD (found ++ r) (length found + k) unit)
       last k b =
           let (g, m, e) = mem-of-map (λ g. x · g) gens (fresh-candidate same f (member-at r k unit b)) in
           let short : length taken < length found = simp length-append (omega arith) in
@@ -60,7 +61,8 @@ module _ {A G : Type 0} (same : A → A → Bool) (_·_ : A → G → A) (unit :
 
   -- So it holds of the closure.
   pub closure-descends : (n : ℕ) (l : List A) → closure same _·_ unit gens n ≡ some l → Descends l
-  closure-descends n l e = rw append-nil at (closure-keeps same _·_ unit gens (λ taken waiting. Descends (taken ++ waiting)) descends-kept (λ j a b. absurd (omega arith)) n l e)
+  closure-descends n l e =
+      rw append-nil at (closure-keeps same _·_ unit gens (λ taken waiting. Descends (taken ++ waiting)) descends-kept (λ j a b. absurd (omega arith)) n l e)
 
 -- ---- in an accepted symbol's list
 module _ (c : Centering) (gens operations : List Operation) (steps : List ℕ) (A : Accepted c gens operations steps) (L : Listing operations) where
@@ -69,12 +71,15 @@ module _ (c : Centering) (gens operations : List Operation) (steps : List ℕ) (
   unfolding motionOf
   rotation-at i h =
       let f = getD (A .list) i identity in
-      let made : getD operations i identityOperation ≡ operationOf f = rw (← (identity-operation c), A .operations-are) (List·getD-map operationOf (A .list) i identity) in
+      let made : getD operations i identityOperation ≡ operationOf f =
+      rw (← (identity-operation c), A .operations-are) (List·getD-map operationOf (A .list) i identity) in
       let within : i < length (A .list) = omega (arith, ap length (A .operations-are), length-map (A .list) operationOf) in
-      rw made (operation-rotation f (member-small c gens operations steps A f (lists gens (A .list) (A .listed) .sound f (member-at (A .list) i identity within))))
+      rw made
+      (operation-rotation f (member-small c gens operations steps A f (lists gens (A .list) (A .listed) .sound f (member-at (A .list) i identity within))))
 
   -- A product of motions that is listed has its index noted at the step.
-  step-to : (p j k : ℕ) → p < length operations → j < length operations → k < length gens → compose (getD (A .list) p identity) (motionAt c gens k) ≡ getD (A .list) j identity → getD steps (p * length gens + k) 0 ≡ j
+  step-to : (p j k : ℕ) → p < length operations → j < length operations → k < length gens
+      → compose (getD (A .list) p identity) (motionAt c gens k) ≡ getD (A .list) j identity → getD steps (p * length gens + k) 0 ≡ j
   step-to p j k h b w e =
       let (below, near) = step-right c gens operations steps A p k h w in
       let noted = getD steps (p * length gens + k) 0 in

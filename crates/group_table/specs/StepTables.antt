@@ -55,7 +55,8 @@ pub record RowReady (n m i : ℕ) (steps earlier generator cells : List ℕ) : T
 
 -- What filling it does: of every such table one more row is filled.
 abbrev pub RowFilled : ℕ → ℕ → ℕ → List ℕ → List ℕ → List ℕ → Type 0
-RowFilled n m i steps before after = (table lent : List ℕ) → GoesBy n m steps table → n * n ≤ length lent → before ≡ begun (i * n) table lent → after ≡ begun (i * n + n) table lent
+RowFilled n m i steps before after = (table lent : List ℕ) → GoesBy n m steps table → n * n ≤ length lent → before ≡ begun (i * n) table lent
+    → after ≡ begun (i * n + n) table lent
 
 -- ---- indices
 -- A place in row i of n rows of k is before their end.
@@ -106,34 +107,38 @@ module _ (n m : ℕ) (steps earlier generator : List ℕ) where
           })
       | no q ↦
           let old : ¬ (t ≡ at) = λ (r : t ≡ at). q (sym (rw r at e)) in
-          rw (getD-set-other earlier (getD steps at 0) j (at / m) 0 q, getD-set-other generator (getD steps at 0) j (at % m) 0 q) (h t j (omega arith) before b e)
+          rw (getD-set-other earlier (getD steps at 0) j (at / m) 0 q, getD-set-other generator (getD steps at 0) j (at % m) 0 q)
+          (h t j (omega arith) before b e)
     ]
 
 -- ---- a row
-module _ (n m : ℕ) (steps table lent cells : List ℕ) (room : n * n ≤ length lent) (S : Traversed n m steps) (G : GoesBy n m steps table) (i : ℕ) (row : i < n) where
-  -- In each row likewise.
-  fits : length table ≤ length lent
-  fits = omega (arith, G .size)
+module _ (n m : ℕ) (steps table lent cells : List ℕ) (room : n * n ≤ length lent) (S : Traversed n m steps) (G : GoesBy n m steps table) (i : ℕ) (row : i < n)
+  where
+    -- In each row likewise.
+    fits : length table ≤ length lent
+    fits = omega (arith, G .size)
 
-  -- The first cell of a row is the left factor itself.
-  pub row-first : cells ≡ begun (i * n) table lent → set cells (i * n) i ≡ begun (i * n + 1) table lent
-  row-first e =
-      let inside = place-inside i 0 n n row (omega arith) in
-      rw e (ap (λ (x : ℕ). set (begun (i * n) table lent) (i * n) x) (sym (G .first i row)) ∙ begun-next table lent fits (i * n) (omega (arith, G .size)))
+    -- The first cell of a row is the left factor itself.
+    pub row-first : cells ≡ begun (i * n) table lent → set cells (i * n) i ≡ begun (i * n + 1) table lent
+    row-first e =
+        let inside = place-inside i 0 n n row (omega arith) in
+        rw e (ap (λ (x : ℕ). set (begun (i * n) table lent) (i * n) x) (sym (G .first i row)) ∙ begun-next table lent fits (i * n) (omega (arith, G .size)))
 
-  module _ (j p k : ℕ) (b : j < n) (C : Comes m steps j p k) (e : cells ≡ begun (i * n + j) table lent) where
-    -- The product with the parent is there,
-    parent-cell : getD cells (i * n + p) 0 ≡ getD table (i * n + p) 0
-    parent-cell = rw e (begun-at table lent fits (i * n + j) (i * n + p) (omega (arith, C .earlier)) (omega (arith, G .size, place-inside i j n n row b)))
+    module _ (j p k : ℕ) (b : j < n) (C : Comes m steps j p k) (e : cells ≡ begun (i * n + j) table lent) where
+      -- The product with the parent is there,
+      parent-cell : getD cells (i * n + p) 0 ≡ getD table (i * n + p) 0
+      parent-cell = rw e (begun-at table lent fits (i * n + j) (i * n + p) (omega (arith, C .earlier)) (omega (arith, G .size, place-inside i j n n row b)))
 
-    -- it is an index,
-    pub row-inside : getD cells (i * n + p) 0 < n
-    row-inside = rw parent-cell (G .inside i p row (omega (arith, C .earlier)))
+      -- it is an index,
+      pub row-inside : getD cells (i * n + p) 0 < n
+      row-inside = rw parent-cell (G .inside i p row (omega (arith, C .earlier)))
 
-    -- and its step is the next cell.
-    pub row-next : set cells (i * n + j) (getD steps (getD cells (i * n + p) 0 * m + k) 0) ≡ begun (i * n + (j + 1)) table lent
-    row-next =
-        let onward : i * n + j + 1 ≡ i * n + (j + 1) = omega arith in
-        let leads : getD steps (getD cells (i * n + p) 0 * m + k) 0 ≡ getD table (i * n + j) 0 =
-        rw parent-cell (sym (G .next i p k row (omega (arith, C .earlier)) (C .generator)) ∙ ap (λ (x : ℕ). getD table (i * n + x) 0) (C .leads)) in
-        rw leads (ap (λ (l : List ℕ). set l (i * n + j) (getD table (i * n + j) 0)) e ∙ begun-next table lent fits (i * n + j) (omega (arith, G .size, place-inside i j n n row b)) ∙ ap (λ (x : ℕ). begun x table lent) onward)
+      -- and its step is the next cell.
+      pub row-next : set cells (i * n + j) (getD steps (getD cells (i * n + p) 0 * m + k) 0) ≡ begun (i * n + (j + 1)) table lent
+      row-next =
+          let onward : i * n + j + 1 ≡ i * n + (j + 1) = omega arith in
+          let leads : getD steps (getD cells (i * n + p) 0 * m + k) 0 ≡ getD table (i * n + j) 0 =
+          rw parent-cell (sym (G .next i p k row (omega (arith, C .earlier)) (C .generator)) ∙ ap (λ (x : ℕ). getD table (i * n + x) 0) (C .leads)) in
+          rw leads
+          (ap (λ (l : List ℕ). set l (i * n + j) (getD table (i * n + j) 0)) e
+          ∙ begun-next table lent fits (i * n + j) (omega (arith, G .size, place-inside i j n n row b)) ∙ ap (λ (x : ℕ). begun x table lent) onward)

@@ -60,8 +60,10 @@ module _ (c : Centering) (gens operations : List Operation) (steps : List ℕ) (
   noted-at t h = padded-at 432 0 steps t 0 (omega (arith, steps-length c gens operations steps A))
 
   -- Operation p times generator k belongs to the index that the step leads to.
-  step-belongs : (p k : ℕ) → p < length operations → k < length gens → BelongsTo c operations (compose (motionAt c operations p) (motionAt c gens k)) (getD noted (p * length gens + k) 0)
-  step-belongs p k h w = rw (noted-at (p * length gens + k) (place-inside p k (length operations) (length gens) h w)) (step-right c gens operations steps A p k h w)
+  step-belongs : (p k : ℕ) → p < length operations → k < length gens
+      → BelongsTo c operations (compose (motionAt c operations p) (motionAt c gens k)) (getD noted (p * length gens + k) 0)
+  step-belongs p k h w =
+      rw (noted-at (p * length gens + k) (place-inside p k (length operations) (length gens) h w)) (step-right c gens operations steps A p k h w)
 
   -- They are those of a traversal.
   accepted-traversed : length gens ≤ 9 → Traversed (length operations) (length gens) noted
@@ -100,7 +102,8 @@ module _ (c : Centering) (gens operations : List Operation) (steps : List ℕ) (
   -- and every step is the product with that index.
   step-product : (p k : ℕ) → p < length operations → k < length gens → p · getD noted (0 * length gens + k) 0 ≡ getD noted (p * length gens + k) 0
   step-product p k h w =
-      product-is c listed allowed (motionAt c operations p) (motionAt c gens k) p (getD noted (0 * length gens + k) 0) (getD noted (p * length gens + k) 0) (listed-belongs c operations p h) (generator-belongs k w) (step-belongs p k h w)
+      product-is c listed allowed (motionAt c operations p) (motionAt c gens k) p (getD noted (0 * length gens + k) 0) (getD noted (p * length gens + k) 0)
+      (listed-belongs c operations p h) (generator-belongs k w) (step-belongs p k h w)
 
   -- So the table goes by the steps.
   accepted-goes-by : GoesBy (length operations) (length gens) noted (tableOf c operations)
@@ -133,7 +136,9 @@ module _ (text : List ℕ) (g : SymbolGroup) (e : g ≡ symbolAnswer text) where
       let l = T .operations in
       rw (e ∙ T .answered) (record {
         traversed = accepted-traversed (T .letter) (T .generators) l (T .steps) (T .accepted) (symbol-count text (T .letter) (T .generators) (T .spells) .1);
-        goes = rw (take-at l (replicate (48 - length l) identityOperation) (length l) refl) (accepted-goes-by (T .letter) (T .generators) l (T .steps) (T .accepted));
+        goes =
+            rw (take-at l (replicate (48 - length l) identityOperation) (length l) refl)
+            (accepted-goes-by (T .letter) (T .generators) l (T .steps) (T .accepted));
       })
 
   -- As many operations are listed as are counted.
@@ -161,14 +166,22 @@ module _ (text : List ℕ) (g : SymbolGroup) (e : g ≡ symbolAnswer text) where
   symbol-square = table-length (g .centering) (take (g .count) (g .operations)) ∙ ap (λ (n : ℕ). n * n) symbol-order
 
   -- What is answered if the slots are too few,
-  pub symbol-short : g .answer ≡ Given → (lent : List ℕ) → length lent < g .count * g .count → (Is (g .count) ≡ orderOf text) × (lent ≡ laid (symbolCells text) lent)
-  symbol-short told lent short =
-      (symbol-order-by Given told, sym (laid-none _ lent (omega (arith, symbol-square))) ∙ ap (λ (cells : List ℕ). laid cells lent) (symbol-cells-by Given told))
+  pub symbol-short : g .answer ≡ Given → (lent : List ℕ) → length lent < g .count * g .count
+      → (Is (g .count) ≡ orderOf text) × (lent ≡ laid (symbolCells text) lent)
+  symbol-short told lent short = (
+    symbol-order-by Given told,
+    sym (laid-none _ lent (omega (arith, symbol-square)))
+        ∙ ap (λ (cells : List ℕ). laid cells lent) (symbol-cells-by Given told),
+  )
 
   -- if they hold all cells,
-  pub symbol-filled : g .answer ≡ Given → (lent now : List ℕ) → g .count * g .count ≤ length lent → now ≡ overlaid (tableOf (g .centering) (take (g .count) (g .operations))) lent → (Is (g .count) ≡ orderOf text) × (now ≡ laid (symbolCells text) lent)
-  symbol-filled told lent now room e =
-      (symbol-order-by Given told, e ∙ sym (laid-all _ lent (omega (arith, symbol-square))) ∙ ap (λ (cells : List ℕ). laid cells lent) (symbol-cells-by Given told))
+  pub symbol-filled : g .answer ≡ Given → (lent now : List ℕ) → g .count * g .count ≤ length lent
+      → now ≡ overlaid (tableOf (g .centering) (take (g .count) (g .operations))) lent → (Is (g .count) ≡ orderOf text) × (now ≡ laid (symbolCells text) lent)
+  symbol-filled told lent now room e = (
+    symbol-order-by Given told,
+    e ∙ sym (laid-all _ lent (omega (arith, symbol-square)))
+        ∙ ap (λ (cells : List ℕ). laid cells lent) (symbol-cells-by Given told),
+  )
 
   -- and for a refusal.
   pub symbol-refused : (r : Refusal) → g .answer ≡ NotGiven r → (lent : List ℕ) → (OrderRefused r ≡ orderOf text) × (lent ≡ laid (symbolCells text) lent)
@@ -180,14 +193,17 @@ abbrev byValue : SymbolOrder → List ℕ → SymbolTable
 byValue (Is n) cells = record { answer = Given; order = n; cells = cells }
 byValue (OrderRefused r) cells = record { answer = NotGiven r; order = 0; cells = cells }
 
-by-value : (a : decided.Answer) (c : Centering) (count : ℕ) (l : List Operation) → length l ≡ count → count ≤ 48 → byValue (orderBy a count) (laid (symbolCellsBy a c l) (replicate 2304 0)) ≡ symbolTableBy a c l
+by-value : (a : decided.Answer) (c : Centering) (count : ℕ) (l : List Operation) → length l ≡ count → count ≤ 48
+    → byValue (orderBy a count) (laid (symbolCellsBy a c l) (replicate 2304 0)) ≡ symbolTableBy a c l
 by-value Given c count l long few =
     let blank = laid-blank (tableOf c l) 2304 (omega (arith, table-length c l, square-limit (length l) (omega arith))) in
     λ i. record { answer = Given; order = sym long i; cells = blank i }
 by-value (NotGiven r) c count l long few = ap (byValue (OrderRefused r)) (laid-blank [] 2304 (omega arith))
 
-pub symbol-by-value : (text : List ℕ) (o : SymbolOrder) (cells : List ℕ) → o ≡ orderOf text → cells ≡ laid (symbolCells text) (replicate 2304 0) → byValue o cells ≡ symbolTable text
+pub symbol-by-value : (text : List ℕ) (o : SymbolOrder) (cells : List ℕ) → o ≡ orderOf text → cells ≡ laid (symbolCells text) (replicate 2304 0)
+    → byValue o cells ≡ symbolTable text
 unfolding orderOf symbolCells symbolTable
 symbol-by-value text o cells e d =
     ap₂ byValue e d
-    ∙ by-value (symbolAnswer text .answer) (symbolAnswer text .centering) (symbolAnswer text .count) (take (symbolAnswer text .count) (symbolAnswer text .operations)) (symbol-order text (symbolAnswer text) refl) (symbol-slots text .0)
+    ∙ by-value (symbolAnswer text .answer) (symbolAnswer text .centering) (symbolAnswer text .count)
+    (take (symbolAnswer text .count) (symbolAnswer text .operations)) (symbol-order text (symbolAnswer text) refl) (symbol-slots text .0)

@@ -67,11 +67,13 @@ module _ (c : Centering) {l : List Operation} (L : Listing l) where
     -- The identity of the motions is the identity of the table, on both sides.
     left-identity : (x : ℕ) → x < length l → identityIndex c l · x ≡ x
     left-identity x h =
-        product-is c L A identity (motionAt c l x) (identityIndex c l) x x identity-belongs (listed-belongs c l x h) (rw (identity-compose (motionAt c l x)) (listed-belongs c l x h))
+        product-is c L A identity (motionAt c l x) (identityIndex c l) x x identity-belongs (listed-belongs c l x h)
+        (rw (identity-compose (motionAt c l x)) (listed-belongs c l x h))
 
     right-identity : (x : ℕ) → x < length l → x · identityIndex c l ≡ x
     right-identity x h =
-        product-is c L A (motionAt c l x) identity x (identityIndex c l) x (listed-belongs c l x h) identity-belongs (rw (compose-identity (motionAt c l x)) (listed-belongs c l x h))
+        product-is c L A (motionAt c l x) identity x (identityIndex c l) x (listed-belongs c l x h) identity-belongs
+        (rw (compose-identity (motionAt c l x)) (listed-belongs c l x h))
 
     -- The inverse of a motion has the inverse's index.
     inverse : (x : ℕ) → x < length l → (y : ℕ) × (y < length l) × (x · y ≡ identityIndex c l) × (y · x ≡ identityIndex c l)

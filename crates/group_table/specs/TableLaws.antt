@@ -91,7 +91,8 @@ module _ (c : Centering) (l : List SpaceMotion) where
       ∙ omega (arith, row-length f, rows-length fs, suc-mul (length fs) (length l))
 
   -- The product of motion i and motion j has its index at i·n + j.
-  row-at : (fs : List SpaceMotion) (d : SpaceMotion) (i j : ℕ) → i < length fs → j < length l → getD (rowsOf c l fs) (i * length l + j) 0 ≡ indexOf c l (compose (getD fs i d) (getD l j d))
+  row-at : (fs : List SpaceMotion) (d : SpaceMotion) (i j : ℕ) → i < length fs → j < length l
+      → getD (rowsOf c l fs) (i * length l + j) 0 ≡ indexOf c l (compose (getD fs i d) (getD l j d))
   unfolding rowsOf
   row-at [] d i j h k = absurd (omega arith)
   row-at (f ∷ fs) d zero j h k =
@@ -111,14 +112,16 @@ module _ (c : Centering) (l : List Operation) where
   table-length = rw (rows-length c (map motionOf l) (map motionOf l), length-map l motionOf)
 
   -- The cell of two factors is the index of their product.
-  pub cell-at : (i j : ℕ) → i < length l → j < length l → getD (tableOf c l) (i * length l + j) 0 ≡ indexOf c (map motionOf l) (compose (motionAt i) (motionAt j))
+  pub cell-at : (i j : ℕ) → i < length l → j < length l
+      → getD (tableOf c l) (i * length l + j) 0 ≡ indexOf c (map motionOf l) (compose (motionAt i) (motionAt j))
   cell-at i j h k =
       let ms = map motionOf l in
       let cell = row-at c ms ms (motionOf identityOperation) i j (omega (arith, length-map l motionOf)) (omega (arith, length-map l motionOf)) in
       rw (length-map l motionOf, List·getD-map motionOf l i identityOperation, List·getD-map motionOf l j identityOperation) at cell
 
   -- A motion of the set has an index, and is the listed operation of that index modulo L.
-  pub index-alike : (f : SpaceMotion) → InSet c (map motionOf l) f → (indexOf c (map motionOf l) f < length l) × Alike c f (motionAt (indexOf c (map motionOf l) f))
+  pub index-alike : (f : SpaceMotion) → InSet c (map motionOf l) f
+      → (indexOf c (map motionOf l) f < length l) × Alike c f (motionAt (indexOf c (map motionOf l) f))
   index-alike f (g, m, a) =
       let ms = map motionOf l in
       let E = modulo-equivalence c in
@@ -133,7 +136,9 @@ module _ (c : Centering) {l : List Operation} (L : Listing l) where
   rotation-index i j h k e =
       let f = getD l i identityOperation in
       let g = getD l j identityOperation in
-      let rotations = matrix-injective (f .rotation) (g .rotation) (L .entries f (member-at l i identityOperation h)) (L .entries g (member-at l j identityOperation k)) e in
+      let rotations =
+      matrix-injective (f .rotation) (g .rotation) (L .entries f (member-at l i identityOperation h)) (L .entries g (member-at l j identityOperation k))
+      e in
       distinct-index sameCode code-equivalence (L .distinct) identityOperation i j h k (rw rotations (eqb-refl (codeOf (g .rotation))))
 
   -- So a motion that is a listed operation modulo L has that operation's index.
@@ -143,15 +148,19 @@ module _ (c : Centering) {l : List Operation} (L : Listing l) where
       rotation-index (indexOf c (map motionOf l) f) k below h (sym (near .0) ∙ a .0)
 
   -- A product that is operation k modulo L has k in its cell.
-  pub cell-is : (i j k : ℕ) → i < length l → j < length l → k < length l → Alike c (compose (motionAt c l i) (motionAt c l j)) (motionAt c l k) → getD (tableOf c l) (i * length l + j) 0 ≡ k
+  pub cell-is : (i j k : ℕ) → i < length l → j < length l → k < length l → Alike c (compose (motionAt c l i) (motionAt c l j)) (motionAt c l k)
+      → getD (tableOf c l) (i * length l + j) 0 ≡ k
   cell-is i j k h p q a = cell-at c l i j h p ∙ index-is (compose (motionAt c l i) (motionAt c l j)) k q a
 
   module _ (A : Allowed c (map motionOf l)) where
     -- A product of listed motions is in the set.
     product-inside : (i j : ℕ) → i < length l → j < length l → InSet c (map motionOf l) (compose (motionAt c l i) (motionAt c l j))
     product-inside i j h k =
-        A .product (motionAt c l i) (motionAt c l j) (mem-map motionOf (member-at l i identityOperation h)) (mem-map motionOf (member-at l j identityOperation k))
+        A .product (motionAt c l i) (motionAt c l j) (mem-map motionOf (member-at l i identityOperation h))
+        (mem-map motionOf (member-at l j identityOperation k))
 
     -- Every cell is an index, and the product is the operation of that index modulo L.
-    pub cell-alike : (i j : ℕ) → i < length l → j < length l → (getD (tableOf c l) (i * length l + j) 0 < length l) × Alike c (compose (motionAt c l i) (motionAt c l j)) (motionAt c l (getD (tableOf c l) (i * length l + j) 0))
+    pub cell-alike : (i j : ℕ) → i < length l → j < length l
+        → (getD (tableOf c l) (i * length l + j) 0 < length l)
+        × Alike c (compose (motionAt c l i) (motionAt c l j)) (motionAt c l (getD (tableOf c l) (i * length l + j) 0))
     cell-alike i j h k = rw (cell-at c l i j h k) (index-alike c l (compose (motionAt c l i) (motionAt c l j)) (product-inside i j h k))

@@ -38,17 +38,20 @@ module _ (c : Centering) {l : List Operation} (L : Listing l) where
 
   module _ (A : Allowed c (map motionOf l)) where
     -- The product of two motions of the set belongs to the product of their indices.
-    pub product-belongs : (f g : SpaceMotion) (i j : ℕ) → BelongsTo c l f i → BelongsTo c l g j → BelongsTo c l (compose f g) (product (length l) (tableOf c l) i j)
+    pub product-belongs : (f g : SpaceMotion) (i j : ℕ) → BelongsTo c l f i → BelongsTo c l g j
+        → BelongsTo c l (compose f g) (product (length l) (tableOf c l) i j)
     unfolding product
     product-belongs f g i j (h, a) (k, b) =
         let (below, near) = cell-alike c L A i j h k in
         let maps : MapsInto (pointsOf c) (f .rotation) = rw (a .0) (A .keeps (motionAt c l i) (mem-map motionOf (member-at l i identityOperation h)) .0) in (
           below,
-          alike-transitive c (compose f g) (compose (motionAt c l i) (motionAt c l j)) (motionAt c l _) (compose-alike c f (motionAt c l i) g (motionAt c l j) maps a b) near,
+          alike-transitive c (compose f g) (compose (motionAt c l i) (motionAt c l j)) (motionAt c l _)
+              (compose-alike c f (motionAt c l i) g (motionAt c l j) maps a b) near,
         )
 
     -- So a product's index tells the product of the indices.
-    pub product-is : (f g : SpaceMotion) (i j k : ℕ) → BelongsTo c l f i → BelongsTo c l g j → BelongsTo c l (compose f g) k → product (length l) (tableOf c l) i j ≡ k
+    pub product-is : (f g : SpaceMotion) (i j k : ℕ) → BelongsTo c l f i → BelongsTo c l g j → BelongsTo c l (compose f g) k
+        → product (length l) (tableOf c l) i j ≡ k
     product-is f g i j k p q r =
         let (i₀, belongs, only) = one-index (compose f g) (belongs-inside c l (compose f g) k r) in
         sym (only _ (product-belongs f g i j p q)) ∙ only k r

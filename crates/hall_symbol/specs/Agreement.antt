@@ -17,9 +17,9 @@ use Rattle.operation.specs.declared.Operation.{Operation}
 use Rattle.centering.specs.declared.Centering.{Centering}
 use Rattle.hall_token.specs.Reader.{operationToken}
 use Rattle.hall_token.specs.Answers.{answers-exact}
-use Rattle.hall_token.specs.declared.Fold.{Fold}
-use Rattle.hall_token.specs.declared.Axis.{Axis}
-use Rattle.hall_token.specs.declared.Previous.{Previous}
+use Rattle.hall_axes.specs.declared.Fold.{Fold}
+use Rattle.hall_axes.specs.declared.Axis.{Axis}
+use Rattle.hall_axes.specs.declared.Previous.{Previous}
 use Rattle.hall_token.specs.declared.ParsedOperation.{ParsedOperation}
 use Rattle.hall_token.specs.declared.ParsedOperation.the-variants.{Operation as IsOperation, Refused as IsRefused}
 use Rattle.hall_token.specs.declared.refusal.Refusal as token-refusal

@@ -13,7 +13,7 @@ use Rattle.operation.specs.declared.Translation.{Translation}
 use Rattle.operation.specs.declared.Operation.{Operation}
 use Rattle.centering.specs.declared.Centering.{Centering}
 use Rattle.hall_token.specs.Answers.{Reduced, read-reduced, answers-exact}
-use Rattle.hall_token.specs.declared.Previous.{Previous}
+use Rattle.hall_axes.specs.declared.Previous.{Previous}
 use Rattle.hall_token.specs.declared.ParsedOperation.the-variants.{Operation as IsOperation}
 use Rattle.hall_symbol.specs.Generators.{leading, shiftBy, shiftedCoordinate, shifted, slots}
 use Rattle.hall_symbol.specs.Reader.{Reading, symbol, refusal, readSymbol, answerOf}

@@ -9,7 +9,7 @@ use Rattle.laws.specs.Residue.{residue, residue-add, residue-mul, residue-lt, r
 use Rattle.operation.specs.declared.Translation.{Translation}
 use Rattle.operation.specs.declared.Operation.{Operation}
 use Rattle.centering.specs.declared.Centering.{Centering}
-use Rattle.hall_token.specs.declared.Previous.{Previous}
+use Rattle.hall_axes.specs.declared.Previous.{Previous}
 use Rattle.hall_symbol.specs.Generators.{shiftBy, shifted}
 use Rattle.hall_symbol.specs.Reader.{symbol, readSymbol}
 use Rattle.hall_symbol.specs.Spelling.{Begins, Ending}

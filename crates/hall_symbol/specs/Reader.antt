@@ -12,12 +12,12 @@ use Rattle.operation.specs.declared.Operation.{Operation}
 use Rattle.centering.specs.declared.Centering.{Centering}
 use Rattle.centering.specs.declared.Centering.the-variants.{P}
 use Rattle.hall_token.specs.Reader.{operationToken}
-use Rattle.hall_token.specs.declared.Fold.{Fold}
-use Rattle.hall_token.specs.declared.Fold.the-variants.{One}
-use Rattle.hall_token.specs.declared.Mark.the-variants.{None}
-use Rattle.hall_token.specs.declared.Direction.the-variants.{Z}
-use Rattle.hall_token.specs.declared.Axis.{Axis}
-use Rattle.hall_token.specs.declared.Previous.{Previous}
+use Rattle.hall_axes.specs.declared.Fold.{Fold}
+use Rattle.hall_axes.specs.declared.Fold.the-variants.{One}
+use Rattle.hall_axes.specs.declared.Mark.the-variants.{None}
+use Rattle.hall_axes.specs.declared.Direction.the-variants.{Z}
+use Rattle.hall_axes.specs.declared.Axis.{Axis}
+use Rattle.hall_axes.specs.declared.Previous.{Previous}
 use Rattle.hall_token.specs.declared.ParsedOperation.{ParsedOperation}
 use Rattle.hall_token.specs.declared.ParsedOperation.the-variants.{Operation as IsOperation, Refused as IsRefused}
 use Rattle.hall_symbol.specs.Bytes.{allowed, opening}

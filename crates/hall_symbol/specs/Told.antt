@@ -11,7 +11,7 @@ use Rattle.operation.specs.declared.Operation.{Operation}
 use Rattle.centering.specs.declared.Centering.{Centering}
 use Rattle.hall_token.specs.Answers.{refused-within}
 use Rattle.hall_token.specs.Refusals as token
-use Rattle.hall_token.specs.declared.Previous.{Previous}
+use Rattle.hall_axes.specs.declared.Previous.{Previous}
 use Rattle.hall_token.specs.declared.refusal.Refusal as token-refusal
 use Rattle.hall_token.specs.declared.refusal.Refusal.the-variants.{Misspelt, Primed, Unsettled, Digit, Doubled}
 use Rattle.hall_symbol.specs.Bytes.{whitespace}

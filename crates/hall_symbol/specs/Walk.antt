@@ -10,7 +10,7 @@ use lib.Seq.{getD-drop, length-take-le}
 use Rattle.operation.specs.declared.Operation.{Operation}
 use Rattle.centering.specs.declared.Centering.{Centering}
 use Rattle.hall_token.specs.Reader.{operationToken}
-use Rattle.hall_token.specs.declared.Previous.{Previous}
+use Rattle.hall_axes.specs.declared.Previous.{Previous}
 use Rattle.hall_token.specs.Answers.{answers-exact, refused-within}
 use Rattle.hall_token.specs.declared.ParsedOperation.{ParsedOperation}
 use Rattle.hall_token.specs.declared.ParsedOperation.the-variants.{Refused as IsRefused}

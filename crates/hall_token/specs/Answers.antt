@@ -12,33 +12,32 @@ use borrow.Author.Tests.{eqb-true, ltb-true, ltb-false, leb-true, lt-ltb}
 use Rattle.operation.specs.Meaning.{Digits}
 use Rattle.operation.specs.declared.Rotation.{Rotation}
 use Rattle.operation.specs.declared.Operation as operation
-use Rattle.hall_token.specs.declared.Fold.{Fold}
-use Rattle.hall_token.specs.declared.Mark.{Mark}
-use Rattle.hall_token.specs.declared.Mark.the-variants.{None, Single, Double}
-use Rattle.hall_token.specs.declared.Direction.{Direction}
-use Rattle.hall_token.specs.declared.Direction.the-variants.{X, Y, Z, Diagonal}
-use Rattle.hall_token.specs.declared.Axis.{Axis}
-use Rattle.hall_token.specs.declared.AxisLetter.{AxisLetter}
-use Rattle.hall_token.specs.declared.AxisLetter.the-variants.{Along, Absent}
-use Rattle.hall_token.specs.declared.Previous.{Previous}
+use Rattle.hall_axes.specs.declared.Fold.{Fold}
+use Rattle.hall_axes.specs.declared.Mark.{Mark}
+use Rattle.hall_axes.specs.declared.Mark.the-variants.{None, Single, Double}
+use Rattle.hall_axes.specs.declared.Direction.the-variants.{Z}
+use Rattle.hall_axes.specs.declared.Axis.{Axis}
+use Rattle.hall_axes.specs.declared.AxisLetter.{AxisLetter}
+use Rattle.hall_axes.specs.declared.AxisLetter.the-variants.{Along, Absent}
+use Rattle.hall_axes.specs.declared.Previous.{Previous}
 use Rattle.hall_token.specs.declared.RunByte.{RunByte}
 use Rattle.hall_token.specs.declared.RunByte.the-variants.{Screw, Letter, Prime, Foreign}
-use Rattle.hall_token.specs.declared.SettledAxis.{SettledAxis}
-use Rattle.hall_token.specs.declared.SettledAxis.the-variants.{Settled, Open}
-use Rattle.hall_token.specs.declared.Turn.{Turn}
-use Rattle.hall_token.specs.declared.Turn.the-variants.{Matrix, NoMatrix}
+use Rattle.hall_axes.specs.declared.SettledAxis.{SettledAxis}
+use Rattle.hall_axes.specs.declared.SettledAxis.the-variants.{Settled, Open}
+use Rattle.hall_axes.specs.declared.Turn.{Turn}
+use Rattle.hall_axes.specs.declared.Turn.the-variants.{Matrix, NoMatrix}
 use Rattle.hall_token.specs.declared.Moved.the-variants.{By, WrongDigit}
 use Rattle.hall_token.specs.declared.ParsedOperation.{ParsedOperation}
 use Rattle.hall_token.specs.declared.ParsedOperation.the-variants.{Operation, Refused}
 use Rattle.hall_token.specs.declared.refusal.Refusal.{Refusal}
 use Rattle.hall_token.specs.declared.refusal.Refusal.the-variants.{Misspelt, Primed, Unsettled, Digit, Doubled}
-use Rattle.hall_token.specs.Bytes.{runBytes, runByteOf, valueAt, passes, valueAt-passes, foldNumber}
+use Rattle.hall_token.specs.Bytes.{runBytes, runByteOf, valueAt, passes, valueAt-passes}
 use Rattle.hall_token.specs.Runs.{every, noPrime, noScrew, every-member, member-every, every-fails, prime-byte, prime-here, no-prime-here}
-use Rattle.hall_token.specs.Axes.{plain, axisOf}
-use Rattle.hall_token.specs.AxisRules.{Settles, settles-exact}
-use Rattle.hall_token.specs.Matrices.{turnOf, signed}
-use Rattle.hall_token.specs.Turns.{turn-rule, signed-digits}
-use Rattle.hall_token.specs.Translations.{plainZ, screwRight, frontRight, digitsRight, translationOf, movedBy}
+use Rattle.hall_axes.specs.Axes.{foldNumber, plain, plainZ, plain-z, axisOf}
+use Rattle.hall_axes.specs.AxisRules.{Settles, settles-exact}
+use Rattle.hall_axes.specs.Matrices.{turnOf, signed}
+use Rattle.hall_axes.specs.Turns.{turn-rule, signed-digits}
+use Rattle.hall_token.specs.Translations.{screwRight, frontRight, digitsRight, translationOf, movedBy}
 use Rattle.hall_token.specs.Reader.{Parts, parts, no-parts, readToken, onceThen, movedThen, turnThen, axisThen, operationOfParts, operationToken, readFold}
 use Rattle.hall_token.specs.RunLetters.{letters, Repeated, FirstRepeated, repeatAt, repeat-found, repeat-none}
 use Rattle.hall_token.specs.Refusals.{numberOf, number-once}
@@ -166,20 +165,11 @@ screw-of-digit (suc (suc (suc (suc (suc zero))))) h k = refl
 screw-of-digit (suc (suc (suc (suc (suc (suc zero)))))) h k = refl
 screw-of-digit (suc (suc (suc (suc (suc (suc (suc n))))))) h k = absurd (omega arith)
 
-plain-z : (m : Mark) (d : Direction) → plainZ m d ≡ true → (m ≡ None) × (d ≡ Z)
-plain-z None X e = absurd (false≢true e)
-plain-z None Y e = absurd (false≢true e)
-plain-z None Z e = (refl, refl)
-plain-z None Diagonal e = absurd (false≢true e)
-plain-z Single d e = absurd (false≢true e)
-plain-z Double d e = absurd (false≢true e)
-
 screw-right : (f : Fold) (a : Axis) (s : ℕ) → screwRight f a s ≡ true → (a ≡ plain Z) × (s < foldNumber f)
 unfolding screwRight
 screw-right f a s e =
     let h = and-eq-true-iff (plainZ (a .mark) (a .direction)) (ltb s (foldNumber f)) .0 e in
-    let z = plain-z (a .mark) (a .direction) (h .0) in
-    (λ i. record { mark = z .0 i; direction = z .1 i }, ltb-true s (foldNumber f) (h .1))
+    (plain-z (a .mark) (a .direction) .0 (h .0), ltb-true s (foldNumber f) (h .1))
 
 right-screw : (f : Fold) (a : Axis) (s : ℕ) → a ≡ plain Z → s < foldNumber f → screwRight f a s ≡ true
 unfolding screwRight

@@ -5,15 +5,14 @@ use mathlib.Core.List.{List, [], _∷_}
 use Prim.Native.Nat.{ℕ}
 use lib.Dec.{eqb}
 use borrow.Author.Tests.{eqb-true}
-use Rattle.hall_token.specs.declared.Fold.{Fold}
-use Rattle.hall_token.specs.declared.Fold.the-variants.{One, Two, Three, Four, Six}
+use Rattle.hall_axes.specs.declared.Fold.the-variants.{One, Two, Three, Four, Six}
 use Rattle.hall_token.specs.declared.FoldByte.{FoldByte}
 use Rattle.hall_token.specs.declared.FoldByte.the-variants.{Is, Other}
-use Rattle.hall_token.specs.declared.Mark.{Mark}
-use Rattle.hall_token.specs.declared.Mark.the-variants.{None, Single, Double}
-use Rattle.hall_token.specs.declared.Direction.the-variants.{X, Y, Z, Diagonal}
-use Rattle.hall_token.specs.declared.AxisLetter.{AxisLetter}
-use Rattle.hall_token.specs.declared.AxisLetter.the-variants.{Along, Absent}
+use Rattle.hall_axes.specs.declared.Mark.{Mark}
+use Rattle.hall_axes.specs.declared.Mark.the-variants.{None, Single, Double}
+use Rattle.hall_axes.specs.declared.Direction.the-variants.{X, Y, Z, Diagonal}
+use Rattle.hall_axes.specs.declared.AxisLetter.{AxisLetter}
+use Rattle.hall_axes.specs.declared.AxisLetter.the-variants.{Along, Absent}
 use Rattle.hall_token.specs.declared.RunByte.{RunByte}
 use Rattle.hall_token.specs.declared.RunByte.the-variants.{Screw, Letter, Prime, Foreign}
 
@@ -64,14 +63,6 @@ letterOf b = valueAt Absent axisLetters b
 
 unfoldable pub runByteOf : ℕ → RunByte
 runByteOf b = valueAt Foreign runBytes b
-
--- The number of a fold.
-abbrev pub foldNumber : Fold → ℕ
-foldNumber One = 1
-foldNumber Two = 2
-foldNumber Three = 3
-foldNumber Four = 4
-foldNumber Six = 6
 
 -- ---- a table's rule
 

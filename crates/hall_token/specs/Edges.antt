@@ -6,10 +6,11 @@ use mathlib.Core.List.{List, [], _∷_, _++_}
 use Prim.Native.Nat.{ℕ, zero, suc, _+_, _*_, _/_, _%_, _<_, _≤_}
 use native.Mathlib.Omega.{arith}
 use Rattle.operation.specs.declared.Translation.{Translation}
-use Rattle.hall_token.specs.declared.Fold.{Fold}
-use Rattle.hall_token.specs.declared.Fold.the-variants.{One, Two, Three, Four, Six}
+use Rattle.hall_axes.specs.declared.Fold.{Fold}
+use Rattle.hall_axes.specs.declared.Fold.the-variants.{One, Two, Three, Four, Six}
 use Rattle.hall_token.specs.declared.RunByte.the-variants.{Screw}
-use Rattle.hall_token.specs.Bytes.{valueAt, runByteOf, foldNumber}
+use Rattle.hall_axes.specs.Axes.{foldNumber}
+use Rattle.hall_token.specs.Bytes.{valueAt, runByteOf}
 use Rattle.hall_token.specs.Runs.{noScrew}
 use Rattle.hall_token.specs.Translations.{letterVector, sumX, sumY, sumZ, rise, translationOf}
 use Rattle.hall_token.specs.Sums.{triple, no-digit, no-rise, rise-lt}

@@ -1,15 +1,7 @@
--- What one N token means, in the words of the rules: bytes, axes, matrices, translations, the reader, and the spelling rules it is held against.
+-- What one N token means, in the words of the rules: bytes, translations, the reader, and the spelling rules it is held against.
 pub mod Front
 pub mod Bytes
 pub mod Runs
-pub mod Axes
-pub mod AxisRules
-pub mod Matrices
-pub mod Turning
-pub mod TurnTest
-pub mod Turns
-pub mod OneTurn
-pub mod Packed
 pub mod Translations
 pub mod Sums
 pub mod Offsets

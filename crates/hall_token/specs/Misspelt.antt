@@ -9,13 +9,13 @@ use native.Mathlib.Omega.{arith}
 use lib.Dec.{eqb}
 use borrow.Author.Tests.{eqb-true}
 use lib.ListN.{length, take}
-use Rattle.hall_token.specs.declared.Fold.{Fold}
+use Rattle.hall_axes.specs.declared.Fold.{Fold}
 use Rattle.hall_token.specs.declared.FoldByte.{FoldByte}
 use Rattle.hall_token.specs.declared.FoldByte.the-variants.{Is, Other}
-use Rattle.hall_token.specs.declared.Mark.{Mark}
-use Rattle.hall_token.specs.declared.Mark.the-variants.{None, Single, Double}
-use Rattle.hall_token.specs.declared.AxisLetter.{AxisLetter}
-use Rattle.hall_token.specs.declared.AxisLetter.the-variants.{Along, Absent}
+use Rattle.hall_axes.specs.declared.Mark.{Mark}
+use Rattle.hall_axes.specs.declared.Mark.the-variants.{None, Single, Double}
+use Rattle.hall_axes.specs.declared.AxisLetter.{AxisLetter}
+use Rattle.hall_axes.specs.declared.AxisLetter.the-variants.{Along, Absent}
 use Rattle.hall_token.specs.Bytes.{foldOf, markOf, letterOf, valueAt}
 use Rattle.hall_token.specs.Runs.{every, mayStand}
 use Rattle.hall_token.specs.Offsets.{signLength, markLength, runStart, passing, passing-short, passing-good, passing-stays}

@@ -5,27 +5,27 @@ use Prim.Native.Nat.{ℕ, _+_}
 use lib.Dec.{eqb, ltb}
 use lib.ListN.{length}
 use Rattle.operation.specs.declared.Rotation.{Rotation}
-use Rattle.hall_token.specs.declared.Fold.{Fold}
+use Rattle.hall_axes.specs.declared.Fold.{Fold}
 use Rattle.hall_token.specs.declared.FoldByte.{FoldByte}
 use Rattle.hall_token.specs.declared.FoldByte.the-variants.{Is, Other}
-use Rattle.hall_token.specs.declared.Mark.{Mark}
-use Rattle.hall_token.specs.declared.Mark.the-variants.{None, Single, Double}
-use Rattle.hall_token.specs.declared.Axis.{Axis}
-use Rattle.hall_token.specs.declared.AxisLetter.{AxisLetter}
-use Rattle.hall_token.specs.declared.AxisLetter.the-variants.{Along, Absent}
-use Rattle.hall_token.specs.declared.Previous.{Previous}
-use Rattle.hall_token.specs.declared.SettledAxis.{SettledAxis}
-use Rattle.hall_token.specs.declared.SettledAxis.the-variants.{Settled, Open}
-use Rattle.hall_token.specs.declared.Turn.{Turn}
-use Rattle.hall_token.specs.declared.Turn.the-variants.{Matrix, NoMatrix}
+use Rattle.hall_axes.specs.declared.Mark.{Mark}
+use Rattle.hall_axes.specs.declared.Mark.the-variants.{None, Single, Double}
+use Rattle.hall_axes.specs.declared.Axis.{Axis}
+use Rattle.hall_axes.specs.declared.AxisLetter.{AxisLetter}
+use Rattle.hall_axes.specs.declared.AxisLetter.the-variants.{Along, Absent}
+use Rattle.hall_axes.specs.declared.Previous.{Previous}
+use Rattle.hall_axes.specs.declared.SettledAxis.{SettledAxis}
+use Rattle.hall_axes.specs.declared.SettledAxis.the-variants.{Settled, Open}
+use Rattle.hall_axes.specs.declared.Turn.{Turn}
+use Rattle.hall_axes.specs.declared.Turn.the-variants.{Matrix, NoMatrix}
 use Rattle.hall_token.specs.declared.Moved.{Moved}
 use Rattle.hall_token.specs.declared.Moved.the-variants.{By, WrongDigit}
 use Rattle.hall_token.specs.declared.ParsedOperation.{ParsedOperation}
 use Rattle.hall_token.specs.declared.ParsedOperation.the-variants.{Operation, Refused}
 use Rattle.hall_token.specs.declared.refusal.Refusal.the-variants.{Misspelt, Primed, Unsettled, Digit, Doubled}
 use Rattle.hall_token.specs.Bytes.{foldOf, markOf, letterOf}
-use Rattle.hall_token.specs.Axes.{axisOf}
-use Rattle.hall_token.specs.Matrices.{turnOf, signed}
+use Rattle.hall_axes.specs.Axes.{axisOf}
+use Rattle.hall_axes.specs.Matrices.{turnOf, signed}
 use Rattle.hall_token.specs.Runs.{mayStand, noPrime, every}
 use Rattle.hall_token.specs.Translations.{movedBy}
 use Rattle.hall_token.specs.Offsets.{signLength, runStart, passing, wrongDigitAt}

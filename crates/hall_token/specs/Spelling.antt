@@ -7,16 +7,16 @@ use mathlib.Core.Logic.{⊎-elim, _↔_}
 use Prim.Native.Nat.{ℕ, _+_}
 use lib.Dec.{eqb}
 use borrow.Author.Tests.{eqb-true}
-use Rattle.hall_token.specs.declared.Fold.{Fold}
-use Rattle.hall_token.specs.declared.Fold.the-variants.{One, Two, Three, Four, Six}
+use Rattle.hall_axes.specs.declared.Fold.{Fold}
+use Rattle.hall_axes.specs.declared.Fold.the-variants.{One, Two, Three, Four, Six}
 use Rattle.hall_token.specs.declared.FoldByte.{FoldByte}
 use Rattle.hall_token.specs.declared.FoldByte.the-variants.{Is, Other}
-use Rattle.hall_token.specs.declared.Mark.{Mark}
-use Rattle.hall_token.specs.declared.Mark.the-variants.{None, Single, Double}
-use Rattle.hall_token.specs.declared.Direction.{Direction}
-use Rattle.hall_token.specs.declared.Direction.the-variants.{X, Y, Z, Diagonal}
-use Rattle.hall_token.specs.declared.AxisLetter.{AxisLetter}
-use Rattle.hall_token.specs.declared.AxisLetter.the-variants.{Along, Absent}
+use Rattle.hall_axes.specs.declared.Mark.{Mark}
+use Rattle.hall_axes.specs.declared.Mark.the-variants.{None, Single, Double}
+use Rattle.hall_axes.specs.declared.Direction.{Direction}
+use Rattle.hall_axes.specs.declared.Direction.the-variants.{X, Y, Z, Diagonal}
+use Rattle.hall_axes.specs.declared.AxisLetter.{AxisLetter}
+use Rattle.hall_axes.specs.declared.AxisLetter.the-variants.{Along, Absent}
 use Rattle.hall_token.specs.declared.RunByte.{RunByte}
 use Rattle.hall_token.specs.declared.RunByte.the-variants.{Foreign}
 use Rattle.hall_token.specs.Bytes.{valueAt, folds, marks, axisLetters, runBytes, foldOf, markOf, letterOf, runByteOf, passes, valueAt-passes}

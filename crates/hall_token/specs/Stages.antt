@@ -6,14 +6,14 @@ use Prim.Native.Nat.{ℕ}
 use lib.Dec.{eqb}
 use lib.ListN.{length, getD}
 use borrow.Author.Tests.{eq-eqb, ne-eqb}
-use Rattle.hall_token.specs.declared.Fold.{Fold}
+use Rattle.hall_axes.specs.declared.Fold.{Fold}
 use Rattle.hall_token.specs.declared.FoldByte.{FoldByte}
 use Rattle.hall_token.specs.declared.FoldByte.the-variants.{Is, Other}
-use Rattle.hall_token.specs.declared.Mark.{Mark}
-use Rattle.hall_token.specs.declared.Mark.the-variants.{None, Single, Double}
-use Rattle.hall_token.specs.declared.Direction.{Direction}
-use Rattle.hall_token.specs.declared.AxisLetter.{AxisLetter}
-use Rattle.hall_token.specs.declared.AxisLetter.the-variants.{Along, Absent}
+use Rattle.hall_axes.specs.declared.Mark.{Mark}
+use Rattle.hall_axes.specs.declared.Mark.the-variants.{None, Single, Double}
+use Rattle.hall_axes.specs.declared.Direction.{Direction}
+use Rattle.hall_axes.specs.declared.AxisLetter.{AxisLetter}
+use Rattle.hall_axes.specs.declared.AxisLetter.the-variants.{Along, Absent}
 use Rattle.hall_token.specs.Bytes.{foldOf, markOf, letterOf}
 use Rattle.hall_token.specs.Front.{rest, front, nothing}
 use Rattle.hall_token.specs.Offsets.{signLength}

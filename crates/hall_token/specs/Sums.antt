@@ -11,17 +11,18 @@ use lib.ListN.{length, getD, drop}
 use lib.Seq.{drop-cons, drop-length}
 use borrow.Author.Tests.{leb-true, le-ltb, lt-ltb, not-true, not-false}
 use Rattle.operation.specs.declared.Translation.{Translation}
-use Rattle.hall_token.specs.declared.Fold.{Fold}
-use Rattle.hall_token.specs.declared.Fold.the-variants.{One, Two, Three, Four, Six}
-use Rattle.hall_token.specs.declared.Axis.{Axis}
+use Rattle.hall_axes.specs.declared.Fold.{Fold}
+use Rattle.hall_axes.specs.declared.Fold.the-variants.{One, Two, Three, Four, Six}
+use Rattle.hall_axes.specs.declared.Axis.{Axis}
 use Rattle.hall_token.specs.declared.RunByte.{RunByte}
 use Rattle.hall_token.specs.declared.RunByte.the-variants.{Screw, Letter, Prime, Foreign}
 use Rattle.hall_token.specs.declared.Moved.{Moved}
 use Rattle.hall_token.specs.declared.Moved.the-variants.{By, WrongDigit}
-use Rattle.hall_token.specs.Bytes.{runBytes, runByteOf, passes, valueAt-passes, foldNumber}
+use Rattle.hall_axes.specs.Axes.{foldNumber, plainZ}
+use Rattle.hall_token.specs.Bytes.{runBytes, runByteOf, passes, valueAt-passes}
 use Rattle.hall_token.specs.Front.{rest, front, nothing}
 use Rattle.hall_token.specs.Runs.{every, noScrew, every-stop}
-use Rattle.hall_token.specs.Translations.{plainZ, letterVector, screwDigit, screwRight, frontRight, digitsRight, sumX, sumY, sumZ, rise, translationOf, movedBy}
+use Rattle.hall_token.specs.Translations.{letterVector, screwDigit, screwRight, frontRight, digitsRight, sumX, sumY, sumZ, rise, translationOf, movedBy}
 
 abbrev pub triple : ℕ → ℕ → ℕ → Translation
 triple a b c = record { x = a; y = b; z = c }

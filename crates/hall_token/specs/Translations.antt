@@ -1,31 +1,20 @@
 -- The translation rules of R2.7 and R2.8: the letters of a token's run added in twelfths, and one digit that may stand first.
-use mathlib.Core.Bool.{Bool, true, false, cond, _&&_}
+use mathlib.Core.Bool.{Bool, true, cond, _&&_}
 use mathlib.Core.List.{List, [], _∷_}
 use Prim.Native.Nat.{ℕ, _+_, _*_, _/_, _%_}
 use lib.Dec.{ltb}
 use Rattle.operation.specs.declared.Translation.{Translation}
-use Rattle.hall_token.specs.declared.Fold.{Fold}
-use Rattle.hall_token.specs.declared.Mark.{Mark}
-use Rattle.hall_token.specs.declared.Mark.the-variants.{None, Single, Double}
-use Rattle.hall_token.specs.declared.Direction.{Direction}
-use Rattle.hall_token.specs.declared.Direction.the-variants.{X, Y, Z, Diagonal}
-use Rattle.hall_token.specs.declared.Axis.{Axis}
+use Rattle.hall_axes.specs.declared.Fold.{Fold}
+use Rattle.hall_axes.specs.declared.Axis.{Axis}
 use Rattle.hall_token.specs.declared.RunByte.{RunByte}
 use Rattle.hall_token.specs.declared.RunByte.the-variants.{Screw, Letter, Prime, Foreign}
 use Rattle.hall_token.specs.declared.Moved.{Moved}
 use Rattle.hall_token.specs.declared.Moved.the-variants.{By, WrongDigit}
-use Rattle.hall_token.specs.Bytes.{runByteOf, foldNumber}
+use Rattle.hall_axes.specs.Axes.{foldNumber, plainZ}
+use Rattle.hall_token.specs.Bytes.{runByteOf}
 use Rattle.hall_token.specs.Runs.{every, noScrew}
 
 -- ---- the digit
-
-abbrev pub plainZ : Mark → Direction → Bool
-plainZ None X = false
-plainZ None Y = false
-plainZ None Z = true
-plainZ None Diagonal = false
-plainZ Single d = false
-plainZ Double d = false
 
 -- The digit of a byte; other bytes have none, which counts as 0.
 abbrev pub screwDigit : RunByte → ℕ

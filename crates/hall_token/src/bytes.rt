@@ -1,13 +1,13 @@
 // What single bytes of an N token say: folds, marks, axis letters, and the bytes of its run.
 // Ported from data/hall_symbol.rs of moyo 0.21.0, and changed: enums for strings.
 ghost use mathlib.Core.Path.{_≡_};
-ghost use Rattle.hall_token.specs.Bytes.{foldOf, markOf, letterOf, runByteOf, foldNumber};
-use super::AxisLetter;
-use super::Direction;
-use super::Fold;
+ghost use Rattle.hall_token.specs.Bytes.{foldOf, markOf, letterOf, runByteOf};
 use super::FoldByte;
-use super::Mark;
 use super::RunByte;
+use hall_axes::AxisLetter;
+use hall_axes::Direction;
+use hall_axes::Fold;
+use hall_axes::Mark;
 use operation::Translation;
 
 pub(crate) fn fold_of(byte: u8) -> FoldByte
@@ -20,18 +20,6 @@ pub(crate) fn fold_of(byte: u8) -> FoldByte
         b'4' => FoldByte::Is(Fold::Four),
         b'6' => FoldByte::Is(Fold::Six),
         _ => FoldByte::Other,
-    }
-}
-
-pub(crate) fn fold_number(fold: Fold) -> u8
-    ensures { λ r. ⌜ r ≡ foldNumber fold ⌝ }
-{
-    match fold {
-        Fold::One => 1,
-        Fold::Two => 2,
-        Fold::Three => 3,
-        Fold::Four => 4,
-        Fold::Six => 6,
     }
 }
 

@@ -1,70 +1,39 @@
 // One N token of a Hall symbol, read into an operation with its fold and axis, or refused.
-// Ported from data/hall_symbol.rs of moyo 0.21.0 (`parse_operation`, `parse_rotation_matrix`, `parse_translation_vector`), and changed: enums for
+// Ported from data/hall_symbol.rs of moyo 0.21.0 (`parse_operation`, `parse_translation_vector`), and changed: enums for
 // strings, twelfths for f64, refusals for panics and for what the Rust lets pass.
 
 ghost use mathlib.Core.Path.{_≡_};
 ghost use Rattle.hall_token.specs.Reader.{operationToken, operationOfParts, readFold, readMark, readLetter, readRun};
 
-mod axes;
 mod bytes;
 mod letters;
-mod matrices;
 mod offsets;
 pub mod refusal;
 mod translations;
 
-use axes::axis_of;
 use bytes::fold_of;
 use bytes::letter_of;
 use bytes::mark_of;
+use hall_axes::Axis;
+use hall_axes::AxisLetter;
+use hall_axes::Fold;
+use hall_axes::Mark;
+use hall_axes::Previous;
+use hall_axes::SettledAxis;
+use hall_axes::Turn;
+use hall_axes::axes::axis_of;
+use hall_axes::matrices::rotation_about;
+use hall_axes::matrices::with_sign;
 use letters::first_repeat;
-use matrices::rotation_about;
-use matrices::with_sign;
 use offsets::passing;
 use offsets::run_start;
 use offsets::sign_length;
 use offsets::wrong_digit;
-use operation::Rotation;
 use operation::Translation;
 use refusal::Refusal;
 use translations::spelt;
 use translations::translation_of;
 use translations::unprimed;
-
-pub enum Fold {
-    One,
-    Two,
-    Three,
-    Four,
-    Six,
-}
-
-// No mark, `^` (p in the Rust), `=` (pp in the Rust).
-pub enum Mark {
-    None,
-    Single,
-    Double,
-}
-
-// Diagonal is `*`, the direction a+b+c.
-pub enum Direction {
-    X,
-    Y,
-    Z,
-    Diagonal,
-}
-
-pub struct Axis {
-    pub mark: Mark,
-    pub direction: Direction,
-}
-
-// What stands to the left of an N token: how many N tokens, and the last one's fold and axis, which mean nothing where there is none.
-pub struct Previous {
-    pub count: usize,
-    pub fold: Fold,
-    pub axis: Axis,
-}
 
 // An operation with its fold and axis, or what is wrong with the token, and at which offset in it.
 pub enum ParsedOperation {
@@ -78,37 +47,12 @@ pub(crate) enum FoldByte {
     Other,
 }
 
-// The letter of an axis, where one is written.
-pub(crate) enum AxisLetter {
-    Along(Direction),
-    Absent,
-}
-
 // What a byte of a token's run says: a screw's digit, a letter's translation, time reversal, or nothing that may stand there.
 pub(crate) enum RunByte {
     Screw(u8),
     Letter(Translation),
     Prime,
     Foreign,
-}
-
-// The place of a token among the N tokens.
-pub(crate) enum Place {
-    First,
-    Second,
-    Third,
-    Later,
-}
-
-pub(crate) enum SettledAxis {
-    Settled(Axis),
-    Open,
-}
-
-// The rotation of a fold about an axis, if there is one among the twenty.
-pub(crate) enum Turn {
-    Matrix(Rotation),
-    NoMatrix,
 }
 
 // Classes of a run's bytes: those that may stand in it, and those that are no digit.

@@ -1,10 +1,6 @@
 // Offsets in an N token: where its parts start, and which byte of its run is the first that offends.
 ghost use mathlib.Core.Path.{_≡_};
 ghost use Rattle.hall_token.specs.Offsets.{signLength, markLength, letterLength, runStart, ofClass, passing, wrongDigitAt};
-use super::Axis;
-use super::AxisLetter;
-use super::Fold;
-use super::Mark;
 use super::Moved;
 use super::RunByte;
 use super::RunClass;
@@ -12,6 +8,10 @@ use super::bytes::run_byte;
 use super::translations::may_stand;
 use super::translations::no_screw;
 use super::translations::translation_of;
+use hall_axes::Axis;
+use hall_axes::AxisLetter;
+use hall_axes::Fold;
+use hall_axes::Mark;
 
 pub(crate) fn sign_length(negative: bool) -> usize
     ensures { λ r. ⌜ r ≡ signLength negative ⌝ }

@@ -3,16 +3,15 @@
 ghost use mathlib.Core.Path.{_≡_};
 ghost use Prim.Native.Nat.{_<_};
 ghost use Rattle.hall_token.specs.Runs.{every, mayStand, noPrime, noScrew};
-ghost use Rattle.hall_token.specs.Translations.{plainZ, screwDigit, letterVector, movedBy};
+ghost use Rattle.hall_token.specs.Translations.{screwDigit, letterVector, movedBy};
 ghost use Rattle.hall_token.specs.Sums.{lettersFrom};
-use super::Axis;
-use super::Direction;
-use super::Fold;
-use super::Mark;
 use super::Moved;
 use super::RunByte;
-use super::bytes::fold_number;
 use super::bytes::run_byte;
+use hall_axes::Axis;
+use hall_axes::Fold;
+use hall_axes::axes::fold_number;
+use hall_axes::axes::plain_z;
 use operation::Translation;
 
 pub(crate) fn may_stand(byte: RunByte) -> bool
@@ -63,21 +62,6 @@ pub(crate) fn unprimed(run: &[u8]) -> bool
         i += 1;
     }
     true
-}
-
-fn plain_z(mark: Mark, direction: Direction) -> bool
-    ensures { λ r. ⌜ r ≡ plainZ mark direction ⌝ }
-{
-    match mark {
-        Mark::None => match direction {
-            Direction::X => false,
-            Direction::Y => false,
-            Direction::Z => true,
-            Direction::Diagonal => false,
-        },
-        Mark::Single => false,
-        Mark::Double => false,
-    }
 }
 
 fn screw_digit(byte: RunByte) -> u8

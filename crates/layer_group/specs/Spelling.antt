@@ -13,7 +13,7 @@ use Rattle.operation.specs.declared.Operation.{Operation}
 use Rattle.centering.specs.Letters.{byteOf}
 use Rattle.centering.specs.declared.Centering.{Centering}
 use Rattle.centering.specs.declared.Centering.the-variants.{P, A, B, C, I, R, F, H}
-use Rattle.hall_token.specs.declared.Previous.{Previous}
+use Rattle.hall_axes.specs.declared.Previous.{Previous}
 use Rattle.hall_symbol.specs.Bytes.{whitespace, solid, allowed}
 use Rattle.hall_symbol.specs.Runs.{run, Every, Stops, every-run, run-all, run-at, run-below}
 use Rattle.hall_symbol.specs.Cut.{Cut, FirstToken, blank, token, first-token, solid-not-whitespace, cut-blank, cut-firstword, cut-length}

@@ -11,3 +11,5 @@ pub mod Answers
 pub mod Numbers
 -- The answers by number and place:
 pub mod Told
+-- Texts without `'`, beside the plain entry:
+pub mod Unprimed

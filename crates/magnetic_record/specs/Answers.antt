@@ -10,7 +10,6 @@ use Rattle.operation.specs.Answer.{Answer, given, refused, Nothing}
 use Rattle.centering.specs.Letters.{byteOf, letterOf}
 use Rattle.centering.specs.LatticeLaws.{letter-by-byte}
 use Rattle.centering.specs.declared.Centering.{Centering}
-use Rattle.centering.specs.declared.Letter.{Letter}
 use Rattle.centering.specs.declared.Letter.the-variants as letter
 use Rattle.group_record.specs.Items.{Bytes}
 use Rattle.group_record.specs.Rules.{Told, holds, toldBy}

@@ -1,26 +1,30 @@
 -- A copy of what was read, from a stated place of a lent buffer: what is answered, and what the buffer holds afterwards. What is accepted is copied as the
 -- bytes that it was read from.
-use mathlib.Core.Path.{_≡_, refl, sym, _∙_, ap, ap₂}
-use mathlib.Core.Bool.{Bool, cond}
+use mathlib.Core.Path.{_≡_, refl, sym, _∙_, ap, ap₂, subst}
+use mathlib.Core.Bool.{Bool, true, false, cond, not}
 use mathlib.Core.List.{List, _++_}
-use Prim.Native.Nat.{ℕ, _+_, _-_, _≤_}
+use Prim.Native.Nat.{ℕ, _+_, _*_, _-_, _≤_}
 use native.Mathlib.Omega.{arith}
-use lib.ListN.{length, drop, length-append}
+use lib.Dec.{ltb}
+use lib.ListN.{length, take, drop, length-append}
 use lib.Seq.{drop-at}
+use Rattle.operation.specs.Answer.{given}
 use Rattle.centering.specs.Letters.{byteOf}
 use Rattle.centering.specs.declared.Centering.{Centering}
 use Rattle.group_record.specs.Items.{Bytes}
 use Rattle.group_record.specs.Editions.{totalLength, framed, framed-length}
 use Rattle.group_record.specs.Rules.{Told, holds, toldBy}
 use Rattle.group_record.specs.Rules.{refused as not-held}
-use Rattle.group_record.specs.Places.{roomFrom, placedIn}
+use Rattle.group_record.specs.Places.{roomFrom, placedIn, placed-end}
+use Rattle.group_record.specs.Copying.{copyAnswer}
+use Rattle.group_record.specs.WritingNumbers.{noRoom, orNoRoom, room-as}
 use Rattle.group_record.specs.declared.Refusal.{Refusal}
 use Rattle.group_record.specs.declared.Copied.{Copied}
 use Rattle.group_record.specs.declared.Copied.the-variants.{Written, NoRoom, Refused as NotCopied}
 use Rattle.magnetic_record.specs.SecondEdition.{MagneticItem, secondEdition}
 use Rattle.magnetic_record.specs.Reading.{magneticRules}
 use Rattle.magnetic_record.specs.RoundTrips.{MagneticReads, magnetic-written-again}
-use Rattle.magnetic_record.specs.Answers.{readingBy, readingOf}
+use Rattle.magnetic_record.specs.Answers.{readingBy, readingOf, magneticOrderAnswer}
 use Rattle.magnetic_record.specs.declared.MagneticReading.{MagneticReading}
 use Rattle.magnetic_record.specs.declared.MagneticReading.the-variants.{Is, Refused}
 
@@ -53,21 +57,21 @@ pub record RecordAtEnd (bytes : List ℕ) (n : ℕ) : Type 0 where
   pub last : drop (length bytes - totalLength 6 n) bytes ≡ framed secondEdition (byteOf letter) items
 
 module _ (bytes : List ℕ) where
-  at-end : (b : Bytes bytes) (c : Centering) (items : List MagneticItem) → toldBy magneticRules bytes ≡ holds tt c items → RecordAtEnd bytes (length items)
-  at-end b c items e =
+  -- What is told stands at the end.
+  end-bytes : (b : Bytes bytes) (c : Centering) (items : List MagneticItem) → toldBy magneticRules bytes ≡ holds tt c items
+      → (totalLength 6 (length items) ≤ length bytes) × (drop (length bytes - totalLength 6 (length items)) bytes ≡ framed secondEdition (byteOf c) items)
+  end-bytes b c items e =
       let R = magnetic-written-again bytes b c items e in
       let written = framed secondEdition (byteOf c) items in
       let size : length written ≡ totalLength 6 (length items) = framed-length secondEdition (byteOf c) items in
       let whole : length bytes ≡ length (R .front) + length written = ap length (R .same-bytes) ∙ length-append (R .front) written in
       let place : length (R .front) ≡ length bytes - totalLength 6 (length items) = omega arith in
-      record {
-        letter = c;
-        items = items;
-        told = e;
-        count = refl;
-        long = omega arith;
-        last = ap (drop (length bytes - totalLength 6 (length items))) (R .same-bytes) ∙ drop-at (R .front) written _ place;
-      }
+      (omega arith, ap (drop (length bytes - totalLength 6 (length items))) (R .same-bytes) ∙ drop-at (R .front) written _ place)
+
+  at-end : (b : Bytes bytes) (c : Centering) (items : List MagneticItem) → toldBy magneticRules bytes ≡ holds tt c items → RecordAtEnd bytes (length items)
+  at-end b c items e =
+      let (long, last) = end-bytes b c items e in
+      record { letter = c; items = items; told = e; count = refl; long = long; last = last }
 
   pub read-end : Bytes bytes → (c : Centering) (n : ℕ) → Is c n ≡ readingOf bytes → RecordAtEnd bytes n
   read-end b c n e = go (toldBy magneticRules bytes) refl e
@@ -101,3 +105,41 @@ module _ (bytes : List ℕ) where
               ∙ ap (λ (t : Told MagneticItem Centering (Unit {0})). copiedBy t start (length out)) (sym (E .told)),
           placed ∙ ap (placedIn out start) own ∙ ap (λ (t : Told MagneticItem Centering (Unit {0})). copyBy t out start) (sym (E .told)),
         )
+
+    -- Where n operations were copied, the bytes from the start on are those that were read.
+    pub copied-same : Bytes bytes → (n : ℕ) → magneticCopiedOf bytes out start ≡ Written n
+        → take (start + totalLength 6 n) (magneticCopyBuffer bytes out start) ≡ take start out ++ drop (length bytes - totalLength 6 n) bytes
+    unfolding magneticCopiedOf magneticCopyBuffer
+    copied-same b n e = by (toldBy magneticRules bytes) refl e
+      where
+        by : (t : Told MagneticItem Centering (Unit {0})) → toldBy magneticRules bytes ≡ t → copiedBy t start (length out) ≡ Written n
+            → take (start + totalLength 6 n) (copyBy t out start) ≡ take start out ++ drop (length bytes - totalLength 6 n) bytes
+        by (not-held why) told p = let z : _≡_ {A = ℕ} 0 1 = cc in absurd (omega arith)
+        by (holds k c items) told p = go (roomFrom start (totalLength 6 (length items)) (length out)) refl p
+          where
+            go : (r : Bool) → roomFrom start (totalLength 6 (length items)) (length out) ≡ r → cond r (Written (length items)) NoRoom ≡ Written n
+                → take (start + totalLength 6 n) (placedIn out start (framed secondEdition (byteOf c) items))
+                ≡ take start out ++ drop (length bytes - totalLength 6 n) bytes
+            go false room q = let z : _≡_ {A = ℕ} 0 1 = cc in absurd (omega arith)
+            go true room q =
+                let count : length items ≡ n = cc in
+                let written = framed secondEdition (byteOf c) items in
+                let end = placed-end out start (totalLength 6 (length items)) written (framed-length secondEdition (byteOf c) items) room in
+                let same = end ∙ ap (λ (l : List ℕ). take start out ++ l) (sym (end-bytes b c items told .1)) in
+                subst (λ (m : ℕ). take (start + totalLength 6 m) (placedIn out start written) ≡ take start out ++ drop (length bytes - totalLength 6 m) bytes) count same
+
+    -- What is answered in numbers: 30 to 35 as for the order, then 20 where fewer than 6n + 5 bytes stand from the start on, else the order.
+    pub magnetic-copy-told : copyAnswer (magneticCopiedOf bytes out start) ≡ orNoRoom 6 (magneticOrderAnswer (readingOf bytes)) start (length out)
+    unfolding magneticCopiedOf
+    magnetic-copy-told = by (toldBy magneticRules bytes)
+      where
+        fits : (n : ℕ) (b : Bool) → copyAnswer (cond (not b) (Written n) NoRoom) ≡ cond b noRoom (given n)
+        fits n true = refl
+        fits n false = refl
+
+        by : (t : Told MagneticItem Centering (Unit {0}))
+            → copyAnswer (copiedBy t start (length out)) ≡ orNoRoom 6 (magneticOrderAnswer (readingBy t)) start (length out)
+        by (holds k c items) =
+            let n = length items in
+            rw (room-as (6 * n + 5) start (length out)) (fits n (ltb (length out) (start + (6 * n + 5))))
+        by (not-held why) = refl

@@ -19,3 +19,4 @@ pub mod Search
 pub mod Numbers
 pub mod Trailer
 pub mod Copying
+pub mod TextSets

@@ -1,7 +1,6 @@
 -- The items of a magnetic record as numbers, by which products are made: each number says its item's operation and flag, so what is found of the product of
 -- two numbers is what the test of 35 asks of the two items.
-use mathlib.Core.Path.{_≡_, refl, sym, _∙_, ap, ap₂}
-use mathlib.Core.Bool.{Bool}
+use mathlib.Core.Path.{_≡_, refl, _∙_, ap}
 use mathlib.Core.List.{List}
 use Prim.Native.Nat.{ℕ, _+_, _%_, _<_, _≤_}
 use native.Mathlib.Omega.{arith}

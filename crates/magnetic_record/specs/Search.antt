@@ -1,14 +1,14 @@
 -- Items of a magnetic record by their places, and the search for one by its key: keys ascend, so halving finds the only place where an operation can be listed
 -- with its flag.
-use mathlib.Core.Path.{_≡_, refl, sym, _∙_, ap, subst}
-use mathlib.Core.Bool.{Bool, true, false}
+use mathlib.Core.Path.{_≡_, sym, _∙_, ap, subst}
+use mathlib.Core.Bool.{true, false}
 use mathlib.Core.List.{List, List·Memᴰ as Mem, Memᴰ·cast as mem-cast}
 use Prim.Native.Nat.{ℕ, _+_, _*_, _<_, _≤_}
 use native.Mathlib.Omega.{arith}
 use native.Mathlib.Decide.{ℕ-discrete, decLt}
 use borrow.Author.Tests.{eqb-true, eq-eqb}
 use lib.Dec.{eqb, leb}
-use lib.ListN.{length, getD, drop}
+use lib.ListN.{length, drop}
 use Rattle.laws.specs.Distinct.{has}
 use Rattle.laws.specs.Lattice.{same-test}
 use Rattle.laws.specs.Sorted.{sorted-places}

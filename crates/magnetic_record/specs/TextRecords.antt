@@ -1,6 +1,6 @@
 -- The record of a magnetic symbol's text, written from a stated place of a lent buffer: what is answered, and what the buffer holds afterwards.
 use mathlib.Core.Bool.{cond}
-use mathlib.Core.List.{List}
+use mathlib.Core.List.{List, []}
 use Prim.Native.Nat.{ℕ}
 use lib.ListN.{length}
 use Rattle.symbol_group.specs.declared.refusal.Refusal.the-variants.{Text, Group as NoGroup}
@@ -12,6 +12,15 @@ use Rattle.group_record.specs.declared.SymbolRecord.{SymbolRecord}
 use Rattle.group_record.specs.declared.SymbolRecord.the-variants.{Written, NoRoom, Refused as NotWritten}
 use Rattle.magnetic_record.specs.SecondEdition.{secondEdition}
 use Rattle.magnetic_record.specs.Record.{magneticRecord}
+
+-- The record of an accepted text.
+abbrev pub recordBy : SymbolOutcome → List ℕ
+recordBy (made c (group operations steps)) = magneticRecord c operations
+recordBy (made c (refused r)) = []
+recordBy (misread r) = []
+
+unfoldable pub magneticTextRecord : List ℕ → List ℕ
+magneticTextRecord text = recordBy (magneticOutcome text)
 
 -- The symbol's refusal goes first; then there is room for its record, or 20.
 abbrev pub writtenBy : SymbolOutcome → ℕ → ℕ → SymbolRecord

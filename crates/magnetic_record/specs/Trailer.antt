@@ -1,7 +1,7 @@
 -- What each test of a magnetic record's reader leaves of the reading, in the order in which they are tried: 30, 31, 32, 33, then 34 and 35 on the part of the
 -- buffer that starts with the record.
-use mathlib.Core.Path.{_≡_, refl, sym, _∙_, ap}
-use mathlib.Core.Bool.{Bool, true, false}
+use mathlib.Core.Path.{_≡_, sym, _∙_, ap}
+use mathlib.Core.Bool.{true, false}
 use mathlib.Core.List.{List}
 use Prim.Native.Nat.{ℕ, _+_, _*_, _-_, _<_, _≤_}
 use borrow.Author.Tests.{lt-ltb, le-ltb, eq-eqb, ne-eqb}
@@ -71,7 +71,8 @@ module _ (c : Centering) (bytes : List ℕ) (n high low : ℕ) (p : n ≡ fromEn
     unfolding itemsTold
     items-wrong e = on-part ∙ rw e
 
-    pub items-barred : areGood magneticRules tt c (itemsOf n part) ≡ true → isMagneticGroup c (itemsOf n part) ≡ false → readCounted c bytes ≡ Refused NotAllowed
+    pub items-barred : areGood magneticRules tt c (itemsOf n part) ≡ true → isMagneticGroup c (itemsOf n part) ≡ false
+        → readCounted c bytes ≡ Refused NotAllowed
     unfolding itemsTold
     items-barred e g = on-part ∙ rw (e, g)
 

@@ -10,7 +10,7 @@ use lib.ListN.{length, length-append}
 use Rattle.operation.specs.declared.Operation.{Operation}
 use Rattle.centering.specs.declared.Centering.{Centering}
 use Rattle.centering.specs.declared.Centering.the-variants.{P, A, B, C, I, R, F, H}
-use Rattle.hall_token.specs.declared.Previous.{Previous}
+use Rattle.hall_axes.specs.declared.Previous.{Previous}
 use Rattle.hall_symbol.specs.Bytes.{whitespace, opening}
 use Rattle.hall_symbol.specs.Runs.{Every, Stops, every-append, every-run}
 use Rattle.hall_symbol.specs.Cut.{Cut, FirstToken, cut-blank, cut-firstword, cut-behind, cut-length}

@@ -12,9 +12,9 @@ use lib.ListN.{length, getD, length-append}
 use Rattle.hall_token.specs.Answers.{HasPrime, IsPrimed}
 use Rattle.hall_token.specs.Misspelt.{Spelling}
 use Rattle.hall_token.specs.Spelling.{signBytes, foldByte, markBytes, letterBytes}
-use Rattle.hall_token.specs.declared.Fold.{Fold}
-use Rattle.hall_token.specs.declared.Fold.the-variants.{One, Two, Three, Four, Six}
-use Rattle.hall_token.specs.declared.Previous.{Previous}
+use Rattle.hall_axes.specs.declared.Fold.{Fold}
+use Rattle.hall_axes.specs.declared.Fold.the-variants.{One, Two, Three, Four, Six}
+use Rattle.hall_axes.specs.declared.Previous.{Previous}
 use Rattle.hall_token.specs.declared.refusal.Refusal.the-variants.{Primed}
 use Rattle.hall_symbol.specs.Bytes.{whitespace, solid, allowed, opening}
 use Rattle.hall_symbol.specs.Runs.{Every, Stops}

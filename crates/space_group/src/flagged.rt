@@ -3,11 +3,12 @@
 ghost use mathlib.Core.Path.{_≡_};
 ghost use mathlib.Core.List.{_++_, map};
 ghost use Prim.Native.Nat.{_≤_};
-ghost use lib.ListN.{length, take, drop, replicate};
+ghost use lib.ListN.{length, getD, take, drop, replicate};
 ghost use Rattle.group_growth.specs.Flagged.{flaggedBy};
 ghost use Rattle.space_group.specs.NumberGrowth.{unitNumber};
 ghost use Rattle.space_group.specs.FlaggedGenerators.{withFlags, flaggedNumber};
 ghost use Rattle.space_group.specs.FlaggedOutcomes.{numberOutcome, answerBy, slotsBy};
+ghost use Rattle.space_group.specs.FlaggedSlots.{Begins, countIn, cleared, atMostNine};
 use crate::group::first_off;
 use crate::refusal::Refusal;
 use crate::traverse::generator_number;
@@ -59,7 +60,7 @@ fn fill(numbers: &mut [u64])
     }
 }
 
-// The list of n generators in slots that hold the identity, or none and slots as they were.
+// The list of n generators from the front of slots whose first holds the identity, or none. What is behind it is left as it comes.
 fn listed(
     c: Centering,
     n: usize,
@@ -67,9 +68,8 @@ fn listed(
     flags: [bool; 9],
     numbers: &mut [u64],
 ) -> FlaggedAnswer
-    requires { ⌜ (n ≤ 9) × (now numbers ≡ replicate 96 unitNumber) ⌝ }
-    ensures { λ r. ⌜ (r ≡ answerBy (numberOutcome c (withFlags (take n generators) (take n flags))))
-        × (now (numbers .exit) ≡ slotsBy (numberOutcome c (withFlags (take n generators) (take n flags)))) ⌝ }
+    requires { ⌜ (n ≤ 9) × (length (now numbers) ≡ 96) × (getD (now numbers) 0 0 ≡ unitNumber) ⌝ }
+    ensures { λ r. ⌜ Begins (numberOutcome c (withFlags (take n generators) (take n flags))) r (now (numbers .exit)) ⌝ }
 {
     let off = first_off(c, n, generators);
     if off < n {
@@ -80,18 +80,42 @@ fn listed(
     let mut steps = [0u8; 864];
     let ended = traverse(c, n, &factors, 96, numbers, &mut steps);
     if !ended.within {
-        fill(numbers);
         return FlaggedAnswer::Refused(Refusal::Rotations);
     }
     if !ended.steady {
-        fill(numbers);
         return FlaggedAnswer::Refused(Refusal::Translations);
     }
     FlaggedAnswer::Group(ended.count)
 }
 
+fn listed_count(answer: FlaggedAnswer) -> usize
+    ensures { λ r. ⌜ r ≡ countIn answer ⌝ }
+{
+    match answer {
+        FlaggedAnswer::Group(count) => count,
+        FlaggedAnswer::Refused(_) => 0,
+    }
+}
+
+// The slots from a place on hold the identity.
+fn clear_from(numbers: &mut [u64], from: usize)
+    requires { ⌜ from ≤ length (now numbers) ⌝ }
+    ensures { λ _. ⌜ now (numbers .exit) ≡ cleared from (now (numbers .entry)) ⌝ }
+{
+    fill(&mut numbers[from..]);
+}
+
+fn at_most_nine(n: usize) -> usize
+    ensures { λ r. ⌜ (r ≡ atMostNine n) × (r ≤ 9) ⌝ }
+{
+    if 9 < n {
+        return 9;
+    }
+    n
+}
+
 // The group of a lattice and the first n of nine generators with their flags, or of all where n is over 9. The slots hold the list from their front, and
-// behind it, or where there is no group, the identity.
+// behind it, or where there is no group, the identity: that is written in one place, behind the list.
 pub fn flagged_group(
     c: Centering,
     n: usize,
@@ -102,9 +126,8 @@ pub fn flagged_group(
     ensures { λ r. ⌜ (r ≡ answerBy (numberOutcome c (withFlags (take n generators) (take n flags))))
         × (now (numbers .exit) ≡ slotsBy (numberOutcome c (withFlags (take n generators) (take n flags)))) ⌝ }
 {
-    fill(numbers);
-    if 9 < n {
-        return listed(c, 9, generators, flags, numbers);
-    }
-    listed(c, n, generators, flags, numbers)
+    numbers[0] = IDENTITY;
+    let answer = listed(c, at_most_nine(n), generators, flags, numbers);
+    clear_from(numbers, listed_count(answer));
+    answer
 }

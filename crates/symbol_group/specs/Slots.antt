@@ -1,29 +1,41 @@
 -- How the answers are put together from the reader's and the group's, and what holds of their slots.
-use mathlib.Core.Path.{_≡_, refl, sym, _∙_, ap}
-use mathlib.Core.List.{List}
+use mathlib.Core.Path.{_≡_, refl, sym, _∙_, ap, ap₂}
+use mathlib.Core.List.{List, [], _∷_}
 use Prim.Native.Nat.{ℕ, _≤_, _<_}
 use native.Mathlib.Omega.{arith}
 use lib.ListN.{length, getD, take}
 use borrow.Author.Tests.{lt-ltb, le-ltb}
-use Rattle.operation.specs.Product.{identityOperation}
+use lib.IntN.{one}
+use Rattle.laws.specs.Integer.{nought}
+use Rattle.laws.specs.Matrix.{unit, origin}
+use Rattle.laws.specs.Residue.{residue}
+use Rattle.laws.specs.Lattice.{all}
+use Rattle.laws.specs.Closure.{fresh, run, closure}
+use Rattle.laws.specs.SameMatrix.{sameInteger, sameMatrix}
+use Rattle.laws.specs.Growth.{place}
+use Rattle.laws.specs.GrowthClosure.{agrees, stepsFrom, steadyFrom}
+use Rattle.operation.specs.Meaning.{entryOf, matrixOf, vectorOf, motionOf, digitAbove, digitOf, inside, rowInside, allInside}
+use Rattle.operation.specs.Product.{identityOperation, operationOf}
 use Rattle.operation.specs.declared.Operation.{Operation}
 use Rattle.centering.specs.declared.Centering.{Centering}
+use Rattle.centering.specs.declared.Centering.the-variants.{P}
 use Rattle.hall_symbol.specs.Answers.{slots-listed}
 use Rattle.hall_symbol.specs.Reader as reader
-use Rattle.hall_symbol.specs.declared.refusal.Refusal as text
+use Rattle.hall_symbol.specs.declared.Answer as text-type
 use Rattle.hall_symbol.specs.declared.Answer.the-variants as text-answer
 use Rattle.hall_symbol.specs.declared.HallSymbol.{HallSymbol}
-use Rattle.space_group.specs.Generated.{Outcome, group, refused, outcomeOf}
+use Rattle.space_group.specs.Generated.{firstOff, listing, isSmall, sameVectorClass, onList, Outcome, group, refused, outcomeOf}
 use Rattle.space_group.specs.Resuming.{padded-length, at-any}
 use Rattle.space_group.specs.Slots.{answerOf, groupAnswer, outcome-few}
 use Rattle.space_group.specs.declared.Answer as group-type
 use Rattle.space_group.specs.declared.Answer.the-variants as group-answer
 use Rattle.space_group.specs.declared.SpaceGroup.{SpaceGroup}
-use Rattle.symbol_group.specs.Answers.{refusedAnswer, outcomeAnswer, readingAnswer, symbolAnswer, orderOf, operationAt, translationBy, translationAt}
+use Rattle.symbol_group.specs.Answers.{outcomeAnswer, readingAnswer, symbolAnswer, orderOf, operationAt, translationBy, translationAt}
 use Rattle.symbol_group.specs.declared.refusal.Refusal.{Refusal}
 use Rattle.symbol_group.specs.declared.refusal.Refusal.the-variants.{Text, Group as NoGroup}
 use Rattle.symbol_group.specs.declared.Answer.{Answer}
 use Rattle.symbol_group.specs.declared.Answer.the-variants.{Group, Refused}
+use Rattle.symbol_group.specs.declared.Head.{Head}
 use Rattle.symbol_group.specs.declared.SymbolGroup.{SymbolGroup}
 use Rattle.symbol_group.specs.declared.SymbolOrder.the-variants.{Is, Refused as OrderRefused}
 use Rattle.symbol_group.specs.declared.SymbolOperation.{SymbolOperation}
@@ -55,26 +67,49 @@ unfolding groupAnswer
 group-told c gens g e = ap symbolBy e ∙ outcome-told c (length gens) (outcomeOf c gens)
 
 -- ---- from a reading
-reading-refused : (s : reader.Reading) (r : text.Refusal) → reader.answerOf s .answer ≡ text-answer.Refused r → refusedAnswer (Text r) ≡ readingAnswer s
-reading-refused (reader.symbol c gens) r e = let z : _≡_ {A = ℕ} 0 1 = cc in absurd (omega arith)
-reading-refused (reader.refusal q) r e = let z : q ≡ r = cc in rw z
+-- The text's refusal goes first; then the group's answer.
+abbrev pub headBy : text-type.Answer → group-type.Answer → ℕ → Head
+headBy (text-answer.Refused r) told count = record { answer = Refused (Text r); count = 0 }
+headBy text-answer.Symbol told count = record { answer = answerBy told; count = count }
 
-reading-group : (s : reader.Reading) (h : HallSymbol) → h ≡ reader.answerOf s → h .answer ≡ text-answer.Symbol
-    → outcomeAnswer (h .centering) (length (take (h .count) (h .generators))) (outcomeOf (h .centering) (take (h .count) (h .generators))) ≡ readingAnswer s
-reading-group (reader.symbol c gens) h e a = rw (e, slots-listed gens)
-reading-group (reader.refusal q) h e a = let b = sym (ap (λ (h : HallSymbol). h .answer) e) ∙ a in let z : _≡_ {A = ℕ} 0 1 = cc in absurd (omega arith)
+-- A head over the slots of a group.
+abbrev laid : Head → SpaceGroup → SymbolGroup
+laid head g =
+    record {
+      answer = head .answer;
+      centering = g .centering;
+      count = head .count;
+      operations = g .operations;
+      generators = g .generators;
+      steps = g .steps;
+    }
 
-module _ (bytes : List ℕ) (h : HallSymbol) (e : h ≡ reader.answerOf (reader.readSymbol bytes)) where
-  -- The text is no symbol,
-  pub symbol-refused : (r : text.Refusal) → h .answer ≡ text-answer.Refused r → refusedAnswer (Text r) ≡ symbolAnswer bytes
+-- No generators make the identity alone.
+no-generators : outcomeOf P [] ≡ group (identityOperation ∷ []) []
+unfolding outcomeOf firstOff listing isSmall sameVectorClass onList operationOf motionOf matrixOf vectorOf entryOf digitAbove digitOf inside rowInside allInside
+    agrees stepsFrom steadyFrom place sameInteger sameMatrix fresh run closure all residue unit origin nought one
+no-generators = refl
+
+alone : groupAnswer P [] ≡ answerOf P 0 (group (identityOperation ∷ []) [])
+unfolding groupAnswer
+alone = ap (answerOf P 0) no-generators
+
+module _ (bytes : List ℕ) (h : HallSymbol) (e : h ≡ reader.answerOf (reader.readSymbol bytes)) (g : SpaceGroup)
+    (made : g ≡ groupAnswer (h .centering) (take (h .count) (h .generators))) (head : Head) (told : head ≡ headBy (h .answer) (g .answer) (g .count)) where
+  by-reading : (s : reader.Reading) → h ≡ reader.answerOf s → laid head g ≡ readingAnswer s
+  by-reading (reader.symbol c gens) p =
+      let own = told ∙ ap (λ (x : HallSymbol). headBy (x .answer) (g .answer) (g .count)) p in
+      let grown = made ∙ ap (λ (x : HallSymbol). groupAnswer (x .centering) (take (x .count) (x .generators))) p ∙ ap (groupAnswer c) (slots-listed gens) in
+      ap (λ (x : Head). laid x g) own ∙ group-told c gens g grown
+  by-reading (reader.refusal r) p =
+      let own = told ∙ ap (λ (x : HallSymbol). headBy (x .answer) (g .answer) (g .count)) p in
+      let grown = made ∙ ap (λ (x : HallSymbol). groupAnswer (x .centering) (take (x .count) (x .generators))) p ∙ alone in
+      ap₂ laid own grown
+
+  -- The answer of a text: what it decides, over the slots of its generators' group.
+  pub symbol-laid : laid head g ≡ symbolAnswer bytes
   unfolding symbolAnswer
-  symbol-refused r a = reading-refused (reader.readSymbol bytes) r (sym (ap (λ (h : HallSymbol). h .answer) e) ∙ a)
-
-  -- or it is one.
-  pub symbol-read : h .answer ≡ text-answer.Symbol → outcomeAnswer (h .centering) (length (take (h .count) (h .generators))) (outcomeOf (h .centering)
-      (take (h .count) (h .generators))) ≡ symbolAnswer bytes
-  unfolding symbolAnswer
-  symbol-read a = reading-group (reader.readSymbol bytes) h e a
+  symbol-laid = by-reading (reader.readSymbol bytes) e
 
 -- ---- the slots of a symbol's group
 outcome-slots : (c : Centering) (n : ℕ) (gens : List Operation) (o : Outcome) → outcomeOf c gens ≡ o → (outcomeAnswer c n o .count ≤ 48)

@@ -23,8 +23,8 @@ use Rattle.centering.specs.Letters.{letterAmong, letterOf}
 use Rattle.centering.specs.Keeps.{keepsOf}
 use Rattle.hall_token.specs.Bytes as token-bytes
 use Rattle.hall_token.specs.Runs as token-runs
-use Rattle.hall_token.specs.Axes as token-axes
-use Rattle.hall_token.specs.Matrices as token-matrices
+use Rattle.hall_axes.specs.Axes as token-axes
+use Rattle.hall_axes.specs.Matrices as token-matrices
 use Rattle.hall_token.specs.Translations as token-translations
 use Rattle.hall_token.specs.Offsets as token-offsets
 use Rattle.hall_token.specs.RunLetters as token-letters

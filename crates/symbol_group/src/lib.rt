@@ -1,10 +1,8 @@
 // The group of a Hall symbol: its order, its operations in list order, their translations as doubles, and the whole by value, or the symbol's refusal.
 // Ported from data/hall_symbol.rs of moyo 0.21.0 (`HallSymbol::new` and then `traverse`), and changed: one call from the text, and numbered refusals.
 ghost use mathlib.Core.Path.{_≡_};
-ghost use Rattle.symbol_group.specs.Answers.{refusedAnswer, outcomeAnswer, symbolAnswer, orderOf, operationAt, translationAt};
-ghost use Rattle.symbol_group.specs.Slots.{answerBy};
-ghost use Rattle.space_group.specs.Generated.{outcomeOf};
-ghost use lib.ListN.{take, length};
+ghost use Rattle.symbol_group.specs.Answers.{symbolAnswer, orderOf, operationAt, translationAt};
+ghost use Rattle.symbol_group.specs.Slots.{answerBy, headBy};
 
 pub mod refusal;
 
@@ -13,7 +11,6 @@ use hall_symbol::HallSymbol;
 use operation::Operation;
 use operation::doubles::Doubles;
 use operation::doubles::to_doubles;
-use operation::product::identity;
 use refusal::Refusal;
 use space_group::SpaceGroup;
 
@@ -31,6 +28,12 @@ pub struct SymbolGroup {
     pub operations: [Operation; 48],
     pub generators: usize,
     pub steps: [u8; 432],
+}
+
+// What of the answer the text decides.
+struct Head {
+    answer: Answer,
+    count: usize,
 }
 
 // How many operations a symbol has.
@@ -53,20 +56,6 @@ pub enum SymbolTranslation {
     Refused(Refusal),
 }
 
-fn refused(refusal: Refusal) -> SymbolGroup
-    ensures { λ r. ⌜ r ≡ refusedAnswer refusal ⌝ }
-{
-    let e = identity();
-    SymbolGroup {
-        answer: Answer::Refused(refusal),
-        centering: Centering::P,
-        count: 0,
-        operations: [e; 48],
-        generators: 0,
-        steps: [0; 432],
-    }
-}
-
 fn answer_of(answer: space_group::Answer) -> Answer
     ensures { λ r. ⌜ r ≡ answerBy answer ⌝ }
 {
@@ -76,39 +65,44 @@ fn answer_of(answer: space_group::Answer) -> Answer
     }
 }
 
-// The group of a lattice and the first n of nine generators.
-fn group_of(centering: Centering, n: usize, generators: [Operation; 9]) -> SymbolGroup
-    ensures { λ r. ⌜ r ≡ outcomeAnswer centering (length (take n generators)) (outcomeOf centering (take n generators)) ⌝ }
+fn head_of(read: hall_symbol::Answer, told: space_group::Answer, count: usize) -> Head
+    ensures { λ r. ⌜ r ≡ headBy read told count ⌝ }
 {
-    let g = SpaceGroup::new(centering, n, generators);
-    let told = g.answer;
-    let answer = answer_of(told);
-    let letter = g.centering;
-    let operations = g.operations;
-    let steps = g.steps;
-    SymbolGroup {
-        answer,
-        centering: letter,
-        count: g.count,
-        operations,
-        generators: g.generators,
-        steps,
+    match read {
+        hall_symbol::Answer::Refused(refusal) => Head {
+            answer: Answer::Refused(Refusal::Text(refusal)),
+            count: 0,
+        },
+        hall_symbol::Answer::Symbol => Head {
+            answer: answer_of(told),
+            count,
+        },
     }
 }
 
 impl SymbolGroup {
+    // A refused text has no generators, and these make the identity alone: so its slots are those of a refusal, and the 48 are laid out in one place.
     pub fn new(text: &[u8]) -> SymbolGroup
         ensures { λ r. ⌜ r ≡ symbolAnswer (now (text .entry)) ⌝ }
     {
         let symbol = HallSymbol::new(text);
-        let answer = symbol.answer;
-        match answer {
-            hall_symbol::Answer::Refused(refusal) => refused(Refusal::Text(refusal)),
-            hall_symbol::Answer::Symbol => {
-                let letter = symbol.centering;
-                let generators = symbol.generators;
-                group_of(letter, symbol.count, generators)
-            }
+        let read = symbol.answer;
+        let letter = symbol.centering;
+        let generators = symbol.generators;
+        let g = SpaceGroup::new(letter, symbol.count, generators);
+        let told = g.answer;
+        let head = head_of(read, told, g.count);
+        let answer = head.answer;
+        let centering = g.centering;
+        let operations = g.operations;
+        let steps = g.steps;
+        SymbolGroup {
+            answer,
+            centering,
+            count: head.count,
+            operations,
+            generators: g.generators,
+            steps,
         }
     }
 }

@@ -36,7 +36,8 @@ returns c =
     let a = c .before .before .before .before .before .before .args in
     let l = c .before .before .before .before .loop in
     let kept = kept-item (a .c) (itemAt (a .edition) (a .bytes .now) (l .i)) _ _ (c .before .before .operation-at .ensures) (c .before .keeps .ensures) in
-    sym (all-stop (a .edition) (a .n) (a .bytes .now) (keepsItem (a .c)) (l .i) (omega arith) (kept ∙ not-true (c .before .keeps .result) (c .if1 .taken))) ∙ l .inv .1
+    sym (all-stop (a .edition) (a .n) (a .bytes .now) (keepsItem (a .c)) (l .i) (omega arith) (kept ∙ not-true (c .before .keeps .result) (c .if1 .taken)))
+    ∙ l .inv .1
 
 add-i : tie.Need-add-i Inv-loop μ-loop
 add-i c = omega arith
@@ -50,7 +51,8 @@ loop-again c =
     let l = c .before .before .before .before .loop in
     let kept = kept-item (a .c) (itemAt (a .edition) (a .bytes .now) (l .i)) _ _ (c .before .before .operation-at .ensures) (c .before .keeps .ensures) in (
       omega arith,
-      sym (all-next (a .edition) (a .n) (a .bytes .now) (keepsItem (a .c)) (l .i) (omega arith) (kept ∙ not-false (c .before .keeps .result) (c .if1 .left))) ∙ l .inv .1,
+      sym (all-next (a .edition) (a .n) (a .bytes .now) (keepsItem (a .c)) (l .i) (omega arith) (kept ∙ not-false (c .before .keeps .result) (c .if1 .left)))
+          ∙ l .inv .1,
     )
 
 returns-2 : tie.Need-returns-2 Inv-loop μ-loop

@@ -36,13 +36,22 @@ count-is c = let a = c .args in length-map (itemsOf (a .edition) (a .n) (a .byte
 
 -- What was reached is widened by the columns with the new one.
 widening-at : (c : tie.Else2 Inv-loop μ-loop)
-    → Widening (c .before .before .before .before .before .before .before .before .before .args .c) (operationsOf (c .before .before .before .before .before .before .before .before .before .args .edition) (c .before .before .before .before .before .before .before .before .before .args .n) (c .before .before .before .before .before .before .before .before .before .args .bytes .now)) (c .before .before .before .before .before .before .before .loop .known) (c .before .before .before .before .before .before .before .loop .members) (c .before .before .before .before .before .before .before .loop .count) (c .before .before .make-column .last .1 .1 .1 .1 .1 .0) (c .before .before .before .before .next-slot .result + 1)
+    → Widening (c .before .before .before .before .before .before .before .before .before .args .c)
+    (operationsOf (c .before .before .before .before .before .before .before .before .before .args .edition)
+    (c .before .before .before .before .before .before .before .before .before .args .n)
+    (c .before .before .before .before .before .before .before .before .before .args .bytes .now))
+    (c .before .before .before .before .before .before .before .loop .known) (c .before .before .before .before .before .before .before .loop .members)
+    (c .before .before .before .before .before .before .before .loop .count) (c .before .before .make-column .last .1 .1 .1 .1 .1 .0)
+    (c .before .before .before .before .next-slot .result + 1)
 widening-at c =
     let s = c .before .before .before .before .before .before .before .before .before in
     let l = c .before .before .before .before .before .before .before .loop in
     let slot = c .before .before .before .before .next-slot in
     let made = c .before .before .make-column in
-    let short : length (operationsOf (c .before .before .before .before .before .before .before .before .before .args .edition) (c .before .before .before .before .before .before .before .before .before .args .n) (c .before .before .before .before .before .before .before .before .before .args .bytes .now)) ≤ 48 = omega (arith, count-is s, s .pre .0) in
+    let short : length
+    (operationsOf (c .before .before .before .before .before .before .before .before .before .args .edition)
+    (c .before .before .before .before .before .before .before .before .before .args .n)
+    (c .before .before .before .before .before .before .before .before .before .args .bytes .now)) ≤ 48 = omega (arith, count-is s, s .pre .0) in
     record {
       short = short;
       into = s .pre .3;
@@ -68,7 +77,8 @@ loop-holds c =
       omega arith,
       refl,
       λ i h. absurd (omega arith),
-      only-sound (s .args .c) (operationsOf (c .before .args .edition) (c .before .args .n) (c .before .args .bytes .now)) (s .args .e) (omega (arith, count-is s, s .pre .0)) (omega (arith, count-is s, s .pre .4)) (s .pre .5),
+      only-sound (s .args .c) (operationsOf (c .before .args .edition) (c .before .args .n) (c .before .args .bytes .now)) (s .args .e)
+          (omega (arith, count-is s, s .pre .0)) (omega (arith, count-is s, s .pre .4)) (s .pre .5),
       λ k h. absurd (omega arith),
     )
 
@@ -85,8 +95,15 @@ loop-again : tie.Need-loop-again Inv-loop μ-loop
 loop-again c =
     let s = c .before .before .before .before in
     let l = c .before .before .loop in
-    let right = l .inv .3 .sure (l .j) (omega (arith, count-is s)) (c .if1 .taken) in
-    (omega arith, l .inv .1, l .inv .2, l .inv .3, right-next (s .args .c) (operationsOf (c .before .before .before .before .args .edition) (c .before .before .before .before .args .n) (c .before .before .before .before .args .bytes .now)) (l .j) (l .inv .4) right)
+    let right = l .inv .3 .sure (l .j) (omega (arith, count-is s)) (c .if1 .taken) in (
+      omega arith,
+      l .inv .1,
+      l .inv .2,
+      l .inv .3,
+      right-next (s .args .c)
+          (operationsOf (c .before .before .before .before .args .edition) (c .before .before .before .before .args .n)
+          (c .before .before .before .before .args .bytes .now)) (l .j) (l .inv .4) right,
+    )
 
 next-slot-requires : tie.Need-next-slot-requires Inv-loop μ-loop
 next-slot-requires c κs = search needs
@@ -111,8 +128,13 @@ returns c =
     let made = c .before .before .make-column in
     let lacks = made .ensures .lacks (not-true (made .result) (c .if2 .taken)) in
     let here = operation-listed (a .edition) (a .n) (a .bytes .now) (l .j) (omega arith) in
-    let listed = (operationsOf (c .before .before .before .before .before .before .before .before .before .args .edition) (c .before .before .before .before .before .before .before .before .before .args .n) (c .before .before .before .before .before .before .before .before .before .args .bytes .now)) in
-    ((λ e. absurd (true≢false (sym e))), λ e. (_, subst (λ (x : Operation). Mem x listed) (sym here) (member-at listed (l .j) identityOperation (omega (arith, count-is s))), lacks))
+    let listed =
+    (operationsOf (c .before .before .before .before .before .before .before .before .before .args .edition)
+    (c .before .before .before .before .before .before .before .before .before .args .n)
+    (c .before .before .before .before .before .before .before .before .before .args .bytes .now)) in (
+      (λ e. absurd (true≢false (sym e))),
+      λ e. (_, subst (λ (x : Operation). Mem x listed) (sym here) (member-at listed (l .j) identityOperation (omega (arith, count-is s))), lacks),
+    )
 
 add-stored : tie.Need-add-stored Inv-loop μ-loop
 add-stored c = omega (arith, c .before .before .before .before .next-slot .ensures .1)
@@ -124,7 +146,13 @@ slice-aggregate-widen-2 : tie.Need-slice-aggregate-widen-2 Inv-loop μ-loop
 slice-aggregate-widen-2 c = sym (c .before .before .before .before .before .before .before .before .before .loop .inv .3 .wide)
 
 widen-requires : tie.Need-widen-requires Inv-loop μ-loop
-widen-requires c κs = (c .before .before .before .before .before .before .before .before .before .before .before .before .args .c, (operationsOf (c .before .before .before .before .before .before .before .before .before .before .before .before .args .edition) (c .before .before .before .before .before .before .before .before .before .before .before .before .args .n) (c .before .before .before .before .before .before .before .before .before .before .before .before .args .bytes .now)), widening-at (c .before .before .before))
+widen-requires c κs = (
+  c .before .before .before .before .before .before .before .before .before .before .before .before .args .c,
+  (operationsOf (c .before .before .before .before .before .before .before .before .before .before .before .before .args .edition)
+      (c .before .before .before .before .before .before .before .before .before .before .before .before .args .n)
+      (c .before .before .before .before .before .before .before .before .before .before .before .before .args .bytes .now)),
+  widening-at (c .before .before .before),
+)
 
 add-j-2 : tie.Need-add-j-2 Inv-loop μ-loop
 add-j-2 c = omega (arith, c .before .before .before .before .before .before .before .before .before .before .before .before .before .before .before .pre .0)
@@ -139,10 +167,16 @@ loop-again-2 c =
     let l = c .before .before .before .before .before .before .before .before .before .before .before .before .before .loop in
     let made = c .before .before .before .before .before .before .before .before .make-column in
     let W = widening-at (c .before .before .before .before .before .before) in
-    let listed = (operationsOf (c .before .before .before .before .before .before .before .before .before .before .before .before .before .before .before .args .edition) (c .before .before .before .before .before .before .before .before .before .before .before .before .before .before .before .args .n) (c .before .before .before .before .before .before .before .before .before .before .before .before .before .before .before .args .bytes .now)) in
+    let listed =
+    (operationsOf (c .before .before .before .before .before .before .before .before .before .before .before .before .before .before .before .args .edition)
+    (c .before .before .before .before .before .before .before .before .before .before .before .before .before .before .before .args .n)
+    (c .before .before .before .before .before .before .before .before .before .before .before .before .before .before .before .args .bytes .now)) in
     let column = made .ensures .column (not-false (made .result) (c .before .before .before .before .before .before .if2 .left)) in
     let here = operation-listed (a .edition) (a .n) (a .bytes .now) (l .j) (omega arith) in
-    let right = subst (Right (a .c) listed) here (column-right (a .c) listed (operationOfItem (itemAt (a .edition) (a .bytes .now) (l .j))) (made .last .1 .1 .1 .1 .1 .0) (48 * c .before .before .before .before .before .before .before .before .before .before .next-slot .result) column) in (
+    let right =
+    subst (Right (a .c) listed) here
+    (column-right (a .c) listed (operationOfItem (itemAt (a .edition) (a .bytes .now) (l .j))) (made .last .1 .1 .1 .1 .1 .0)
+    (48 * c .before .before .before .before .before .before .before .before .before .before .next-slot .result) column) in (
       omega arith,
       made .ensures .long ∙ l .inv .1,
       W .made,

@@ -22,14 +22,20 @@ use Rattle.group_record.proofs.allowed.product_at.Reads as product-at-r
 use Rattle.operation.proofs.product.identity.Reads as identity-reads
 
 -- What was sought is the identity.
-unit-at : (c : tie.After-product-at) → c .product-at .result ≡ place (alikeItems (c .before .before .before .before .before .before .args .c)) (itemOf identityOperation) (itemsOf (c .before .before .before .before .before .before .args .edition) (c .before .before .before .before .before .before .args .n) (c .before .before .before .before .before .before .args .bytes .now))
+unit-at : (c : tie.After-product-at)
+    → c .product-at .result ≡ place (alikeItems (c .before .before .before .before .before .before .args .c)) (itemOf identityOperation)
+    (itemsOf (c .before .before .before .before .before .before .args .edition) (c .before .before .before .before .before .before .args .n)
+    (c .before .before .before .before .before .before .args .bytes .now))
 unit-at c =
     let a = c .before .before .before .before .before .before .args in
     let items = itemsOf (a .edition) (a .n) (a .bytes .now) in
-    c .product-at .ensures ∙ ap₂ (λ (f g : Operation). productAt (a .c) items (productOf f g)) (c .before .before .identity .ensures) (c .before .identity2 .ensures) ∙ unit-place (a .c) items
+    c .product-at .ensures ∙ ap₂ (λ (f g : Operation). productAt (a .c) items (productOf f g)) (c .before .before .identity .ensures)
+    (c .before .identity2 .ensures) ∙ unit-place (a .c) items
 
 -- All rotations keep the lattice.
-kept-at : (c : tie.Else1) → all (keepsItem (c .before .before .before .args .c)) (itemsOf (c .before .before .before .args .edition) (c .before .before .before .args .n) (c .before .before .before .args .bytes .now)) ≡ true
+kept-at : (c : tie.Else1)
+    → all (keepsItem (c .before .before .before .args .c))
+    (itemsOf (c .before .before .before .args .edition) (c .before .before .before .args .n) (c .before .before .before .args .bytes .now)) ≡ true
 kept-at c = sym (c .before .all-keep .ensures) ∙ not-false (c .before .all-keep .result) (c .if1 .left)
 
 all-keep-requires : tie.Need-all-keep-requires
@@ -52,7 +58,8 @@ product-at-requires c κs = let s = c .before .before .before .before .before in
 returns-2 : tie.Need-returns-2
 returns-2 c =
     let a = c .before .before .before .before .before .before .before .args in
-    without-identity (a .c) (itemsOf (a .edition) (a .n) (a .bytes .now)) _ (unit-at (c .before)) (omega (arith, items-count (a .edition) (a .n) (a .bytes .now), c .if2 .taken))
+    without-identity (a .c) (itemsOf (a .edition) (a .n) (a .bytes .now)) _ (unit-at (c .before))
+    (omega (arith, items-count (a .edition) (a .n) (a .bytes .now), c .if2 .taken))
 
 every-product-requires : tie.Need-every-product-requires
 every-product-requires c κs =
@@ -74,7 +81,8 @@ returns-3 c =
     let a = s .args in
     let count = items-count (a .edition) (a .n) (a .bytes .now) in
     let (right, lacks) = c .every-product .ensures in
-    decided (a .c) (itemsOf (a .edition) (a .n) (a .bytes .now)) (s .pre .2) (kept-at (c .before .before .before .before .before)) _ (unit-at (c .before .before)) (omega (arith, count, c .before .if2 .left))
+    decided (a .c) (itemsOf (a .edition) (a .n) (a .bytes .now)) (s .pre .2) (kept-at (c .before .before .before .before .before)) _
+    (unit-at (c .before .before)) (omega (arith, count, c .before .if2 .left))
     (c .every-product .result) ((λ e k h. right e k (omega (arith, count))), lacks)
 
 pub is-allowed-spec : {M : Type 1} → statement M

@@ -18,7 +18,8 @@ use Rattle.group_record.proofs.allowed.alike.Reads as alike-reads
 use Rattle.operation.proofs.code.rotation_code.Reads as rotation-code-reads
 
 abbrev Inv-loop : tie.InvT-loop
-Inv-loop bytes edition c n f code i₀ i = (i ≤ n) × (i + place (alikeItems c) (itemOf f) (drop i (itemsOf edition n bytes)) ≡ place (alikeItems c) (itemOf f) (itemsOf edition n bytes))
+Inv-loop bytes edition c n f code i₀ i =
+    (i ≤ n) × (i + place (alikeItems c) (itemOf f) (drop i (itemsOf edition n bytes)) ≡ place (alikeItems c) (itemOf f) (itemsOf edition n bytes))
 
 abbrev μ-loop : tie.MeasureT-loop
 μ-loop bytes edition c n f code i₀ i = n - i
@@ -37,7 +38,8 @@ returns c =
     let a = c .before .before .before .before .before .before .args in
     let l = c .before .before .before .loop in
     let code = c .before .before .before .before .rotation-code .ensures in
-    sym (place-stop (alikeItems (a .c)) (itemOf (a .f)) (itemsOf (a .edition) (a .n) (a .bytes .now)) (l .i) _ (next-item (a .edition) (a .n) (a .bytes .now) (l .i) (omega arith)) (rw (← code) (sym (c .before .alike .ensures) ∙ c .if1 .taken))) ∙ l .inv .1
+    sym (place-stop (alikeItems (a .c)) (itemOf (a .f)) (itemsOf (a .edition) (a .n) (a .bytes .now)) (l .i) _
+    (next-item (a .edition) (a .n) (a .bytes .now) (l .i) (omega arith)) (rw (← code) (sym (c .before .alike .ensures) ∙ c .if1 .taken))) ∙ l .inv .1
 
 add-i : tie.Need-add-i Inv-loop μ-loop
 add-i c = omega arith
@@ -51,7 +53,8 @@ loop-again c =
     let l = c .before .before .before .loop in
     let code = c .before .before .before .before .rotation-code .ensures in (
       omega arith,
-      sym (place-next (alikeItems (a .c)) (itemOf (a .f)) (itemsOf (a .edition) (a .n) (a .bytes .now)) (l .i) _ (next-item (a .edition) (a .n) (a .bytes .now) (l .i) (omega arith)) (rw (← code) (sym (c .before .alike .ensures) ∙ c .if1 .left))) ∙ l .inv .1,
+      sym (place-next (alikeItems (a .c)) (itemOf (a .f)) (itemsOf (a .edition) (a .n) (a .bytes .now)) (l .i) _
+          (next-item (a .edition) (a .n) (a .bytes .now) (l .i) (omega arith)) (rw (← code) (sym (c .before .alike .ensures) ∙ c .if1 .left))) ∙ l .inv .1,
     )
 
 returns-2 : tie.Need-returns-2 Inv-loop μ-loop
@@ -59,7 +62,9 @@ returns-2 c =
     let a = c .before .before .before .before .args in
     let l = c .before .loop in
     let all-passed : a .n ≡ l .i = omega arith in
-    all-passed ∙ sym (place-end (alikeItems (a .c)) (itemOf (a .f)) (itemsOf (a .edition) (a .n) (a .bytes .now)) (l .i) (none-left (a .edition) (a .n) (a .bytes .now) (l .i) (omega arith) (omega arith))) ∙ l .inv .1
+    all-passed
+    ∙ sym (place-end (alikeItems (a .c)) (itemOf (a .f)) (itemsOf (a .edition) (a .n) (a .bytes .now)) (l .i)
+    (none-left (a .edition) (a .n) (a .bytes .now) (l .i) (omega arith) (omega arith))) ∙ l .inv .1
 
 pub listed-at-spec : {M : Type 1} → statement M
 listed-at-spec =

@@ -20,7 +20,8 @@ use Rattle.group_record.proofs.items.operation_at.Reads as operation-at
 
 abbrev Inv-loop : tie.InvT-loop
 Inv-loop bytes edition c n j columns₀ at g i₀ columns i =
-    (i ≤ n) × (length columns ≡ length columns₀) × ((t : ℕ) → t < at → getD columns t 0 ≡ getD columns₀ t 0) × ((k : ℕ) → k < i → Leads c (map operationOfItem (itemsOf edition n bytes)) g columns at k)
+    (i ≤ n) × (length columns ≡ length columns₀) × ((t : ℕ) → t < at → getD columns t 0 ≡ getD columns₀ t 0)
+    × ((k : ℕ) → k < i → Leads c (map operationOfItem (itemsOf edition n bytes)) g columns at k)
 
 abbrev μ-loop : tie.MeasureT-loop
 μ-loop bytes edition c n j columns₀ at g i₀ columns i = n - i
@@ -32,7 +33,8 @@ loop-holds : tie.Need-loop-holds Inv-loop μ-loop
 loop-holds c = (omega arith, refl, λ t h. refl, λ k h. absurd (omega arith))
 
 operation-at-requires-2 : tie.Need-operation-at-requires-2 Inv-loop μ-loop
-operation-at-requires-2 c κs = let s = c .before .before .before .before .before in item-inside (s .args .edition) (c .before .loop .i) (s .args .n) _ (omega arith) (s .pre .1)
+operation-at-requires-2 c κs = let s = c .before .before .before .before .before in
+    item-inside (s .args .edition) (c .before .loop .i) (s .args .n) _ (omega arith) (s .pre .1)
 
 product-at-requires : tie.Need-product-at-requires Inv-loop μ-loop
 product-at-requires c κs = (c .before .before .before .before .before .before .pre .0, c .before .before .before .before .before .before .pre .1)
@@ -49,22 +51,37 @@ returns c =
     let count = items-count (a .edition) (a .n) (a .bytes .now) in
     let f = c .before .before .operation-at2 in
     let here = f .ensures ∙ operation-listed (a .edition) (a .n) (a .bytes .now) (l .i) (omega arith) in
-    subst (λ (x : Operation). Made (a .c) (map operationOfItem items) x (a .at) (a .columns .now) (l .columns) false) (c .before .before .before .before .before .operation-at .ensures)
+    subst (λ (x : Operation). Made (a .c) (map operationOfItem items) x (a .at) (a .columns .now) (l .columns) false)
+    (c .before .before .before .before .before .operation-at .ensures)
     (record {
       long = l .inv .1;
       front = l .inv .2;
       column = λ e. absurd (true≢false (sym e));
-      lacks = λ e. index-lacks (a .c) items (s .pre .5) (f .result) _ (l .i) here _ (c .before .product-at .ensures) (omega (arith, count)) (omega (arith, count, c .if1 .taken));
+      lacks =
+          λ e. index-lacks (a .c) items (s .pre .5) (f .result) _ (l .i) here _ (c .before .product-at .ensures)
+          (omega (arith, count)) (omega (arith, count, c .if1 .taken));
     })
 
 cast-columns : tie.Need-cast-columns Inv-loop μ-loop
 cast-columns c = omega (arith, c .if1 .left, c .before .before .before .before .before .before .before .before .pre .0)
 
 add-columns : tie.Need-add-columns Inv-loop μ-loop
-add-columns c = omega (arith, c .before .before .before .before .before .before .before .before .pre .0, c .before .before .before .before .before .before .before .before .pre .3)
+add-columns c =
+    omega (
+      arith,
+      c .before .before .before .before .before .before .before .before .pre .0,
+      c .before .before .before .before .before .before .before .before .pre .3,
+    )
 
 slice-write-columns : tie.Need-slice-write-columns Inv-loop μ-loop
-slice-write-columns c = omega (arith, c .before .before .before .before .before .before .before .before .pre .0, c .before .before .before .before .before .before .before .before .pre .3, c .before .before .before .before .before .before .before .before .pre .4, c .before .before .before .before .loop .inv .1)
+slice-write-columns c =
+    omega (
+      arith,
+      c .before .before .before .before .before .before .before .before .pre .0,
+      c .before .before .before .before .before .before .before .before .pre .3,
+      c .before .before .before .before .before .before .before .before .pre .4,
+      c .before .before .before .before .loop .inv .1,
+    )
 
 add-i : tie.Need-add-i Inv-loop μ-loop
 add-i c = omega arith
@@ -81,11 +98,14 @@ loop-again c =
     let count = items-count (a .edition) (a .n) (a .bytes .now) in
     let f = c .before .before .operation-at2 in
     let here = f .ensures ∙ operation-listed (a .edition) (a .n) (a .bytes .now) (l .i) (omega arith) in
-    let found = index-found (a .c) items (s .pre .5) (f .result) (c .before .before .before .before .before .operation-at .result) (l .i) here _ (c .before .product-at .ensures) (omega (arith, count, c .if1 .left)) in (
+    let found =
+    index-found (a .c) items (s .pre .5) (f .result) (c .before .before .before .before .before .operation-at .result) (l .i) here _
+    (c .before .product-at .ensures) (omega (arith, count, c .if1 .left)) in (
       omega arith,
       length-set (l .columns) (a .at + l .i) _ ∙ l .inv .1,
       λ t h. getD-set-other (l .columns) (a .at + l .i) t _ 0 (λ (q : t ≡ a .at + l .i). omega arith) ∙ l .inv .2 t h,
-      column-next (a .c) (map operationOfItem items) _ (l .columns) (a .at) (l .i) _ (omega (arith, s .pre .0, s .pre .3, s .pre .4, l .inv .1)) (l .inv .3) (omega (arith, count, length-map items operationOfItem, c .if1 .left)) found,
+      column-next (a .c) (map operationOfItem items) _ (l .columns) (a .at) (l .i) _ (omega (arith, s .pre .0, s .pre .3, s .pre .4, l .inv .1)) (l .inv .3)
+          (omega (arith, count, length-map items operationOfItem, c .if1 .left)) found,
     )
 
 same-length-2 : tie.Need-same-length-2 Inv-loop μ-loop

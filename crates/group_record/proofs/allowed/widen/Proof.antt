@@ -29,8 +29,15 @@ few-at c =
 
 -- From a member that was reached a column leads to such a one.
 leads-to : (c : tie.Else1 Inv-loop μ-loop) (letter : Centering) (operations : List Operation)
-    → Widening letter operations (c .before .before .before .args .known .now) (c .before .before .before .args .members .now) (c .before .before .before .args .count) (c .before .before .before .args .columns .now) (c .before .before .before .args .stored)
-    → ((getD (c .before .before .loop .members) (c .before .before .loop .i) 0) < length operations) × ((getD (c .before .before .before .args .columns .now) (48 * c .before .before .loop .j + (getD (c .before .before .loop .members) (c .before .before .loop .i) 0)) 0) < length operations) × Right letter operations (listedAt operations (getD (c .before .before .before .args .columns .now) (48 * c .before .before .loop .j + (getD (c .before .before .loop .members) (c .before .before .loop .i) 0)) 0))
+    → Widening letter operations (c .before .before .before .args .known .now) (c .before .before .before .args .members .now)
+    (c .before .before .before .args .count) (c .before .before .before .args .columns .now) (c .before .before .before .args .stored)
+    → ((getD (c .before .before .loop .members) (c .before .before .loop .i) 0) < length operations)
+    × ((getD (c .before .before .before .args .columns .now)
+    (48 * c .before .before .loop .j + (getD (c .before .before .loop .members) (c .before .before .loop .i) 0)) 0) < length operations)
+    × Right letter operations
+    (listedAt operations
+    (getD (c .before .before .before .args .columns .now)
+    (48 * c .before .before .loop .j + (getD (c .before .before .loop .members) (c .before .before .loop .i) 0)) 0))
 leads-to c letter operations W =
     let a = c .before .before .before .args in
     let l = c .before .before .loop in
@@ -40,7 +47,11 @@ leads-to c letter operations W =
     (h, low, right)
 
 -- So both are indices, and the column has a slot for the first.
-low-at : (c : tie.Else1 Inv-loop μ-loop) → ((getD (c .before .before .loop .members) (c .before .before .loop .i) 0) < 48) × (48 * c .before .before .loop .j + (getD (c .before .before .loop .members) (c .before .before .loop .i) 0) < 240) × ((getD (c .before .before .before .args .columns .now) (48 * c .before .before .loop .j + (getD (c .before .before .loop .members) (c .before .before .loop .i) 0)) 0) < 48)
+low-at : (c : tie.Else1 Inv-loop μ-loop)
+    → ((getD (c .before .before .loop .members) (c .before .before .loop .i) 0) < 48)
+    × (48 * c .before .before .loop .j + (getD (c .before .before .loop .members) (c .before .before .loop .i) 0) < 240)
+    × ((getD (c .before .before .before .args .columns .now)
+    (48 * c .before .before .loop .j + (getD (c .before .before .loop .members) (c .before .before .loop .i) 0)) 0) < 48)
 low-at c =
     let (letter, operations, W) = c .before .before .before .pre in
     let (first, second, right) = leads-to c letter operations W in
@@ -89,7 +100,8 @@ loop-again-2 : tie.Need-loop-again-2 Inv-loop μ-loop
 loop-again-2 c = let l = c .before .before .before .before .before .before .loop in (omega arith, l .inv .1, l .inv .2, l .inv .3)
 
 slice-write-known : tie.Need-slice-write-known Inv-loop μ-loop
-slice-write-known c = omega (arith, low-at (c .before .before .before .before .before) .2, few-at (c .before .before .before .before .before .before .before) .0)
+slice-write-known c =
+    omega (arith, low-at (c .before .before .before .before .before) .2, few-at (c .before .before .before .before .before .before .before) .0)
 
 cast-members : tie.Need-cast-members Inv-loop μ-loop
 cast-members c = omega (arith, low-at (c .before .before .before .before .before) .2)

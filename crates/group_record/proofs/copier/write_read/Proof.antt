@@ -27,7 +27,9 @@ enum-told c = search needs
 
 place-read-requires : tie.Need-place-read-requires
 place-read-requires c κs =
-    read-writable (c .before .before .before .before .before .before .before .args .bytes .now) _ (λ i. omega (arith, c .before .before .before .before .before .before .shared-slice-known .given i)) (c .before .before .before .before .read-record .ensures) (c .before .enum-told .given .1)
+    read-writable (c .before .before .before .before .before .before .before .args .bytes .now) _
+    (λ i. omega (arith, c .before .before .before .before .before .before .shared-slice-known .given i))
+    (c .before .before .before .before .read-record .ensures) (c .before .enum-told .given .1)
 
 enum-known-answer : tie.Need-enum-known-answer
 enum-known-answer c = search needs

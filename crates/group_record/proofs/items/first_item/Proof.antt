@@ -27,7 +27,8 @@ cast-code-2 : tie.Need-cast-code-2
 cast-code-2 c = omega (arith, c .shared-slice-known2 .given (c .before .before .args .at + 1))
 
 add-code-2 : tie.Need-add-code-2
-add-code-2 c = omega (arith, c .before .shared-slice-known .given (c .before .before .args .at), c .shared-slice-known2 .given (c .before .before .args .at + 1))
+add-code-2 c =
+    omega (arith, c .before .shared-slice-known .given (c .before .before .args .at), c .shared-slice-known2 .given (c .before .before .args .at + 1))
 
 add-t9 : tie.Need-add-t9
 add-t9 c = search needs

@@ -33,7 +33,8 @@ unfolding operationOfItem
 returns c =
     let item = c .before .before .before .before .before .before .item-at .ensures in
     let told = sym (c .before .before .before .before .rotation-of-code .ensures) ∙ c .before .before .enum-told .given .1 in
-    operation≡ (ap (λ (f : Operation). f .rotation) (c .before .identity .ensures) ∙ sym (ap rotationOfDecoded (ap (λ (i : Item). decodedOf (i .code)) (sym item) ∙ told)))
+    operation≡ (ap (λ (f : Operation). f .rotation) (c .before .identity .ensures)
+    ∙ sym (ap rotationOfDecoded (ap (λ (i : Item). decodedOf (i .code)) (sym item) ∙ told)))
     (ap (λ (i : Item). i .translation) item)
 
 returns-2 : tie.Need-returns-2

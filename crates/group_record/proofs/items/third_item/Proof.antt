@@ -29,7 +29,8 @@ cast-high-2 : tie.Need-cast-high-2
 cast-high-2 c = omega (arith, c .shared-slice-known2 .given (c .before .before .args .at + 1))
 
 add-high-2 : tie.Need-add-high-2
-add-high-2 c = omega (arith, c .before .shared-slice-known .given (c .before .before .args .at), c .shared-slice-known2 .given (c .before .before .args .at + 1))
+add-high-2 c =
+    omega (arith, c .before .shared-slice-known .given (c .before .before .args .at), c .shared-slice-known2 .given (c .before .before .args .at + 1))
 
 add-low : tie.Need-add-low
 add-low c = search needs
@@ -65,7 +66,13 @@ mul-number c =
 add-number : tie.Need-add-number
 add-number c =
     let a = c .before .before .before .before .args in
-    omega (arith, c .before .before .before .shared-slice-known .given (a .at), c .before .before .shared-slice-known2 .given (a .at + 1), c .before .shared-slice-known3 .given (a .at + 2), c .shared-slice-known4 .given (a .at + 3))
+    omega (
+      arith,
+      c .before .before .before .shared-slice-known .given (a .at),
+      c .before .before .shared-slice-known2 .given (a .at + 1),
+      c .before .shared-slice-known3 .given (a .at + 2),
+      c .shared-slice-known4 .given (a .at + 3),
+    )
 
 cast-t9 : tie.Need-cast-t9
 cast-t9 c = search needs

@@ -36,20 +36,32 @@ letter-byte-requires c κs = search needs
 
 place-group-requires : tie.Need-place-group-requires
 place-group-requires c κs =
-    layer-writable (c .before .before .before .before .before .before .before .before .before .before .args .text .now) _ (sym (c .before .before .before .before .before .before .before .order .ensures) ∙ c .before .before .before .before .before .n .given .1) (c .before .before .before .plain .result) (c .before .before .before .plain .ensures)
+    layer-writable (c .before .before .before .before .before .before .before .before .before .before .args .text .now) _
+    (sym (c .before .before .before .before .before .before .before .order .ensures) ∙ c .before .before .before .before .before .n .given .1)
+    (c .before .before .before .plain .result) (c .before .before .before .plain .ensures)
 
 same-length : tie.Need-same-length
 same-length c = search needs
 
 -- What is answered, by what the writer answered.
 placed-answer : (c : tie.After-place-group) (b : Bool) → c .place-group .result ≡ b
-    → (cond b (Written (c .before .before .before .before .before .before .n .given .0 .0)) NoRoom ≡ layerRecordOf (c .before .before .before .before .before .before .before .before .before .before .before .args .text .now) (c .before .before .before .before .before .before .before .before .before .before .before .args .out .now) (c .before .before .before .before .before .before .before .before .before .before .before .args .start))
-    × (c .place-group .last .0 ≡ layerBufferOf (c .before .before .before .before .before .before .before .before .before .before .before .args .text .now) (c .before .before .before .before .before .before .before .before .before .before .before .args .out .now) (c .before .before .before .before .before .before .before .before .before .before .before .args .start))
+    → (cond b (Written (c .before .before .before .before .before .before .n .given .0 .0)) NoRoom
+    ≡ layerRecordOf (c .before .before .before .before .before .before .before .before .before .before .before .args .text .now)
+    (c .before .before .before .before .before .before .before .before .before .before .before .args .out .now)
+    (c .before .before .before .before .before .before .before .before .before .before .before .args .start))
+    × (c .place-group .last .0 ≡ layerBufferOf (c .before .before .before .before .before .before .before .before .before .before .before .args .text .now)
+    (c .before .before .before .before .before .before .before .before .before .before .before .args .out .now)
+    (c .before .before .before .before .before .before .before .before .before .before .before .args .start))
 placed-answer c b told =
     let a = c .before .before .before .before .before .before .before .before .before .before .before .args in
     let g = c .before .before .before .before .plain .result in
-    record-written (a .text .now) _ (sym (c .before .before .before .before .before .before .before .before .order .ensures) ∙ c .before .before .before .before .before .before .n .given .1) g (c .before .before .before .before .plain .ensures) (a .out .now) (a .start) b (sym told ∙ c .place-group .ensures .0) _
-    (c .place-group .ensures .1 ∙ ap (λ (letter : ℕ). placedIn (a .out .now) (a .start) (recordIn firstEdition letter (g .centering) (take (c .before .before .before .before .before .before .n .given .0 .0) (g .operations)))) (c .before .before .letter-byte .ensures))
+    record-written (a .text .now) _ (sym (c .before .before .before .before .before .before .before .before .order .ensures)
+    ∙ c .before .before .before .before .before .before .n .given .1) g (c .before .before .before .before .plain .ensures) (a .out .now) (a .start) b
+    (sym told ∙ c .place-group .ensures .0) _
+    (c .place-group .ensures .1
+    ∙ ap (λ (letter : ℕ). placedIn (a .out .now) (a .start)
+    (recordIn firstEdition letter (g .centering) (take (c .before .before .before .before .before .before .n .given .0 .0) (g .operations))))
+    (c .before .before .letter-byte .ensures))
 
 returns : tie.Need-returns
 returns c = placed-answer (c .before .before .before) false (not-true _ (c .if1 .taken))

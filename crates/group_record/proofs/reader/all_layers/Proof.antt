@@ -20,7 +20,9 @@ use Rattle.layer_group.proofs.is_layer.Reads as is-layer-reads
 
 abbrev Inv-loop : tie.InvT-loop
 Inv-loop bytes edition n i₀ i =
-    (i ≤ n) × (all (λ (j : Item). isLayer (operationOfItem j)) (drop i (itemsOf edition n bytes)) ≡ all (λ (j : Item). isLayer (operationOfItem j)) (itemsOf edition n bytes))
+    (i ≤ n)
+    × (all (λ (j : Item). isLayer (operationOfItem j)) (drop i (itemsOf edition n bytes))
+    ≡ all (λ (j : Item). isLayer (operationOfItem j)) (itemsOf edition n bytes))
 
 abbrev μ-loop : tie.MeasureT-loop
 μ-loop bytes edition n i₀ i = n - i
@@ -29,7 +31,9 @@ loop-holds : tie.Need-loop-holds Inv-loop μ-loop
 loop-holds c = (omega arith, refl)
 
 operation-at-requires : tie.Need-operation-at-requires Inv-loop μ-loop
-operation-at-requires c κs = item-inside (c .before .before .before .args .edition) (c .before .loop .i) (c .before .before .before .args .n) _ (omega arith) (c .before .before .before .pre .1)
+operation-at-requires c κs =
+    item-inside (c .before .before .before .args .edition) (c .before .loop .i) (c .before .before .before .args .n) _ (omega arith)
+    (c .before .before .before .pre .1)
 
 is-layer-requires : tie.Need-is-layer-requires Inv-loop μ-loop
 is-layer-requires c κs = search needs
@@ -39,7 +43,8 @@ returns c =
     let a = c .before .before .before .before .before .before .args in
     let l = c .before .before .before .before .loop in
     let said = sym (c .before .is-layer .ensures ∙ ap isLayer (c .before .before .operation-at .ensures)) in
-    sym (all-stop (a .edition) (a .n) (a .bytes .now) (λ (j : Item). isLayer (operationOfItem j)) (l .i) (omega arith) (said ∙ not-true (c .before .is-layer .result) (c .if1 .taken))) ∙ l .inv .1
+    sym (all-stop (a .edition) (a .n) (a .bytes .now) (λ (j : Item). isLayer (operationOfItem j)) (l .i) (omega arith)
+    (said ∙ not-true (c .before .is-layer .result) (c .if1 .taken))) ∙ l .inv .1
 
 add-i : tie.Need-add-i Inv-loop μ-loop
 add-i c = omega arith
@@ -53,7 +58,8 @@ loop-again c =
     let l = c .before .before .before .before .loop in
     let said = sym (c .before .is-layer .ensures ∙ ap isLayer (c .before .before .operation-at .ensures)) in (
       omega arith,
-      sym (all-next (a .edition) (a .n) (a .bytes .now) (λ (j : Item). isLayer (operationOfItem j)) (l .i) (omega arith) (said ∙ not-false (c .before .is-layer .result) (c .if1 .left))) ∙ l .inv .1,
+      sym (all-next (a .edition) (a .n) (a .bytes .now) (λ (j : Item). isLayer (operationOfItem j)) (l .i) (omega arith)
+          (said ∙ not-false (c .before .is-layer .result) (c .if1 .left))) ∙ l .inv .1,
     )
 
 returns-2 : tie.Need-returns-2 Inv-loop μ-loop

@@ -28,13 +28,17 @@ add-loop : tie.Need-add-loop Inv-loop μ-loop
 add-loop c = omega arith
 
 item-at-requires : tie.Need-item-at-requires Inv-loop μ-loop
-item-at-requires c κs = item-inside (c .before .before .before .args .edition) (c .before .loop .i) (c .before .before .before .args .n) _ (omega arith) (c .before .before .before .pre .2)
+item-at-requires c κs =
+    item-inside (c .before .before .before .args .edition) (c .before .loop .i) (c .before .before .before .args .n) _ (omega arith)
+    (c .before .before .before .pre .2)
 
 add-item-at : tie.Need-add-item-at Inv-loop μ-loop
 add-item-at c = omega arith
 
 item-at-requires-2 : tie.Need-item-at-requires-2 Inv-loop μ-loop
-item-at-requires-2 c κs = item-inside (c .before .before .before .before .args .edition) (c .before .before .loop .i + 1) (c .before .before .before .before .args .n) _ (omega arith) (c .before .before .before .before .pre .2)
+item-at-requires-2 c κs =
+    item-inside (c .before .before .before .before .args .edition) (c .before .before .loop .i + 1) (c .before .before .before .before .args .n) _ (omega arith)
+    (c .before .before .before .before .pre .2)
 
 returns : tie.Need-returns Inv-loop μ-loop
 returns c =
@@ -42,7 +46,9 @@ returns c =
     let l = c .before .before .before .before .before .before .loop in
     let first = ap (λ (i : Item). i .code) (c .before .before .before .before .item-at .ensures) in
     let second = ap (λ (i : Item). i .code) (c .before .before .before .item-at2 .ensures) in
-    let fails = le-ltb (itemAt (a .edition) (a .bytes .now) (l .i) .code) (itemAt (a .edition) (a .bytes .now) (l .i + 1) .code) (omega (arith, first, second, c .if1 .taken)) in
+    let fails =
+    le-ltb (itemAt (a .edition) (a .bytes .now) (l .i) .code) (itemAt (a .edition) (a .bytes .now) (l .i + 1) .code)
+    (omega (arith, first, second, c .if1 .taken)) in
     sym (ascending-stop (a .edition) (a .n) (a .bytes .now) (l .i) (omega arith) fails) ∙ l .inv .1
 
 add-i : tie.Need-add-i Inv-loop μ-loop
@@ -57,7 +63,9 @@ loop-again c =
     let l = c .before .before .before .before .before .before .loop in
     let first = ap (λ (i : Item). i .code) (c .before .before .before .before .item-at .ensures) in
     let second = ap (λ (i : Item). i .code) (c .before .before .before .item-at2 .ensures) in
-    let holds = lt-ltb (itemAt (a .edition) (a .bytes .now) (l .i) .code) (itemAt (a .edition) (a .bytes .now) (l .i + 1) .code) (omega (arith, first, second, c .if1 .left)) in
+    let holds =
+    lt-ltb (itemAt (a .edition) (a .bytes .now) (l .i) .code) (itemAt (a .edition) (a .bytes .now) (l .i + 1) .code)
+    (omega (arith, first, second, c .if1 .left)) in
     (omega arith, sym (ascending-next (a .edition) (a .n) (a .bytes .now) (l .i) (omega arith) holds) ∙ l .inv .1)
 
 returns-2 : tie.Need-returns-2 Inv-loop μ-loop

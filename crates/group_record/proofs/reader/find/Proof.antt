@@ -24,19 +24,28 @@ find-lettered-requires : tie.Need-find-lettered-requires
 find-lettered-requires c κs = search needs
 
 returns-2 : tie.Need-returns-2
-returns-2 c = stands-as (c .find-lettered .ensures) (read-as-first (c .before .before .before .before .before .args .bytes .now) _ (omega (arith, c .before .before .before .if1 .left)) (c .before .before .from-end .ensures) (c .before .if2 .taken))
+returns-2 c =
+    stands-as (c .find-lettered .ensures)
+    (read-as-first (c .before .before .before .before .before .args .bytes .now) _ (omega (arith, c .before .before .before .if1 .left))
+    (c .before .before .from-end .ensures) (c .before .if2 .taken))
 
 find-lettered-requires-2 : tie.Need-find-lettered-requires-2
 find-lettered-requires-2 c κs = search needs
 
 returns-3 : tie.Need-returns-3
-returns-3 c = stands-as (c .find-lettered2 .ensures) (read-as-third (c .before .before .before .before .before .before .args .bytes .now) _ (omega (arith, c .before .before .before .before .if1 .left)) (c .before .before .before .from-end .ensures) (c .before .before .if2 .left) (c .before .if3 .taken))
+returns-3 c =
+    stands-as (c .find-lettered2 .ensures)
+    (read-as-third (c .before .before .before .before .before .before .args .bytes .now) _ (omega (arith, c .before .before .before .before .if1 .left))
+    (c .before .before .before .from-end .ensures) (c .before .before .if2 .left) (c .before .if3 .taken))
 
 nothing-requires-2 : tie.Need-nothing-requires-2
 nothing-requires-2 c κs = search needs
 
 returns-4 : tie.Need-returns-4
-returns-4 c = nothing-found (c .nothing2 .ensures) (read-other-edition (c .before .before .before .before .before .before .args .bytes .now) _ (omega (arith, c .before .before .before .before .if1 .left)) (c .before .before .before .from-end .ensures) (c .before .before .if2 .left) (c .before .if3 .left))
+returns-4 c =
+    nothing-found (c .nothing2 .ensures)
+    (read-other-edition (c .before .before .before .before .before .before .args .bytes .now) _ (omega (arith, c .before .before .before .before .if1 .left))
+    (c .before .before .before .from-end .ensures) (c .before .before .if2 .left) (c .before .if3 .left))
 
 pub find-spec : {M : Type 1} → statement M
 find-spec =

@@ -57,10 +57,13 @@ returns : tie.Need-returns
 returns c =
     let a = c .before .before .before .before .before .before .before .args in
     nothing-found (c .nothing .ensures)
-    (counted-fails (a .edition) (a .sign) (a .bytes .now) _ _ _ (c .before .before .before .before .before .from-end .ensures) (c .before .before .before .before .from-end2 .ensures) (c .before .before .before .from-end3 .ensures) (sym (c .before .before .length-fits .ensures) ∙ not-true (c .before .before .length-fits .result) (c .before .if1 .taken)))
+    (counted-fails (a .edition) (a .sign) (a .bytes .now) _ _ _ (c .before .before .before .before .before .from-end .ensures)
+    (c .before .before .before .before .from-end2 .ensures) (c .before .before .before .from-end3 .ensures)
+    (sym (c .before .before .length-fits .ensures) ∙ not-true (c .before .before .length-fits .result) (c .before .if1 .taken)))
 
 sub-start : tie.Need-sub-start
-sub-start c = let fits = length-test _ _ _ _ _ .0 (sym (c .before .length-fits .ensures) ∙ not-false (c .before .length-fits .result) (c .if1 .left)) in omega (arith, fits)
+sub-start c = let fits = length-test _ _ _ _ _ .0 (sym (c .before .length-fits .ensures) ∙ not-false (c .before .length-fits .result) (c .if1 .left)) in
+    omega (arith, fits)
 
 lattice-requires : tie.Need-lattice-requires
 lattice-requires c κs = search needs
@@ -80,8 +83,19 @@ part-are-items-end c = search needs
 are-items-requires : tie.Need-are-items-requires
 are-items-requires c κs =
     let a = c .before .before .before .before .before .before .before .before .before .args in
-    let fits = length-test _ _ _ _ _ .0 (sym (c .before .before .before .before .length-fits .ensures) ∙ not-false (c .before .before .before .before .length-fits .result) (c .before .before .before .if1 .left)) in
-    (fits .0, fits .1, rw (tail-part (a .bytes .now) (length (a .bytes .now) - (c .before .before .before .before .before .before .from-end2 .result * 256 + c .before .before .before .before .before .from-end3 .result)), length-drop) (omega (arith, fits)))
+    let fits =
+    length-test _ _ _ _ _ .0
+    (sym (c .before .before .before .before .length-fits .ensures)
+    ∙ not-false (c .before .before .before .before .length-fits .result) (c .before .before .before .if1 .left)) in (
+      fits .0,
+      fits .1,
+      rw (
+        tail-part (a .bytes .now)
+            (length (a .bytes .now)
+            - (c .before .before .before .before .before .before .from-end2 .result * 256 + c .before .before .before .before .before .from-end3 .result)),
+        length-drop,
+      ) (omega (arith, fits)),
+    )
 
 nothing-requires-2 : tie.Need-nothing-requires-2
 nothing-requires-2 c κs = search needs
@@ -90,10 +104,22 @@ returns-2 : tie.Need-returns-2
 returns-2 c =
     let a = c .before .before .before .before .before .before .before .before .before .before .before .before .args in
     let n = c .before .before .before .before .before .before .before .before .before .before .from-end .result in
-    let fits = sym (c .before .before .before .before .before .before .before .length-fits .ensures) ∙ not-false (c .before .before .before .before .before .before .before .length-fits .result) (c .before .before .before .before .before .before .if1 .left) in
+    let fits =
+    sym (c .before .before .before .before .before .before .before .length-fits .ensures)
+    ∙ not-false (c .before .before .before .before .before .before .before .length-fits .result)
+    (c .before .before .before .before .before .before .if1 .left) in
     nothing-found (c .nothing2 .ensures)
-    (counted-fits (a .edition) (a .sign) (a .bytes .now) _ _ _ (c .before .before .before .before .before .before .before .before .before .before .from-end .ensures) (c .before .before .before .before .before .before .before .before .before .from-end2 .ensures) (c .before .before .before .before .before .before .before .before .from-end3 .ensures) fits
-    ∙ items-wrong (a .edition) (a .sign) n _ _ (tail-part (a .bytes .now) (length (a .bytes .now) - (c .before .before .before .before .before .before .before .before .before .from-end2 .result * 256 + c .before .before .before .before .before .before .before .before .from-end3 .result))) (rw (← (c .before .before .before .before .before .lattice .ensures)) (sym (c .before .before .are-items .ensures) ∙ not-true (c .before .before .are-items .result) (c .before .if2 .taken))))
+    (counted-fits (a .edition) (a .sign) (a .bytes .now) _ _ _
+    (c .before .before .before .before .before .before .before .before .before .before .from-end .ensures)
+    (c .before .before .before .before .before .before .before .before .before .from-end2 .ensures)
+    (c .before .before .before .before .before .before .before .before .from-end3 .ensures) fits
+    ∙ items-wrong (a .edition) (a .sign) n _ _
+    (tail-part (a .bytes .now)
+    (length (a .bytes .now)
+    - (c .before .before .before .before .before .before .before .before .before .from-end2 .result * 256
+    + c .before .before .before .before .before .before .before .before .from-end3 .result)))
+    (rw (← (c .before .before .before .before .before .lattice .ensures))
+    (sym (c .before .before .are-items .ensures) ∙ not-true (c .before .before .are-items .result) (c .before .if2 .taken))))
 
 sub-is-allowed : tie.Need-sub-is-allowed
 sub-is-allowed c = search needs
@@ -107,8 +133,20 @@ part-is-allowed-end c = search needs
 is-allowed-requires : tie.Need-is-allowed-requires
 is-allowed-requires c κs =
     let a = c .before .before .before .before .before .before .before .before .before .before .before .before .args in
-    let fits = length-test _ _ _ _ _ .0 (sym (c .before .before .before .before .before .before .before .length-fits .ensures) ∙ not-false (c .before .before .before .before .before .before .before .length-fits .result) (c .before .before .before .before .before .before .if1 .left)) in
-    (fits .1, rw (tail-part (a .bytes .now) (length (a .bytes .now) - (c .before .before .before .before .before .before .before .before .before .from-end2 .result * 256 + c .before .before .before .before .before .before .before .before .from-end3 .result)), length-drop) (omega (arith, fits)), items-test _ _ .0 (sym (c .before .before .are-items .ensures) ∙ not-false (c .before .before .are-items .result) (c .before .if2 .left)))
+    let fits =
+    length-test _ _ _ _ _ .0 (sym (c .before .before .before .before .before .before .before .length-fits .ensures)
+    ∙ not-false (c .before .before .before .before .before .before .before .length-fits .result)
+    (c .before .before .before .before .before .before .if1 .left)) in (
+      fits .1,
+      rw (
+        tail-part (a .bytes .now)
+            (length (a .bytes .now)
+            - (c .before .before .before .before .before .before .before .before .before .from-end2 .result * 256
+            + c .before .before .before .before .before .before .before .before .from-end3 .result)),
+        length-drop,
+      ) (omega (arith, fits)),
+      items-test _ _ .0 (sym (c .before .before .are-items .ensures) ∙ not-false (c .before .before .are-items .result) (c .before .if2 .left)),
+    )
 
 nothing-requires-3 : tie.Need-nothing-requires-3
 nothing-requires-3 c κs = search needs
@@ -117,10 +155,24 @@ returns-3 : tie.Need-returns-3
 returns-3 c =
     let a = c .before .before .before .before .before .before .before .before .before .before .before .before .before .before .before .args in
     let n = c .before .before .before .before .before .before .before .before .before .before .before .before .before .from-end .result in
-    let fits = sym (c .before .before .before .before .before .before .before .before .before .before .length-fits .ensures) ∙ not-false (c .before .before .before .before .before .before .before .before .before .before .length-fits .result) (c .before .before .before .before .before .before .before .before .before .if1 .left) in
+    let fits = sym (c .before .before .before .before .before .before .before .before .before .before .length-fits .ensures)
+    ∙ not-false (c .before .before .before .before .before .before .before .before .before .before .length-fits .result)
+    (c .before .before .before .before .before .before .before .before .before .if1 .left) in
     nothing-found (c .nothing3 .ensures)
-    (counted-fits (a .edition) (a .sign) (a .bytes .now) _ _ _ (c .before .before .before .before .before .before .before .before .before .before .before .before .before .from-end .ensures) (c .before .before .before .before .before .before .before .before .before .before .before .before .from-end2 .ensures) (c .before .before .before .before .before .before .before .before .before .before .before .from-end3 .ensures) fits
-    ∙ items-barred (a .edition) (a .sign) n _ _ (tail-part (a .bytes .now) (length (a .bytes .now) - (c .before .before .before .before .before .before .before .before .before .before .before .before .from-end2 .result * 256 + c .before .before .before .before .before .before .before .before .before .before .before .from-end3 .result))) (rw (← (c .before .before .before .before .before .before .before .before .lattice .ensures)) (sym (c .before .before .before .before .before .are-items .ensures) ∙ not-false (c .before .before .before .before .before .are-items .result) (c .before .before .before .before .if2 .left))) (rw (← (c .before .before .before .before .before .before .before .before .lattice .ensures)) (sym (c .before .before .is-allowed .ensures) ∙ not-true (c .before .before .is-allowed .result) (c .before .if3 .taken))))
+    (counted-fits (a .edition) (a .sign) (a .bytes .now) _ _ _
+    (c .before .before .before .before .before .before .before .before .before .before .before .before .before .from-end .ensures)
+    (c .before .before .before .before .before .before .before .before .before .before .before .before .from-end2 .ensures)
+    (c .before .before .before .before .before .before .before .before .before .before .before .from-end3 .ensures) fits
+    ∙ items-barred (a .edition) (a .sign) n _ _
+    (tail-part (a .bytes .now)
+    (length (a .bytes .now)
+    - (c .before .before .before .before .before .before .before .before .before .before .before .before .from-end2 .result * 256
+    + c .before .before .before .before .before .before .before .before .before .before .before .from-end3 .result)))
+    (rw (← (c .before .before .before .before .before .before .before .before .lattice .ensures))
+    (sym (c .before .before .before .before .before .are-items .ensures)
+    ∙ not-false (c .before .before .before .before .before .are-items .result) (c .before .before .before .before .if2 .left)))
+    (rw (← (c .before .before .before .before .before .before .before .before .lattice .ensures))
+    (sym (c .before .before .is-allowed .ensures) ∙ not-true (c .before .before .is-allowed .result) (c .before .if3 .taken))))
 
 sub-are-layers : tie.Need-sub-are-layers
 sub-are-layers c = search needs
@@ -134,30 +186,83 @@ part-are-layers-end c = search needs
 are-layers-requires : tie.Need-are-layers-requires
 are-layers-requires c κs =
     let a = c .before .before .before .before .before .before .before .before .before .before .before .before .before .before .before .args in
-    let fits = length-test _ _ _ _ _ .0 (sym (c .before .before .before .before .before .before .before .before .before .before .length-fits .ensures) ∙ not-false (c .before .before .before .before .before .before .before .before .before .before .length-fits .result) (c .before .before .before .before .before .before .before .before .before .if1 .left)) in
-    (fits .1, rw (tail-part (a .bytes .now) (length (a .bytes .now) - (c .before .before .before .before .before .before .before .before .before .before .before .before .from-end2 .result * 256 + c .before .before .before .before .before .before .before .before .before .before .before .from-end3 .result)), length-drop) (omega (arith, fits)))
+    let fits =
+    length-test _ _ _ _ _ .0 (sym (c .before .before .before .before .before .before .before .before .before .before .length-fits .ensures)
+    ∙ not-false (c .before .before .before .before .before .before .before .before .before .before .length-fits .result)
+    (c .before .before .before .before .before .before .before .before .before .if1 .left)) in (
+      fits .1,
+      rw (
+        tail-part (a .bytes .now)
+            (length (a .bytes .now)
+            - (c .before .before .before .before .before .before .before .before .before .before .before .before .from-end2 .result * 256
+            + c .before .before .before .before .before .before .before .before .before .before .before .from-end3 .result)),
+        length-drop,
+      ) (omega (arith, fits)),
+    )
 
 nothing-requires-4 : tie.Need-nothing-requires-4
 nothing-requires-4 c κs = search needs
 
 returns-4 : tie.Need-returns-4
 returns-4 c =
-    let a = c .before .before .before .before .before .before .before .before .before .before .before .before .before .before .before .before .before .before .args in
-    let n = c .before .before .before .before .before .before .before .before .before .before .before .before .before .before .before .before .from-end .result in
-    let fits = sym (c .before .before .before .before .before .before .before .before .before .before .before .before .before .length-fits .ensures) ∙ not-false (c .before .before .before .before .before .before .before .before .before .before .before .before .before .length-fits .result) (c .before .before .before .before .before .before .before .before .before .before .before .before .if1 .left) in
+    let a =
+    c .before .before .before .before .before .before .before .before .before .before .before .before .before .before .before .before .before .before
+    .args in
+    let n =
+    c .before .before .before .before .before .before .before .before .before .before .before .before .before .before .before .before .from-end .result in
+    let fits = sym (c .before .before .before .before .before .before .before .before .before .before .before .before .before .length-fits .ensures)
+    ∙ not-false (c .before .before .before .before .before .before .before .before .before .before .before .before .before .length-fits .result)
+    (c .before .before .before .before .before .before .before .before .before .before .before .before .if1 .left) in
     nothing-found (c .nothing4 .ensures)
-    (counted-fits (a .edition) (a .sign) (a .bytes .now) _ _ _ (c .before .before .before .before .before .before .before .before .before .before .before .before .before .before .before .before .from-end .ensures) (c .before .before .before .before .before .before .before .before .before .before .before .before .before .before .before .from-end2 .ensures) (c .before .before .before .before .before .before .before .before .before .before .before .before .before .before .from-end3 .ensures) fits
-    ∙ layers-barred (a .edition) (a .sign) n _ _ (tail-part (a .bytes .now) (length (a .bytes .now) - (c .before .before .before .before .before .before .before .before .before .before .before .before .before .before .before .from-end2 .result * 256 + c .before .before .before .before .before .before .before .before .before .before .before .before .before .before .from-end3 .result))) (rw (← (c .before .before .before .before .before .before .before .before .before .before .before .lattice .ensures)) (sym (c .before .before .before .before .before .before .before .before .are-items .ensures) ∙ not-false (c .before .before .before .before .before .before .before .before .are-items .result) (c .before .before .before .before .before .before .before .if2 .left))) (rw (← (c .before .before .before .before .before .before .before .before .before .before .before .lattice .ensures)) (sym (c .before .before .before .before .before .is-allowed .ensures) ∙ not-false (c .before .before .before .before .before .is-allowed .result) (c .before .before .before .before .if3 .left))) (rw (← (c .before .before .before .before .before .before .before .before .before .before .is-small .ensures)) (sym (c .before .before .are-layers .ensures) ∙ not-true (c .before .before .are-layers .result) (c .before .if4 .taken))))
+    (counted-fits (a .edition) (a .sign) (a .bytes .now) _ _ _
+    (c .before .before .before .before .before .before .before .before .before .before .before .before .before .before .before .before .from-end .ensures)
+    (c .before .before .before .before .before .before .before .before .before .before .before .before .before .before .before .from-end2 .ensures)
+    (c .before .before .before .before .before .before .before .before .before .before .before .before .before .before .from-end3 .ensures) fits
+    ∙ layers-barred (a .edition) (a .sign) n _ _
+    (tail-part (a .bytes .now)
+    (length (a .bytes .now)
+    - (c .before .before .before .before .before .before .before .before .before .before .before .before .before .before .before .from-end2 .result * 256
+    + c .before .before .before .before .before .before .before .before .before .before .before .before .before .before .from-end3 .result)))
+    (rw (← (c .before .before .before .before .before .before .before .before .before .before .before .lattice .ensures))
+    (sym (c .before .before .before .before .before .before .before .before .are-items .ensures)
+    ∙ not-false (c .before .before .before .before .before .before .before .before .are-items .result)
+    (c .before .before .before .before .before .before .before .if2 .left)))
+    (rw (← (c .before .before .before .before .before .before .before .before .before .before .before .lattice .ensures))
+    (sym (c .before .before .before .before .before .is-allowed .ensures)
+    ∙ not-false (c .before .before .before .before .before .is-allowed .result) (c .before .before .before .before .if3 .left)))
+    (rw (← (c .before .before .before .before .before .before .before .before .before .before .is-small .ensures))
+    (sym (c .before .before .are-layers .ensures) ∙ not-true (c .before .before .are-layers .result) (c .before .if4 .taken))))
 
 returns-5 : tie.Need-returns-5
 returns-5 c =
     let a = c .before .before .before .before .before .before .before .before .before .before .before .before .before .before .before .before .before .args in
     let n = c .before .before .before .before .before .before .before .before .before .before .before .before .before .before .before .from-end .result in
-    let fits = sym (c .before .before .before .before .before .before .before .before .before .before .before .before .length-fits .ensures) ∙ not-false (c .before .before .before .before .before .before .before .before .before .before .before .before .length-fits .result) (c .before .before .before .before .before .before .before .before .before .before .before .if1 .left) in
+    let fits = sym (c .before .before .before .before .before .before .before .before .before .before .before .before .length-fits .ensures)
+    ∙ not-false (c .before .before .before .before .before .before .before .before .before .before .before .before .length-fits .result)
+    (c .before .before .before .before .before .before .before .before .before .before .before .if1 .left) in
     let bounds = length-test _ _ _ _ _ .0 fits in
-    stands-as (record-stands (a .bytes .now) (a .edition) (a .sign) n (length (a .bytes .now) - (c .before .before .before .before .before .before .before .before .before .before .before .before .before .before .from-end2 .result * 256 + c .before .before .before .before .before .before .before .before .before .before .before .before .before .from-end3 .result)) (bounds .1) (omega (arith, bounds)))
-    (counted-fits (a .edition) (a .sign) (a .bytes .now) _ _ _ (c .before .before .before .before .before .before .before .before .before .before .before .before .before .before .before .from-end .ensures) (c .before .before .before .before .before .before .before .before .before .before .before .before .before .before .from-end2 .ensures) (c .before .before .before .before .before .before .before .before .before .before .before .before .before .from-end3 .ensures) fits
-    ∙ items-right (a .edition) (a .sign) n _ _ (tail-part (a .bytes .now) (length (a .bytes .now) - (c .before .before .before .before .before .before .before .before .before .before .before .before .before .before .from-end2 .result * 256 + c .before .before .before .before .before .before .before .before .before .before .before .before .before .from-end3 .result))) (rw (← (c .before .before .before .before .before .before .before .before .before .before .lattice .ensures)) (sym (c .before .before .before .before .before .before .before .are-items .ensures) ∙ not-false (c .before .before .before .before .before .before .before .are-items .result) (c .before .before .before .before .before .before .if2 .left))) (rw (← (c .before .before .before .before .before .before .before .before .before .before .lattice .ensures)) (sym (c .before .before .before .before .is-allowed .ensures) ∙ not-false (c .before .before .before .before .is-allowed .result) (c .before .before .before .if3 .left))) (rw (← (c .before .before .before .before .before .before .before .before .before .is-small .ensures)) (sym (c .before .are-layers .ensures) ∙ not-false (c .before .are-layers .result) (c .if4 .left))))
+    stands-as (record-stands (a .bytes .now) (a .edition) (a .sign) n
+    (length (a .bytes .now)
+    - (c .before .before .before .before .before .before .before .before .before .before .before .before .before .before .from-end2 .result * 256
+    + c .before .before .before .before .before .before .before .before .before .before .before .before .before .from-end3 .result)) (bounds .1)
+    (omega (arith, bounds)))
+    (counted-fits (a .edition) (a .sign) (a .bytes .now) _ _ _
+    (c .before .before .before .before .before .before .before .before .before .before .before .before .before .before .before .from-end .ensures)
+    (c .before .before .before .before .before .before .before .before .before .before .before .before .before .before .from-end2 .ensures)
+    (c .before .before .before .before .before .before .before .before .before .before .before .before .before .from-end3 .ensures) fits
+    ∙ items-right (a .edition) (a .sign) n _ _
+    (tail-part (a .bytes .now)
+    (length (a .bytes .now)
+    - (c .before .before .before .before .before .before .before .before .before .before .before .before .before .before .from-end2 .result * 256
+    + c .before .before .before .before .before .before .before .before .before .before .before .before .before .from-end3 .result)))
+    (rw (← (c .before .before .before .before .before .before .before .before .before .before .lattice .ensures))
+    (sym (c .before .before .before .before .before .before .before .are-items .ensures)
+    ∙ not-false (c .before .before .before .before .before .before .before .are-items .result) (c .before .before .before .before .before .before .if2 .left)))
+    (rw (← (c .before .before .before .before .before .before .before .before .before .before .lattice .ensures))
+    (sym (c .before .before .before .before .is-allowed .ensures)
+    ∙ not-false (c .before .before .before .before .is-allowed .result) (c .before .before .before .if3 .left)))
+    (rw (← (c .before .before .before .before .before .before .before .before .before .is-small .ensures))
+    (sym (c .before .are-layers .ensures) ∙ not-false (c .before .are-layers .result) (c .if4 .left))))
 
 pub find-counted-spec : {M : Type 1} → statement M
 find-counted-spec =

@@ -24,13 +24,19 @@ nothing-requires-2 : tie.Need-nothing-requires-2
 nothing-requires-2 c κs = search needs
 
 returns-2 : tie.Need-returns-2
-returns-2 c = nothing-found (c .nothing2 .ensures) (first-other-edition (c .before .before .before .before .before .args .bytes .now) _ (omega (arith, c .before .before .before .if1 .left)) (c .before .before .from-end .ensures) (c .before .if2 .taken))
+returns-2 c =
+    nothing-found (c .nothing2 .ensures)
+    (first-other-edition (c .before .before .before .before .before .args .bytes .now) _ (omega (arith, c .before .before .before .if1 .left))
+    (c .before .before .from-end .ensures) (c .before .if2 .taken))
 
 find-lettered-requires : tie.Need-find-lettered-requires
 find-lettered-requires c κs = search needs
 
 returns-3 : tie.Need-returns-3
-returns-3 c = stands-as (c .find-lettered .ensures) (first-by-letter (c .before .before .before .before .before .args .bytes .now) _ (omega (arith, c .before .before .before .if1 .left)) (c .before .before .from-end .ensures) (c .before .if2 .left))
+returns-3 c =
+    stands-as (c .find-lettered .ensures)
+    (first-by-letter (c .before .before .before .before .before .args .bytes .now) _ (omega (arith, c .before .before .before .if1 .left))
+    (c .before .before .from-end .ensures) (c .before .if2 .left))
 
 pub find-first-spec : {M : Type 1} → statement M
 find-first-spec =

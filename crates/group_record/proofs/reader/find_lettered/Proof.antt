@@ -23,7 +23,8 @@ find-counted-requires c κs = search needs
 returns : tie.Need-returns
 returns c =
     let a = c .before .before .before .before .args in
-    stands-as (c .find-counted .ensures) (lettered-p (a .edition) (fromEnd (a .bytes .now) 5) (a .bytes .now) (sym (c .before .before .from-end .ensures) ∙ c .before .if1 .taken))
+    stands-as (c .find-counted .ensures)
+    (lettered-p (a .edition) (fromEnd (a .bytes .now) 5) (a .bytes .now) (sym (c .before .before .from-end .ensures) ∙ c .before .if1 .taken))
 
 find-counted-requires-2 : tie.Need-find-counted-requires-2
 find-counted-requires-2 c κs = search needs
@@ -32,7 +33,8 @@ returns-2 : tie.Need-returns-2
 returns-2 c =
     let a = c .before .before .before .before .before .args in
     let same = c .before .before .before .from-end .ensures in
-    stands-as (c .find-counted2 .ensures) (lettered-c (a .edition) (fromEnd (a .bytes .now) 5) (a .bytes .now) (λ e. c .before .before .if1 .left (same ∙ e)) (sym same ∙ c .before .if2 .taken))
+    stands-as (c .find-counted2 .ensures)
+    (lettered-c (a .edition) (fromEnd (a .bytes .now) 5) (a .bytes .now) (λ e. c .before .before .if1 .left (same ∙ e)) (sym same ∙ c .before .if2 .taken))
 
 from-byte-requires : tie.Need-from-byte-requires
 from-byte-requires c κs = search needs
@@ -51,7 +53,9 @@ returns-3 c =
     let a = c .before .before .before .before .before .before .before .before .args in
     let same = c .before .before .before .before .before .before .from-end .ensures in
     let letter = ap letterOf (sym same) ∙ sym (c .before .before .before .from-byte .ensures) ∙ c .before .enum-told .given .1 in
-    nothing-found (c .nothing .ensures) (lettered-none (a .edition) (fromEnd (a .bytes .now) 5) (a .bytes .now) (λ e. c .before .before .before .before .before .if1 .left (same ∙ e)) (λ e. c .before .before .before .before .if2 .left (same ∙ e)) letter)
+    nothing-found (c .nothing .ensures)
+    (lettered-none (a .edition) (fromEnd (a .bytes .now) 5) (a .bytes .now)
+    (λ e. c .before .before .before .before .before .if1 .left (same ∙ e)) (λ e. c .before .before .before .before .if2 .left (same ∙ e)) letter)
 
 find-counted-requires-3 : tie.Need-find-counted-requires-3
 find-counted-requires-3 c κs = search needs
@@ -61,7 +65,10 @@ returns-4 c =
     let a = c .before .before .before .before .before .before .before .before .before .args in
     let same = c .before .before .before .before .before .before .before .from-end .ensures in
     let letter = ap letterOf (sym same) ∙ sym (c .before .before .before .before .from-byte .ensures) ∙ c .before .before .c .given .1 in
-    stands-as (c .find-counted3 .ensures) (lettered-plain (a .edition) (fromEnd (a .bytes .now) 5) (a .bytes .now) (λ e. c .before .before .before .before .before .before .if1 .left (same ∙ e)) (λ e. c .before .before .before .before .before .if2 .left (same ∙ e)) _ letter)
+    stands-as (c .find-counted3 .ensures)
+    (lettered-plain (a .edition) (fromEnd (a .bytes .now) 5) (a .bytes .now)
+    (λ e. c .before .before .before .before .before .before .if1 .left (same ∙ e)) (λ e. c .before .before .before .before .before .if2 .left (same ∙ e)) _
+    letter)
 
 pub find-lettered-spec : {M : Type 1} → statement M
 find-lettered-spec =

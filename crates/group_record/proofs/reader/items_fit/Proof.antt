@@ -24,13 +24,16 @@ loop-holds : tie.Need-loop-holds Inv-loop μ-loop
 loop-holds c = (omega arith, refl)
 
 is-item-requires : tie.Need-is-item-requires Inv-loop μ-loop
-is-item-requires c κs = item-inside (c .before .before .before .args .edition) (c .before .loop .i) (c .before .before .before .args .n) _ (omega arith) (c .before .before .before .pre .1)
+is-item-requires c κs =
+    item-inside (c .before .before .before .args .edition) (c .before .loop .i) (c .before .before .before .args .n) _ (omega arith)
+    (c .before .before .before .pre .1)
 
 returns : tie.Need-returns Inv-loop μ-loop
 returns c =
     let a = c .before .before .before .before .before .args in
     let l = c .before .before .before .loop in
-    sym (all-stop (a .edition) (a .n) (a .bytes .now) (isItem (a .c)) (l .i) (omega arith) (sym (c .before .is-item .ensures) ∙ not-true (c .before .is-item .result) (c .if1 .taken))) ∙ l .inv .1
+    sym (all-stop (a .edition) (a .n) (a .bytes .now) (isItem (a .c)) (l .i) (omega arith)
+    (sym (c .before .is-item .ensures) ∙ not-true (c .before .is-item .result) (c .if1 .taken))) ∙ l .inv .1
 
 add-i : tie.Need-add-i Inv-loop μ-loop
 add-i c = omega arith
@@ -43,7 +46,8 @@ loop-again c =
     let a = c .before .before .before .before .before .args in
     let l = c .before .before .before .loop in (
       omega arith,
-      sym (all-next (a .edition) (a .n) (a .bytes .now) (isItem (a .c)) (l .i) (omega arith) (sym (c .before .is-item .ensures) ∙ not-false (c .before .is-item .result) (c .if1 .left))) ∙ l .inv .1,
+      sym (all-next (a .edition) (a .n) (a .bytes .now) (isItem (a .c)) (l .i) (omega arith)
+          (sym (c .before .is-item .ensures) ∙ not-false (c .before .is-item .result) (c .if1 .left))) ∙ l .inv .1,
     )
 
 returns-2 : tie.Need-returns-2 Inv-loop μ-loop

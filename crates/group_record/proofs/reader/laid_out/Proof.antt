@@ -25,10 +25,15 @@ identity-requires : tie.Need-identity-requires Inv-loop μ-loop
 identity-requires c κs = search needs
 
 loop-holds : tie.Need-loop-holds Inv-loop μ-loop
-loop-holds c = (omega arith, rw (c .identity .ensures) (sym (filled-start (c .before .before .args .edition) (c .before .before .args .n) (c .before .before .args .bytes .now))))
+loop-holds c = (
+  omega arith,
+  rw (c .identity .ensures) (sym (filled-start (c .before .before .args .edition) (c .before .before .args .n) (c .before .before .args .bytes .now))),
+)
 
 operation-at-requires : tie.Need-operation-at-requires Inv-loop μ-loop
-operation-at-requires c κs = item-inside (c .before .before .before .before .args .edition) (c .before .loop .i) (c .before .before .before .before .args .n) _ (omega arith) (c .before .before .before .before .pre .1)
+operation-at-requires c κs =
+    item-inside (c .before .before .before .before .args .edition) (c .before .loop .i) (c .before .before .before .before .args .n) _ (omega arith)
+    (c .before .before .before .before .pre .1)
 
 mul-operations : tie.Need-mul-operations Inv-loop μ-loop
 mul-operations c = omega arith
@@ -62,7 +67,14 @@ returns c =
     let a = c .before .before .before .before .before .before .args in
     let l = c .before .before .before .loop in
     let done = l .inv .1 ∙ filled-end (a .edition) (a .n) (a .bytes .now) (l .i) (omega arith) (omega arith) in
-    λ k. record { answer = a .answer; edition = a .edition; layer = c .before .is-small .ensures k; centering = c .lattice .ensures k; count = a .n; operations = done k }
+    λ k. record {
+      answer = a .answer;
+      edition = a .edition;
+      layer = c .before .is-small .ensures k;
+      centering = c .lattice .ensures k;
+      count = a .n;
+      operations = done k;
+    }
 
 pub laid-out-spec : {M : Type 1} → statement M
 laid-out-spec =

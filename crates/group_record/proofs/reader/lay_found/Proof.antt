@@ -26,7 +26,8 @@ laid-out-requires c κs = search needs
 returns : tie.Need-returns
 returns c =
     let f = c .before .before .before .args .found in
-    c .laid-out .ensures ∙ ap (λ (b : List ℕ). laidOut (f .answer) (f .edition) (f .sign) (f .count) b) (tail-part (c .before .before .before .args .bytes .now) (f .start))
+    c .laid-out .ensures
+    ∙ ap (λ (b : List ℕ). laidOut (f .answer) (f .edition) (f .sign) (f .count) b) (tail-part (c .before .before .before .args .bytes .now) (f .start))
 
 pub lay-found-spec : {M : Type 1} → statement M
 lay-found-spec =

@@ -18,6 +18,9 @@ returns-2 : tie.Need-returns-2
 unfolding lengthFits
 returns-2 c = simp (le-leb 1 (c .before .before .args .n) (omega arith), lt-leb _ 48 (c .if2 .taken))
 
+cast-items-length : tie.Need-cast-items-length
+cast-items-length c = search needs
+
 items-length-requires : tie.Need-items-length-requires
 items-length-requires c κs = search needs
 
@@ -26,12 +29,24 @@ add-total c = omega (arith, c .items-length .ensures, items-short (c .before .be
 
 returns-3 : tie.Need-returns-3
 unfolding lengthFits
-returns-3 c = simp (← c .before .items-length .ensures, le-leb 1 (c .before .before .before .before .args .n) (omega arith), le-leb (c .before .before .before .before .args .n) 48 (omega arith), ne-eqb _ _ (c .if3 .taken))
+returns-3 c =
+    simp (
+      ← c .before .items-length .ensures,
+      le-leb 1 (c .before .before .before .before .args .n) (omega arith),
+      le-leb (c .before .before .before .before .args .n) 48 (omega arith),
+      ne-eqb _ _ (c .if3 .taken),
+    )
 
 returns-4 : tie.Need-returns-4
 unfolding lengthFits
-returns-4 c = simp (← c .before .items-length .ensures, le-leb 1 (c .before .before .before .before .args .n) (omega arith), le-leb (c .before .before .before .before .args .n) 48 (omega arith), eq-eqb _ _ (c .if3 .left))
+returns-4 c =
+    simp (
+      ← c .before .items-length .ensures,
+      le-leb 1 (c .before .before .before .before .args .n) (omega arith),
+      le-leb (c .before .before .before .before .args .n) 48 (omega arith),
+      eq-eqb _ _ (c .if3 .left),
+    )
 
 pub length-fits-spec : {M : Type 1} → statement M
 length-fits-spec =
-    tie.close (tie.spec returns returns-2 items-length-requires add-total returns-3 returns-4)
+    tie.close (tie.spec returns returns-2 cast-items-length items-length-requires add-total returns-3 returns-4)

@@ -32,18 +32,32 @@ byte-requires : tie.Need-byte-requires
 byte-requires c κs = search needs
 
 place-group-requires : tie.Need-place-group-requires
-place-group-requires c κs = symbol-writable (c .before .before .before .before .before .before .before .before .args .text .now) (c .before .before .before .before .before .new .result) (c .before .before .before .before .before .new .ensures) (c .before .before .before .enum-told .given .1)
+place-group-requires c κs =
+    symbol-writable (c .before .before .before .before .before .before .before .before .args .text .now)
+    (c .before .before .before .before .before .new .result) (c .before .before .before .before .before .new .ensures)
+    (c .before .before .before .enum-told .given .1)
 
 same-length : tie.Need-same-length
 same-length c = search needs
 
 -- What is answered, by what the writer answered.
-placed-answer : (c : tie.After-place-group) (b : Bool) → c .place-group .result ≡ b → (cond b (Written (c .before .before .before .before .before .before .new .result .count)) NoRoom ≡ symbolRecordOf (c .before .before .before .before .before .before .before .before .before .args .text .now) (c .before .before .before .before .before .before .before .before .before .args .out .now) (c .before .before .before .before .before .before .before .before .before .args .start)) × (c .place-group .last .0 ≡ symbolBufferOf (c .before .before .before .before .before .before .before .before .before .args .text .now) (c .before .before .before .before .before .before .before .before .before .args .out .now) (c .before .before .before .before .before .before .before .before .before .args .start))
+placed-answer : (c : tie.After-place-group) (b : Bool) → c .place-group .result ≡ b
+    → (cond b (Written (c .before .before .before .before .before .before .new .result .count)) NoRoom
+    ≡ symbolRecordOf (c .before .before .before .before .before .before .before .before .before .args .text .now)
+    (c .before .before .before .before .before .before .before .before .before .args .out .now)
+    (c .before .before .before .before .before .before .before .before .before .args .start))
+    × (c .place-group .last .0 ≡ symbolBufferOf (c .before .before .before .before .before .before .before .before .before .args .text .now)
+    (c .before .before .before .before .before .before .before .before .before .args .out .now)
+    (c .before .before .before .before .before .before .before .before .before .args .start))
 unfolding recordOf
 placed-answer c b told =
     let a = c .before .before .before .before .before .before .before .before .before .args in
     let new = c .before .before .before .before .before .before .new in
-    accepted-by (a .text .now) (a .out .now) (a .start) (new .result) (new .ensures) (c .before .before .before .before .enum-told .given .1) b (sym told ∙ c .place-group .ensures .0) _ (c .place-group .ensures .1 ∙ ap (λ (b : ℕ). placedIn (a .out .now) (a .start) (recordIn firstEdition b (new .result .centering) (take (new .result .count) (new .result .operations)))) (c .before .before .byte .ensures))
+    accepted-by (a .text .now) (a .out .now) (a .start) (new .result) (new .ensures) (c .before .before .before .before .enum-told .given .1) b
+    (sym told ∙ c .place-group .ensures .0) _
+    (c .place-group .ensures .1
+    ∙ ap (λ (b : ℕ). placedIn (a .out .now) (a .start)
+    (recordIn firstEdition b (new .result .centering) (take (new .result .count) (new .result .operations)))) (c .before .before .byte .ensures))
 
 returns : tie.Need-returns
 returns c = placed-answer (c .before .before .before) false (not-true _ (c .if1 .taken))

@@ -13,14 +13,17 @@ use Rattle.group_table.proofs.record.compose.Lts as lts
 
 abbrev Inv-loop : tie.InvT-loop
 Inv-loop cells₀ n p g q i₀ cells i =
-    (i ≤ n) × Within n cells₀ cells × ((table : List ℕ) → Composing n table cells₀ p g q → Kept table cells₀ cells × ((k : ℕ) → k < i → getD cells (k * n + q) 0 ≡ getD table (k * n + q) 0))
+    (i ≤ n) × Within n cells₀ cells
+    × ((table : List ℕ) → Composing n table cells₀ p g q → Kept table cells₀ cells
+    × ((k : ℕ) → k < i → getD cells (k * n + q) 0 ≡ getD table (k * n + q) 0))
 
 abbrev μ-loop : tie.MeasureT-loop
 μ-loop cells₀ n p g q i₀ cells i = n - i
 
 -- A cell of row i has a slot.
 slot : (c : tie.In-loop Inv-loop μ-loop) (i j : ℕ) → i < c .before .before .args .n → j < c .before .before .args .n
-    → (i * c .before .before .args .n + j < c .before .before .args .n * c .before .before .args .n) × (i * c .before .before .args .n + j < length (c .before .loop .cells)) × (i * c .before .before .args .n + j < 2304)
+    → (i * c .before .before .args .n + j < c .before .before .args .n * c .before .before .args .n)
+    × (i * c .before .before .args .n + j < length (c .before .loop .cells)) × (i * c .before .before .args .n + j < 2304)
 slot c i j h b =
     let s = c .before .before in
     let D = s .pre .1 in
@@ -28,7 +31,8 @@ slot c i j h b =
     (place .0, omega (arith, place .0, D .room, c .before .loop .inv .1 .long), omega (arith, place .0, place .1))
 
 -- The first column leads to an index.
-index : (c : tie.In-loop Inv-loop μ-loop) → getD (c .before .loop .cells) (c .before .loop .i * c .before .before .args .n + c .before .before .args .p) 0 < c .before .before .args .n
+index : (c : tie.In-loop Inv-loop μ-loop)
+    → getD (c .before .loop .cells) (c .before .loop .i * c .before .before .args .n + c .before .before .args .p) 0 < c .before .before .args .n
 index c =
     let s = c .before .before in
     let l = c .before .loop in
@@ -36,23 +40,31 @@ index c =
     first-below (s .args .n) table (s .args .cells .now) (s .args .p) (s .args .g) (s .args .q) D (l .cells) (l .inv .2 table D .0) (l .i) (c .loop-test .taken)
 
 -- So each cell that is looked at has its slot: that of p,
-first-slot : (c : tie.In-loop Inv-loop μ-loop) → (c .before .loop .i * c .before .before .args .n + c .before .before .args .p < length (c .before .loop .cells)) × (c .before .loop .i * c .before .before .args .n + c .before .before .args .p < 2304)
+first-slot : (c : tie.In-loop Inv-loop μ-loop)
+    → (c .before .loop .i * c .before .before .args .n + c .before .before .args .p < length (c .before .loop .cells))
+    × (c .before .loop .i * c .before .before .args .n + c .before .before .args .p < 2304)
 first-slot c =
     let (whole, inside, low) = slot c (c .before .loop .i) (c .before .before .args .p) (c .loop-test .taken) (c .before .before .pre .1 .first .0) in
     (inside, low)
 
 -- that of g,
 second-slot : (c : tie.In-loop Inv-loop μ-loop) →
-    let at = getD (c .before .loop .cells) (c .before .loop .i * c .before .before .args .n + c .before .before .args .p) 0 * c .before .before .args .n + c .before .before .args .g in
+    let at =
+    getD (c .before .loop .cells) (c .before .loop .i * c .before .before .args .n + c .before .before .args .p) 0 * c .before .before .args .n
+    + c .before .before .args .g in
     (at < length (c .before .loop .cells)) × (at < 2304)
 second-slot c = let (whole, inside, low) = slot c _ (c .before .before .args .g) (index c) (c .before .before .pre .1 .second .0) in (inside, low)
 
 -- and that of q.
-product-slot : (c : tie.In-loop Inv-loop μ-loop) → (c .before .loop .i * c .before .before .args .n + c .before .before .args .q < c .before .before .args .n * c .before .before .args .n) × (c .before .loop .i * c .before .before .args .n + c .before .before .args .q < length (c .before .loop .cells)) × (c .before .loop .i * c .before .before .args .n + c .before .before .args .q < 2304)
+product-slot : (c : tie.In-loop Inv-loop μ-loop)
+    → (c .before .loop .i * c .before .before .args .n + c .before .before .args .q < c .before .before .args .n * c .before .before .args .n)
+    × (c .before .loop .i * c .before .before .args .n + c .before .before .args .q < length (c .before .loop .cells))
+    × (c .before .loop .i * c .before .before .args .n + c .before .before .args .q < 2304)
 product-slot c =
     let s = c .before .before in
     let (table, D) = s .pre in
-    slot c (c .before .loop .i) (s .args .q) (c .loop-test .taken) (composing-below (s .args .n) table (s .args .cells .now) (s .args .p) (s .args .g) (s .args .q) D)
+    slot c (c .before .loop .i) (s .args .q) (c .loop-test .taken)
+    (composing-below (s .args .n) table (s .args .cells .now) (s .args .p) (s .args .g) (s .args .q) D)
 
 loop-holds : tie.Need-loop-holds Inv-loop μ-loop
 loop-holds c = (omega arith, within-same (c .args .n) (c .args .cells .now), λ table D. (λ k right. right, λ k h. absurd (omega arith)))
@@ -104,8 +116,10 @@ loop-again c =
       within-onward (a .n) (a .cells .now) (l .cells) _ (l .inv .1) (within-set (a .n) (l .cells) at _ whole),
       λ table D.
           let (kept, rows) = l .inv .2 table D in
-          let e = through-both (a .n) table (a .cells .now) (a .p) (a .g) (a .q) D (l .cells) kept (l .i) (loop .loop-test .taken) in
-          (λ k right. set-kept table (l .cells) at _ inside e k (kept k right), column-next (a .n) table (l .cells) (a .q) (l .i) _ (loop .loop-test .taken) inside e rows),
+          let e = through-both (a .n) table (a .cells .now) (a .p) (a .g) (a .q) D (l .cells) kept (l .i) (loop .loop-test .taken) in (
+            λ k right. set-kept table (l .cells) at _ inside e k (kept k right),
+            column-next (a .n) table (l .cells) (a .q) (l .i) _ (loop .loop-test .taken) inside e rows,
+          ),
     )
 
 same-length : tie.Need-same-length Inv-loop μ-loop

@@ -1,4 +1,5 @@
--- The invariant: the columns before j are filled, and column j as far as row i, whichever letter the operations are allowed with, since the loop itself has no letter.
+-- The invariant: the columns before j are filled, and column j as far as row i,
+-- whichever letter the operations are allowed with, since the loop itself has no letter.
 use mathlib.Core.Path.{_≡_, refl, sym, _∙_, ap}
 use mathlib.Core.List.{map}
 use Prim.Native.Nat.{_≤_, _<_, _+_, _-_, _*_}
@@ -28,7 +29,8 @@ use Rattle.group_table.proofs.record.widen.Reads as widen-reads
 abbrev Inv-loop : tie.InvT-loop
 Inv-loop cells₀ n operations codes known₀ members₀ count₀ generators₀ m₀ i₀ j₀ cells known members count generators m i j =
     (i ≤ n) × (j ≤ n) × (m ≤ j) × (length generators ≡ 48) × Within n cells₀ cells
-    × ((letter : Centering) → Allowed letter (map motionOf (take n operations)) → Filling n (tableOf letter (take n operations)) cells known members count generators m i j)
+    × ((letter : Centering) → Allowed letter (map motionOf (take n operations))
+    → Filling n (tableOf letter (take n operations)) cells known members count generators m i j)
 
 abbrev μ-loop : tie.MeasureT-loop
 μ-loop cells₀ n operations codes known₀ members₀ count₀ generators₀ m₀ i₀ j₀ cells known members count generators m i j = 49 * (48 - j) + (48 - i)
@@ -39,7 +41,8 @@ codes-long c =
     let a = c .before .before .before .args .group in
     let few = c .before .before .before .pre .0 in
     let l = take (a .count) (a .operations) in
-    ap length (c .codes-of .ensures) ∙ padded-length 48 0 (map turnOf l) (omega (arith, length-map l turnOf, length-take-le (a .count) (a .operations) (few .there), few .few))
+    ap length (c .codes-of .ensures)
+    ∙ padded-length 48 0 (map turnOf l) (omega (arith, length-map l turnOf, length-take-le (a .count) (a .operations) (few .there), few .few))
 
 -- The next cell has a slot.
 cell-slot : (c : tie.Then1 Inv-loop μ-loop) →
@@ -93,7 +96,8 @@ product-index-requires c κs =
     let a = s .args .group in
     let l = c .before .before .before .before .before .loop in (
       codes-long t,
-      lt-of-lt-of-le (found-below (a .centering) (a .count) (a .operations) (s .pre .0 .there) (s .pre .0 .listing) (s .pre .1) _ (t .codes-of .ensures) (l .i) (l .j) _ _ (c .before .before .before .if1 .taken) (c .before .before .before .before .loop-test .taken)) (s .pre .0 .few),
+      lt-of-lt-of-le (found-below (a .centering) (a .count) (a .operations) (s .pre .0 .there) (s .pre .0 .listing) (s .pre .1) _ (t .codes-of .ensures) (l .i)
+          (l .j) _ _ (c .before .before .before .if1 .taken) (c .before .before .before .before .loop-test .taken)) (s .pre .0 .few),
     )
 
 mul-cells : tie.Need-mul-cells Inv-loop μ-loop
@@ -126,8 +130,10 @@ loop-again c =
       l .inv .3,
       within-onward (a .count) (s .args .cells .now) (l .cells) _ (l .inv .4) (within-set (a .count) (l .cells) (l .i * a .count + l .j) _ whole),
       λ letter A.
-          filling-cell (a .count) (tableOf letter (take (a .count) (a .operations))) (l .cells) (l .known) (l .members) (l .count) (l .generators) (l .m) (l .i) (l .j) (l .inv .5 letter A) row _ inside
-          (c .product-index .ensures ∙ cell-found letter (a .count) (a .operations) (s .pre .0 .there) (s .pre .0 .listing) A _ (t .codes-of .ensures) (l .i) (l .j) _ _ row column),
+          filling-cell (a .count) (tableOf letter (take (a .count) (a .operations))) (l .cells) (l .known) (l .members) (l .count) (l .generators) (l .m) (l .i)
+          (l .j) (l .inv .5 letter A) row _ inside
+          (c .product-index .ensures ∙ cell-found letter (a .count) (a .operations) (s .pre .0 .there) (s .pre .0 .listing) A _ (t .codes-of .ensures) (l .i)
+          (l .j) _ _ row column),
     )
 
 cast-generators : tie.Need-cast-generators Inv-loop μ-loop
@@ -146,13 +152,17 @@ slice-aggregate-note-2 : tie.Need-slice-aggregate-note-2 Inv-loop μ-loop
 slice-aggregate-note-2 c = sym (slots-at (c .before .before .before .before) .1)
 
 note-requires : tie.Need-note-requires Inv-loop μ-loop
-note-requires c κs = let (broad, wide, few) = slots-at (c .before .before .before .before) in (omega (arith, c .before .before .before .before .before .before .before .before .pre .0 .few), few, broad, wide)
+note-requires c κs = let (broad, wide, few) = slots-at (c .before .before .before .before) in
+    (omega (arith, c .before .before .before .before .before .before .before .before .pre .0 .few), few, broad, wide)
 
 slice-aggregate-widen : tie.Need-slice-aggregate-widen Inv-loop μ-loop
-slice-aggregate-widen c = sym (c .before .before .before .before .note .ensures .broad ∙ slots-at (c .before .before .before .before .before .before .before .before .before) .0)
+slice-aggregate-widen c =
+    sym (c .before .before .before .before .note .ensures .broad ∙ slots-at (c .before .before .before .before .before .before .before .before .before) .0)
 
 slice-aggregate-widen-2 : tie.Need-slice-aggregate-widen-2 Inv-loop μ-loop
-slice-aggregate-widen-2 c = sym (c .before .before .before .before .before .note .ensures .wide ∙ slots-at (c .before .before .before .before .before .before .before .before .before .before) .1)
+slice-aggregate-widen-2 c =
+    sym (c .before .before .before .before .before .note .ensures .wide
+    ∙ slots-at (c .before .before .before .before .before .before .before .before .before .before) .1)
 
 widen-requires : tie.Need-widen-requires Inv-loop μ-loop
 widen-requires c κs =
@@ -164,24 +174,47 @@ widen-requires c κs =
     let table = tableOf (a .centering) (take (a .count) (a .operations)) in
     let products = allowed-products (a .centering) (a .count) (a .operations) (w .there) (w .few) (w .listing) (s .pre .1) in (
       table,
-      filling-widens (a .count) table (l .cells) (l .known) (l .members) (l .count) (l .generators) (l .m) (l .i) (l .j) (l .inv .5 (a .centering) (s .pre .1)) products (omega (arith, s .pre .2, l .inv .4 .long)) (l .inv .3) (omega (arith, w .few)) (c .before .before .before .before .before .before .before .before .before .before .loop-test .taken) (c .before .before .before .before .before .before .before .before .before .if1 .left) _ _ (noted .result) (noted .ensures),
+      filling-widens (a .count) table (l .cells) (l .known) (l .members) (l .count) (l .generators) (l .m) (l .i) (l .j) (l .inv .5 (a .centering) (s .pre .1))
+          products (omega (arith, s .pre .2, l .inv .4 .long)) (l .inv .3) (omega (arith, w .few))
+          (c .before .before .before .before .before .before .before .before .before .before .loop-test .taken)
+          (c .before .before .before .before .before .before .before .before .before .if1 .left) _ _ (noted .result) (noted .ensures),
     )
 
 add-next-unknown : tie.Need-add-next-unknown Inv-loop μ-loop
-add-next-unknown c = omega (arith, c .before .before .before .before .before .before .before .before .before .before .before .before .before .before .before .before .before .before .before .before .before .pre .0 .few)
+add-next-unknown c =
+    omega (
+      arith,
+      c .before .before .before .before .before .before .before .before .before .before .before .before .before .before .before .before .before .before .before
+          .before .before .pre .0 .few,
+    )
 
 next-unknown-requires : tie.Need-next-unknown-requires Inv-loop μ-loop
-next-unknown-requires c κs = (omega arith, c .before .before .before .before .before .before .before .before .before .before .before .before .before .before .before .before .before .before .before .before .before .pre .0 .few)
+next-unknown-requires c κs = (
+  omega arith,
+  c .before .before .before .before .before .before .before .before .before .before .before .before .before .before .before .before .before .before .before
+      .before .before .pre .0 .few,
+)
 
 loop-less-2 : tie.Need-loop-less-2 Inv-loop μ-loop
-loop-less-2 c = omega (arith, c .before .before .before .before .before .before .before .before .before .before .before .before .before .before .before .before .before .before .before .before .before .before .pre .0 .few, c .next-unknown .ensures .0, c .next-unknown .ensures .1)
+loop-less-2 c =
+    omega (
+      arith,
+      c .before .before .before .before .before .before .before .before .before .before .before .before .before .before .before .before .before .before .before
+          .before .before .before .pre .0 .few,
+      c .next-unknown .ensures .0,
+      c .next-unknown .ensures .1,
+    )
 
 loop-again-2 : tie.Need-loop-again-2 Inv-loop μ-loop
 loop-again-2 c =
-    let s = c .before .before .before .before .before .before .before .before .before .before .before .before .before .before .before .before .before .before .before .before .before .before in
+    let s =
+    c .before .before .before .before .before .before .before .before .before .before .before .before .before .before .before .before .before .before
+    .before .before .before .before in
     let a = s .args .group in
     let w = s .pre .0 in
-    let l = c .before .before .before .before .before .before .before .before .before .before .before .before .before .before .before .before .before .before .loop in
+    let l =
+    c .before .before .before .before .before .before .before .before .before .before .before .before .before .before .before .before .before .before
+    .loop in
     let noted = c .before .before .before .before .before .before .before .before .before .before .before .before .before .note in
     let wider = c .before .before .before .before .before .before .widen in
     let next = c .next-unknown in (
@@ -191,8 +224,14 @@ loop-again-2 c =
       length-set (l .generators) (l .m) _ ∙ l .inv .3,
       within-onward (a .count) (s .args .cells .now) (l .cells) _ (l .inv .4) (wider .ensures .0),
       λ letter A.
-          filling-next (a .count) (tableOf letter (take (a .count) (a .operations))) (l .cells) (l .known) (l .members) (l .count) (l .generators) (l .m) (l .i) (l .j) (l .inv .5 letter A)
-          (allowed-products letter (a .count) (a .operations) (w .there) (w .few) (w .listing) A) (omega (arith, s .pre .2, l .inv .4 .long)) (l .inv .3) (omega (arith, w .few)) (c .before .before .before .before .before .before .before .before .before .before .before .before .before .before .before .before .before .loop-test .taken) (c .before .before .before .before .before .before .before .before .before .before .before .before .before .before .before .before .if1 .left) _ _ (noted .result) (noted .ensures) _ _ _ (wider .result) (wider .ensures) (next .result) (next .ensures),
+          filling-next (a .count) (tableOf letter (take (a .count) (a .operations))) (l .cells) (l .known) (l .members) (l .count) (l .generators) (l .m) (l .i)
+          (l .j) (l .inv .5 letter A)
+          (allowed-products letter (a .count) (a .operations) (w .there) (w .few) (w .listing) A) (omega (arith, s .pre .2, l .inv .4 .long)) (l .inv .3)
+          (omega (arith, w .few))
+          (c .before .before .before .before .before .before .before .before .before .before .before .before .before .before .before .before .before
+          .loop-test .taken)
+          (c .before .before .before .before .before .before .before .before .before .before .before .before .before .before .before .before .if1 .left) _ _
+          (noted .result) (noted .ensures) _ _ _ (wider .result) (wider .ensures) (next .result) (next .ensures),
     )
 
 same-length : tie.Need-same-length Inv-loop μ-loop
@@ -203,7 +242,8 @@ returns c =
     let s = c .before .before .before .before .before in
     let a = s .args .group in
     let l = c .before .loop in
-    all-filled (a .count) (tableOf (a .centering) (take (a .count) (a .operations))) (s .args .cells .now) (l .cells) (cells-count (a .centering) (a .count) (a .operations) (s .pre .0 .there)) (s .pre .2) (l .inv .4)
+    all-filled (a .count) (tableOf (a .centering) (take (a .count) (a .operations))) (s .args .cells .now) (l .cells)
+    (cells-count (a .centering) (a .count) (a .operations) (s .pre .0 .there)) (s .pre .2) (l .inv .4)
     (λ k h. l .inv .5 (a .centering) (s .pre .1) .before k (omega arith))
 
 pub fill-rows-spec : {M : Type 1} → statement M

@@ -23,11 +23,17 @@ enum-known-found-2 c = search needs
 
 returns : tie.Need-returns
 returns c =
-    record-by-value (c .before .before .before .before .before .before .before .args .bytes .now) (λ i. omega (arith, c .before .before .before .before .before .before .shared-slice-known .given i)) _ _ (sym (c .before .found .given .1) ∙ c .before .before .before .before .fill-cells .ensures .0) (c .before .before .before .before .fill-cells .ensures .1)
+    record-by-value (c .before .before .before .before .before .before .before .args .bytes .now)
+    (λ i. omega (arith, c .before .before .before .before .before .before .shared-slice-known .given i)) _ _
+    (sym (c .before .found .given .1) ∙ c .before .before .before .before .fill-cells .ensures .0)
+    (c .before .before .before .before .fill-cells .ensures .1)
 
 returns-2 : tie.Need-returns-2
 returns-2 c =
-    record-by-value (c .before .before .before .before .before .before .before .args .bytes .now) (λ i. omega (arith, c .before .before .before .before .before .before .shared-slice-known .given i)) _ _ (sym (c .before .found2 .given .1) ∙ c .before .before .before .before .fill-cells .ensures .0) (c .before .before .before .before .fill-cells .ensures .1)
+    record-by-value (c .before .before .before .before .before .before .before .args .bytes .now)
+    (λ i. omega (arith, c .before .before .before .before .before .before .shared-slice-known .given i)) _ _
+    (sym (c .before .found2 .given .1) ∙ c .before .before .before .before .fill-cells .ensures .0)
+    (c .before .before .before .before .fill-cells .ensures .1)
 
 pub from-record-spec : {M : Type 1} → statement M
 from-record-spec =

@@ -17,10 +17,14 @@ use Rattle.operation.proofs.code.rotation_code.Reads as rotation-code-reads
 use Rattle.operation.proofs.product.mul.Reads as mul-reads
 
 -- The code that is sought is that of the product.
-place-is : (c : tie.After-rotation-code) → place eqb (c .rotation-code .result) (c .before .before .before .before .before .args .codes .now) ≡ productPlace (productOf (c .before .before .before .before .before .args .f) (c .before .before .before .before .before .args .g)) (c .before .before .before .before .before .args .codes .now)
+place-is : (c : tie.After-rotation-code)
+    → place eqb (c .rotation-code .result) (c .before .before .before .before .before .args .codes .now)
+    ≡ productPlace (productOf (c .before .before .before .before .before .args .f) (c .before .before .before .before .before .args .g))
+    (c .before .before .before .before .before .args .codes .now)
 place-is c =
     let codes = c .before .before .before .before .before .args .codes .now in
-    rw (c .rotation-code .ensures) (ap (λ (p : Product). productPlace p codes) (sym (c .before .before .h .given .1) ∙ c .before .before .before .before .mul .ensures))
+    rw (c .rotation-code .ensures)
+    (ap (λ (p : Product). productPlace p codes) (sym (c .before .before .h .given .1) ∙ c .before .before .before .before .mul .ensures))
 
 mul-requires : tie.Need-mul-requires
 mul-requires c κs = search needs

@@ -1,5 +1,5 @@
--- The invariant: whatever table they belong to, the columns noted are right and no cell is lost; each pair of a filled column and a generator's leads to one composed
--- of both.
+-- The invariant: whatever table they belong to, the columns noted are right and no cell
+-- is lost; each pair of a filled column and a generator's leads to one composed of both.
 use mathlib.Core.Path.{_≡_, refl, sym, _∙_}
 use mathlib.Core.List.{List}
 use Prim.Native.Nat.{ℕ, _*_, _+_, _-_, _≤_, _<_}
@@ -16,7 +16,8 @@ use Rattle.group_table.proofs.record.note.Reads as note-reads
 
 abbrev Inv-loop : tie.InvT-loop
 Inv-loop cells₀ n known₀ members₀ count generators m filled₀ i₀ j₀ cells known members filled i j =
-    (j ≤ m) × (length known ≡ length known₀) × (length members ≡ length members₀) × WidenedTo n cells₀ known₀ members₀ count generators m cells known members filled
+    (j ≤ m) × (length known ≡ length known₀) × (length members ≡ length members₀)
+    × WidenedTo n cells₀ known₀ members₀ count generators m cells known members filled
 
 abbrev μ-loop : tie.MeasureT-loop
 μ-loop cells₀ n known₀ members₀ count generators m filled₀ i₀ j₀ cells known members filled i j = 49 * (48 - i) + (48 - j)
@@ -30,8 +31,16 @@ few-at c =
 
 -- The columns of both factors are there, whatever table they belong to.
 composing : (c : tie.Else1 Inv-loop μ-loop) (table : List ℕ)
-    → Widening (c .before .before .before .before .before .before .args .n) table (c .before .before .before .before .before .before .args .cells .now) (c .before .before .before .before .before .before .args .known .now) (c .before .before .before .before .before .before .args .members .now) (c .before .before .before .before .before .before .args .count) (c .before .before .before .before .before .before .args .generators .now) (c .before .before .before .before .before .before .args .m)
-    → Composing (c .before .before .before .before .before .before .args .n) table (c .before .before .loop .cells) (getD (c .before .before .loop .members) (c .before .before .loop .i) 0) (getD (c .before .before .before .before .before .before .args .generators .now) (c .before .before .loop .j) 0) (getD (c .before .before .loop .cells) ((getD (c .before .before .loop .members) (c .before .before .loop .i) 0) * (c .before .before .before .before .before .before .args .n) + (getD (c .before .before .before .before .before .before .args .generators .now) (c .before .before .loop .j) 0)) 0)
+    → Widening (c .before .before .before .before .before .before .args .n) table (c .before .before .before .before .before .before .args .cells .now)
+    (c .before .before .before .before .before .before .args .known .now) (c .before .before .before .before .before .before .args .members .now)
+    (c .before .before .before .before .before .before .args .count) (c .before .before .before .before .before .before .args .generators .now)
+    (c .before .before .before .before .before .before .args .m)
+    → Composing (c .before .before .before .before .before .before .args .n) table (c .before .before .loop .cells)
+    (getD (c .before .before .loop .members) (c .before .before .loop .i) 0)
+    (getD (c .before .before .before .before .before .before .args .generators .now) (c .before .before .loop .j) 0)
+    (getD (c .before .before .loop .cells)
+    ((getD (c .before .before .loop .members) (c .before .before .loop .i) 0) * (c .before .before .before .before .before .before .args .n)
+    + (getD (c .before .before .before .before .before .before .args .generators .now) (c .before .before .loop .j) 0)) 0)
 composing c table W =
     let s = c .before .before .before .before .before .before in
     let l = c .before .before .loop in
@@ -49,7 +58,17 @@ composing c table W =
     }
 
 -- So both are indices, their product has a slot, and it is an index.
-low-at : (c : tie.Else1 Inv-loop μ-loop) → ((getD (c .before .before .loop .members) (c .before .before .loop .i) 0) < 48) × ((getD (c .before .before .before .before .before .before .args .generators .now) (c .before .before .loop .j) 0) < 48) × ((getD (c .before .before .loop .members) (c .before .before .loop .i) 0) * (c .before .before .before .before .before .before .args .n) + (getD (c .before .before .before .before .before .before .args .generators .now) (c .before .before .loop .j) 0) < length (c .before .before .loop .cells)) × ((getD (c .before .before .loop .members) (c .before .before .loop .i) 0) * (c .before .before .before .before .before .before .args .n) + (getD (c .before .before .before .before .before .before .args .generators .now) (c .before .before .loop .j) 0) < 2304) × (getD (c .before .before .loop .cells) ((getD (c .before .before .loop .members) (c .before .before .loop .i) 0) * (c .before .before .before .before .before .before .args .n) + (getD (c .before .before .before .before .before .before .args .generators .now) (c .before .before .loop .j) 0)) 0 < 48)
+low-at : (c : tie.Else1 Inv-loop μ-loop)
+    → ((getD (c .before .before .loop .members) (c .before .before .loop .i) 0) < 48)
+    × ((getD (c .before .before .before .before .before .before .args .generators .now) (c .before .before .loop .j) 0) < 48)
+    × ((getD (c .before .before .loop .members) (c .before .before .loop .i) 0) * (c .before .before .before .before .before .before .args .n)
+    + (getD (c .before .before .before .before .before .before .args .generators .now) (c .before .before .loop .j) 0) < length
+    (c .before .before .loop .cells))
+    × ((getD (c .before .before .loop .members) (c .before .before .loop .i) 0) * (c .before .before .before .before .before .before .args .n)
+    + (getD (c .before .before .before .before .before .before .args .generators .now) (c .before .before .loop .j) 0) < 2304)
+    × (getD (c .before .before .loop .cells)
+    ((getD (c .before .before .loop .members) (c .before .before .loop .i) 0) * (c .before .before .before .before .before .before .args .n)
+    + (getD (c .before .before .before .before .before .before .args .generators .now) (c .before .before .loop .j) 0)) 0 < 48)
 low-at c =
     let s = c .before .before .before .before .before .before in
     let l = c .before .before .loop in
@@ -66,7 +85,8 @@ low-at c =
     )
 
 loop-holds : tie.Need-loop-holds Inv-loop μ-loop
-loop-holds c = let a = c .before .before .before .args in (omega arith, refl, refl, (within-same (a .n) (a .cells .now), λ table W. record { sound = W .sound; kept = λ k right. right }))
+loop-holds c = let a = c .before .before .before .args in
+    (omega arith, refl, refl, (within-same (a .n) (a .cells .now), λ table W. record { sound = W .sound; kept = λ k right. right }))
 
 add-i : tie.Need-add-i Inv-loop μ-loop
 add-i c = omega (arith, few-at (c .before .before) .2)
@@ -114,18 +134,30 @@ loop-again-2 : tie.Need-loop-again-2 Inv-loop μ-loop
 loop-again-2 c = let l = c .before .before .before .before .before .before .before .loop in (omega arith, l .inv .1, l .inv .2, l .inv .3)
 
 compose-requires : tie.Need-compose-requires Inv-loop μ-loop
-compose-requires c κs = let (table, W) = c .before .before .before .before .before .before .before .before .before .before .before .before .pre in (table, composing (c .before .before .before .before .before .before) table W)
+compose-requires c κs = let (table, W) = c .before .before .before .before .before .before .before .before .before .before .before .before .pre in
+    (table, composing (c .before .before .before .before .before .before) table W)
 
 note-requires : tie.Need-note-requires Inv-loop μ-loop
-note-requires c κs = let (broad, wide, few) = few-at (c .before .before .before .before .before .before .before .before .before .before .before .before .before) in (low-at (c .before .before .before .before .before .before .before .before .before .before .before) .4, few, broad, wide)
+note-requires c κs = let (broad, wide, few) =
+    few-at (c .before .before .before .before .before .before .before .before .before .before .before .before .before) in
+    (low-at (c .before .before .before .before .before .before .before .before .before .before .before) .4, few, broad, wide)
 
 loop-less-3 : tie.Need-loop-less-3 Inv-loop μ-loop
-loop-less-3 c = omega (arith, c .before .before .before .before .before .before .before .before .before .before .before .before .before .before .before .before .before .before .before .before .before .before .pre .1 .narrow)
+loop-less-3 c =
+    omega (
+      arith,
+      c .before .before .before .before .before .before .before .before .before .before .before .before .before .before .before .before .before .before .before
+          .before .before .before .pre .1 .narrow,
+    )
 
 loop-again-3 : tie.Need-loop-again-3 Inv-loop μ-loop
 loop-again-3 c =
-    let a = c .before .before .before .before .before .before .before .before .before .before .before .before .before .before .before .before .before .before .before .before .before .before .args in
-    let l = c .before .before .before .before .before .before .before .before .before .before .before .before .before .before .before .before .before .before .loop in
+    let a =
+    c .before .before .before .before .before .before .before .before .before .before .before .before .before .before .before .before .before .before
+    .before .before .before .before .args in
+    let l =
+    c .before .before .before .before .before .before .before .before .before .before .before .before .before .before .before .before .before .before
+    .loop in
     let composed = c .before .before .before .before .before .before .before .before .before .compose in
     let noted = c .before .before .before .before .note in (
       omega arith,
@@ -135,7 +167,10 @@ loop-again-3 c =
         within-onward (a .n) (a .cells .now) (l .cells) _ (l .inv .3 .0) (composed .ensures .0),
         λ table W.
             let D = l .inv .3 .1 table W in
-            let (onward, column) = composed .ensures .1 table (composing (c .before .before .before .before .before .before .before .before .before .before .before .before .before .before .before .before) table W) in
+            let (onward, column) =
+            composed .ensures .1 table
+            (composing (c .before .before .before .before .before .before .before .before .before .before .before .before .before .before .before .before)
+            table W) in
             record {
               sound = noted .ensures .sound (a .n) table _ (sound-kept table (l .cells) (a .n) _ onward (l .known) (l .members) (l .filled) (D .sound)) column;
               kept = λ k right. onward k (D .kept k right);

@@ -12,18 +12,24 @@ use Rattle.group_table.proofs.symbol.fill_row.Reads as reads
 use Rattle.group_table.proofs.symbol.fill_row.Lts as lts
 
 abbrev Inv-loop : tie.InvT-loop
-Inv-loop cells₀ steps earlier generator count generators i row j₀ cells j = (1 ≤ j) × (j ≤ count) × (length cells ≡ length cells₀) × ((table lent : List ℕ) → GoesBy count generators steps table → count * count ≤ length lent → cells₀ ≡ begun (i * count + 1) table lent → cells ≡ begun (i * count + j) table lent)
+Inv-loop cells₀ steps earlier generator count generators i row j₀ cells j =
+    (1 ≤ j) × (j ≤ count) × (length cells ≡ length cells₀)
+    × ((table lent : List ℕ) → GoesBy count generators steps table → count * count ≤ length lent → cells₀ ≡ begun (i * count + 1) table lent
+    → cells ≡ begun (i * count + j) table lent)
 
 abbrev μ-loop : tie.MeasureT-loop
 μ-loop cells₀ steps earlier generator count generators i row j₀ cells j = count - j
 
 -- A column's cell of the row has a slot.
-slot : (c : tie.Start Inv-loop μ-loop) (j : ℕ) → j < c .args .count → (c .args .i * c .args .count + j < 2304) × (c .args .i * c .args .count + j < length (c .args .cells .now))
+slot : (c : tie.Start Inv-loop μ-loop) (j : ℕ) → j < c .args .count
+    → (c .args .i * c .args .count + j < 2304) × (c .args .i * c .args .count + j < length (c .args .cells .now))
 slot c j b =
     let a = c .args in
     let R = c .pre in
     let before = place-inside (a .i) j (a .count) (a .count) (R .row) b in
-    let whole : length (a .cells .now) ≡ length (R .lent) = ap length (R .filled) ∙ begun-length (R .table) (R .lent) (omega (arith, R .goes .size, R .room)) (a .i * a .count) (omega (arith, R .goes .size, before)) in
+    let whole : length (a .cells .now) ≡ length (R .lent) =
+    ap length (R .filled)
+    ∙ begun-length (R .table) (R .lent) (omega (arith, R .goes .size, R .room)) (a .i * a .count) (omega (arith, R .goes .size, before)) in
     (omega (arith, before, cells-fit (a .count) (a .generators) (a .steps .now) (R .traversed)), omega (arith, before, R .room, whole))
 
 -- There are as many cells as were lent.
@@ -31,15 +37,21 @@ wide : (c : tie.In-loop Inv-loop μ-loop) → length (c .before .loop .cells) �
 wide c = c .before .loop .inv .2 ∙ length-set (c .before .before .args .cells .now) _ _
 
 -- Column j has its parent,
-comes : (c : tie.In-loop Inv-loop μ-loop) → Comes (c .before .before .args .generators) (c .before .before .args .steps .now) (c .before .loop .j) (getD (c .before .before .args .earlier .now) (c .before .loop .j) 0) (getD (c .before .before .args .generator .now) (c .before .loop .j) 0)
+comes : (c : tie.In-loop Inv-loop μ-loop)
+    → Comes (c .before .before .args .generators) (c .before .before .args .steps .now) (c .before .loop .j)
+    (getD (c .before .before .args .earlier .now) (c .before .loop .j) 0) (getD (c .before .before .args .generator .now) (c .before .loop .j) 0)
 comes c = c .before .before .pre .parents (c .before .loop .j) (omega arith) (c .loop-test .taken)
 
 -- the cells hold a table as far as column j,
-held : (c : tie.In-loop Inv-loop μ-loop) → c .before .loop .cells ≡ begun (c .before .before .args .i * c .before .before .args .count + c .before .loop .j) (c .before .before .pre .table) (c .before .before .pre .lent)
+held : (c : tie.In-loop Inv-loop μ-loop)
+    → c .before .loop .cells ≡ begun (c .before .before .args .i * c .before .before .args .count + c .before .loop .j) (c .before .before .pre .table)
+    (c .before .before .pre .lent)
 held c =
     let a = c .before .before .args in
     let R = c .before .before .pre in
-    c .before .loop .inv .3 (R .table) (R .lent) (R .goes) (R .room) (row-first (a .count) (a .generators) (a .steps .now) (R .table) (R .lent) (a .cells .now) (R .room) (R .traversed) (R .goes) (a .i) (R .row) (R .filled))
+    c .before .loop .inv .3 (R .table) (R .lent) (R .goes) (R .room)
+    (row-first (a .count) (a .generators) (a .steps .now) (R .table) (R .lent) (a .cells .now) (R .room) (R .traversed) (R .goes) (a .i) (R .row)
+    (R .filled))
 
 -- and what it has at the parent is an index, whose step has a slot.
 step-slot : (c : tie.In-loop Inv-loop μ-loop) →
@@ -52,11 +64,21 @@ step-slot c =
     let j = c .before .loop .j in
     let p = getD (a .earlier .now) j 0 in
     let k = getD (a .generator .now) j 0 in
-    let below = row-inside (a .count) (a .generators) (a .steps .now) (R .table) (R .lent) (c .before .loop .cells) (R .room) (R .traversed) (R .goes) (a .i) (R .row) j p k (c .loop-test .taken) (comes c) (held c) in
-    (omega (arith, R .traversed .few), omega (arith, place-inside _ k (a .count) (a .generators) below (comes c .generator), steps-fit (a .count) (a .generators) (a .steps .now) (R .traversed)))
+    let below =
+    row-inside (a .count) (a .generators) (a .steps .now) (R .table) (R .lent) (c .before .loop .cells) (R .room) (R .traversed) (R .goes) (a .i) (R .row) j
+    p k (c .loop-test .taken) (comes c) (held c) in (
+      omega (arith, R .traversed .few),
+      omega (
+        arith,
+        place-inside _ k (a .count) (a .generators) below (comes c .generator),
+        steps-fit (a .count) (a .generators) (a .steps .now) (R .traversed),
+      ),
+    )
 
 -- So far as the columns go.
-few : (c : tie.In-loop Inv-loop μ-loop) → (c .before .loop .j < 48) × (getD (c .before .before .args .earlier .now) (c .before .loop .j) 0 < c .before .before .args .count) × (getD (c .before .before .args .generator .now) (c .before .loop .j) 0 < 9)
+few : (c : tie.In-loop Inv-loop μ-loop)
+    → (c .before .loop .j < 48) × (getD (c .before .before .args .earlier .now) (c .before .loop .j) 0 < c .before .before .args .count)
+    × (getD (c .before .before .args .generator .now) (c .before .loop .j) 0 < 9)
 few c = let S = c .before .before .pre .traversed in (omega (arith, S .few), omega (arith, comes c .earlier), omega (arith, comes c .generator, S .narrow))
 
 mul-row : tie.Need-mul-row Inv-loop μ-loop
@@ -104,7 +126,8 @@ element-copy-out-cells : tie.Need-element-copy-out-cells Inv-loop μ-loop
 element-copy-out-cells c = step-slot (c .before .before .before) .1
 
 add-cells-2 : tie.Need-add-cells-2 Inv-loop μ-loop
-add-cells-2 c = record { fits = omega (arith, slot (c .before .before .before .before .before .before) _ (c .before .before .before .before .loop-test .taken)) }
+add-cells-2 c =
+    record { fits = omega (arith, slot (c .before .before .before .before .before .before) _ (c .before .before .before .before .loop-test .taken)) }
 
 slice-write-cells-2 : tie.Need-slice-write-cells-2 Inv-loop μ-loop
 slice-write-cells-2 c =
@@ -125,7 +148,8 @@ loop-again c =
       omega arith,
       omega arith,
       length-set (loop .before .loop .cells) _ _ ∙ loop .before .loop .inv .2,
-      λ table lent G room e. row-next (a .count) (a .generators) (a .steps .now) table lent (loop .before .loop .cells) room (R .traversed) G (a .i) (R .row) (loop .before .loop .j) _ _ (loop .loop-test .taken) (comes loop) (loop .before .loop .inv .3 table lent G room e),
+      λ table lent G room e. row-next (a .count) (a .generators) (a .steps .now) table lent (loop .before .loop .cells) room (R .traversed) G (a .i) (R .row)
+          (loop .before .loop .j) _ _ (loop .loop-test .taken) (comes loop) (loop .before .loop .inv .3 table lent G room e),
     )
 
 same-length : tie.Need-same-length Inv-loop μ-loop
@@ -136,7 +160,9 @@ returns c =
     let a = c .before .before .args in
     let R = c .before .before .pre in
     let all : c .before .loop .j ≡ a .count = omega arith in
-    λ table lent G room e. c .before .loop .inv .3 table lent G room (row-first (a .count) (a .generators) (a .steps .now) table lent (a .cells .now) room (R .traversed) G (a .i) (R .row) e) ∙ ap (λ (j : ℕ). begun (a .i * a .count + j) table lent) all
+    λ table lent G room e. c .before .loop .inv .3 table lent G room
+    (row-first (a .count) (a .generators) (a .steps .now) table lent (a .cells .now) room (R .traversed) G (a .i) (R .row) e)
+    ∙ ap (λ (j : ℕ). begun (a .i * a .count + j) table lent) all
 
 pub fill-row-spec : {M : Type 1} → statement M
 fill-row-spec =

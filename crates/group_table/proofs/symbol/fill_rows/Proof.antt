@@ -15,7 +15,8 @@ use Rattle.group_table.proofs.symbol.fill_row.Reads as fill-row-reads
 use Rattle.group_table.proofs.symbol.find_parents.Reads as find-parents-reads
 
 abbrev Inv-loop : tie.InvT-loop
-Inv-loop cells₀ steps count generators earlier generator i₀ cells i = (i ≤ count) × (length cells ≡ length cells₀) × ((table : List ℕ) → GoesBy count generators steps table → cells ≡ begun (i * count) table cells₀)
+Inv-loop cells₀ steps count generators earlier generator i₀ cells i =
+    (i ≤ count) × (length cells ≡ length cells₀) × ((table : List ℕ) → GoesBy count generators steps table → cells ≡ begun (i * count) table cells₀)
 
 abbrev μ-loop : tie.MeasureT-loop
 μ-loop cells₀ steps count generators earlier generator i₀ cells i = count - i
@@ -65,7 +66,8 @@ loop-again c =
     let lent = start .args .cells .now in (
       omega (arith, loop .loop-test .taken),
       omega (arith, loop .before .loop .inv .1),
-      λ table G. c .before .before .fill-row .ensures table lent G (start .pre .1) (loop .before .loop .inv .2 table G) ∙ ap (λ (at : ℕ). begun at table lent) onward,
+      λ table G. c .before .before .fill-row .ensures table lent G (start .pre .1) (loop .before .loop .inv .2 table G)
+          ∙ ap (λ (at : ℕ). begun at table lent) onward,
     )
 
 same-length : tie.Need-same-length Inv-loop μ-loop

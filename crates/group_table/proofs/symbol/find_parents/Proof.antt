@@ -12,7 +12,8 @@ use Rattle.group_table.proofs.symbol.find_parents.Reads as reads
 use Rattle.group_table.proofs.symbol.find_parents.Lts as lts
 
 abbrev Inv-loop : tie.InvT-loop
-Inv-loop steps count generators earlier₀ generator₀ end at₀ earlier generator at = (at ≤ count * generators) × (length earlier ≡ 48) × (length generator ≡ 48) × AllComeUpTo at count generators steps earlier generator
+Inv-loop steps count generators earlier₀ generator₀ end at₀ earlier generator at =
+    (at ≤ count * generators) × (length earlier ≡ 48) × (length generator ≡ 48) × AllComeUpTo at count generators steps earlier generator
 
 abbrev μ-loop : tie.MeasureT-loop
 μ-loop steps count generators earlier₀ generator₀ end at₀ earlier generator at = end - at
@@ -26,7 +27,10 @@ low : (c : tie.In-loop Inv-loop μ-loop) → (getD (c .before .before .args .ste
 low c = let S = c .before .before .pre in (omega (arith, S .inside (c .before .loop .at) (c .loop-test .taken), S .few), S .narrow)
 
 -- Where a step comes from is small.
-parent : (c : tie.Then1 Inv-loop μ-loop) → (0 < c .before .before .before .before .args .generators) × (c .before .before .before .loop .at / c .before .before .before .before .args .generators < 48) × (c .before .before .before .loop .at % c .before .before .before .before .args .generators < 9)
+parent : (c : tie.Then1 Inv-loop μ-loop)
+    → (0 < c .before .before .before .before .args .generators)
+    × (c .before .before .before .loop .at / c .before .before .before .before .args .generators < 48)
+    × (c .before .before .before .loop .at % c .before .before .before .before .args .generators < 9)
 parent c =
     let at = c .before .before .before .loop .at in
     let m = c .before .before .before .before .args .generators in
@@ -89,8 +93,13 @@ loop-again c =
     let n = a .count in
     let m = a .generators in
     ⊎-elim
-    (λ w. rw (w .1, w .2)
-    (omega arith, length-set (l .earlier) _ _ ∙ wide, length-set (l .generator) _ _ ∙ broad, come-noted n m (a .steps .now) (l .earlier) (l .generator) (l .at) upTo wide broad below (w .0 .taken)))
+    (λ w. rw (w .1, w .2) (
+      omega arith,
+      length-set (l .earlier) _ _ ∙ wide,
+      length-set (l .generator) _ _
+          ∙ broad,
+      come-noted n m (a .steps .now) (l .earlier) (l .generator) (l .at) upTo wide broad below (w .0 .taken),
+    ))
     (λ w. rw (w .1, w .2)
     (omega arith, wide, broad, come-passed n m (a .steps .now) (l .earlier) (l .generator) (l .at) upTo (w .0 .left)))
     (c .if1 .came)

@@ -22,11 +22,15 @@ enum-known-found-2 c = search needs
 
 returns : tie.Need-returns
 returns c =
-    symbol-by-value (c .before .before .before .before .before .before .before .args .text .now) _ _ (sym (c .before .found .given .1) ∙ c .before .before .before .before .fill-cells .ensures .0) (c .before .before .before .before .fill-cells .ensures .1)
+    symbol-by-value (c .before .before .before .before .before .before .before .args .text .now) _ _
+    (sym (c .before .found .given .1) ∙ c .before .before .before .before .fill-cells .ensures .0)
+    (c .before .before .before .before .fill-cells .ensures .1)
 
 returns-2 : tie.Need-returns-2
 returns-2 c =
-    symbol-by-value (c .before .before .before .before .before .before .before .args .text .now) _ _ (sym (c .before .found2 .given .1) ∙ c .before .before .before .before .fill-cells .ensures .0) (c .before .before .before .before .fill-cells .ensures .1)
+    symbol-by-value (c .before .before .before .before .before .before .before .args .text .now) _ _
+    (sym (c .before .found2 .given .1) ∙ c .before .before .before .before .fill-cells .ensures .0)
+    (c .before .before .before .before .fill-cells .ensures .1)
 
 pub from-symbol-spec : {M : Type 1} → statement M
 from-symbol-spec =

@@ -32,8 +32,9 @@ returns : tie.Need-returns Inv-loop μ-loop
 returns c =
     let a = c .before .before .before .before .before .args in
     let l = c .before .before .before .loop in
+    let test = flaggedMember (a .c) (itemsOf (a .n) (a .bytes .now)) in
     let fails = sym (c .before .is-member .ensures) ∙ not-true (c .before .is-member .result) (c .if1 .taken) in
-    sym (all-stop 6 magneticIn (a .n) (a .bytes .now) (flaggedMember (a .c) (itemsOf (a .n) (a .bytes .now))) (l .i) (omega arith) fails) ∙ l .inv .1
+    sym (all-stop 6 magneticIn (a .n) (a .bytes .now) test (l .i) (omega arith) fails) ∙ l .inv .1
 
 add-i : tie.Need-add-i Inv-loop μ-loop
 add-i c = omega (arith, c .before .before .before .before .before .pre .0 .few)
@@ -45,14 +46,16 @@ loop-again : tie.Need-loop-again Inv-loop μ-loop
 loop-again c =
     let a = c .before .before .before .before .before .args in
     let l = c .before .before .before .loop in
+    let test = flaggedMember (a .c) (itemsOf (a .n) (a .bytes .now)) in
     let passes = sym (c .before .is-member .ensures) ∙ not-false (c .before .is-member .result) (c .if1 .left) in
-    (omega arith, sym (all-next 6 magneticIn (a .n) (a .bytes .now) (flaggedMember (a .c) (itemsOf (a .n) (a .bytes .now))) (l .i) (omega arith) passes) ∙ l .inv .1)
+    (omega arith, sym (all-next 6 magneticIn (a .n) (a .bytes .now) test (l .i) (omega arith) passes) ∙ l .inv .1)
 
 returns-2 : tie.Need-returns-2 Inv-loop μ-loop
 returns-2 c =
     let a = c .before .before .before .args in
     let l = c .before .loop in
-    sym (all-end 6 magneticIn (a .n) (a .bytes .now) (flaggedMember (a .c) (itemsOf (a .n) (a .bytes .now))) (l .i) (omega arith) (omega arith)) ∙ l .inv .1
+    let test = flaggedMember (a .c) (itemsOf (a .n) (a .bytes .now)) in
+    sym (all-end 6 magneticIn (a .n) (a .bytes .now) test (l .i) (omega arith) (omega arith)) ∙ l .inv .1
 
 pub all-members-spec : {M : Type 1} → statement M
 all-members-spec =

@@ -47,10 +47,12 @@ returns c =
     let s = c .before .before .before .before .before .before .before in
     let a = s .args in
     let l = c .before .before .before .before .before .loop in
-    let test = flaggedPairListed (itemsOf (a .n) (a .bytes .now)) (a .c) (itemAt (a .bytes .now) (a .i)) in
-    let said = pair-said (a .c) (itemsOf (a .n) (a .bytes .now)) (itemAt (a .bytes .now) (a .i)) (itemAt (a .bytes .now) (l .j)) _ _ (s .pre .1 (a .i) (s .pre .2)) (s .pre .1 (l .j) (omega arith)) in
+    let items = itemsOf (a .n) (a .bytes .now) in
+    let f = itemAt (a .bytes .now) (a .i) in
+    let g = itemAt (a .bytes .now) (l .j) in
+    let said = pair-said (a .c) items f g _ _ (s .pre .1 (a .i) (s .pre .2)) (s .pre .1 (l .j) (omega arith)) in
     let fails = sym (c .before .is-product .ensures ∙ said) ∙ not-true (c .before .is-product .result) (c .if1 .taken) in
-    sym (all-stop 6 magneticIn (a .n) (a .bytes .now) test (l .j) (omega arith) fails) ∙ l .inv .1
+    sym (all-stop 6 magneticIn (a .n) (a .bytes .now) (flaggedPairListed items (a .c) f) (l .j) (omega arith) fails) ∙ l .inv .1
 
 add-j : tie.Need-add-j Inv-loop μ-loop
 add-j c = omega (arith, c .before .before .before .before .before .before .before .pre .0 .few)
@@ -63,10 +65,12 @@ loop-again c =
     let s = c .before .before .before .before .before .before .before in
     let a = s .args in
     let l = c .before .before .before .before .before .loop in
-    let test = flaggedPairListed (itemsOf (a .n) (a .bytes .now)) (a .c) (itemAt (a .bytes .now) (a .i)) in
-    let said = pair-said (a .c) (itemsOf (a .n) (a .bytes .now)) (itemAt (a .bytes .now) (a .i)) (itemAt (a .bytes .now) (l .j)) _ _ (s .pre .1 (a .i) (s .pre .2)) (s .pre .1 (l .j) (omega arith)) in
+    let items = itemsOf (a .n) (a .bytes .now) in
+    let f = itemAt (a .bytes .now) (a .i) in
+    let g = itemAt (a .bytes .now) (l .j) in
+    let said = pair-said (a .c) items f g _ _ (s .pre .1 (a .i) (s .pre .2)) (s .pre .1 (l .j) (omega arith)) in
     let passes = sym (c .before .is-product .ensures ∙ said) ∙ not-false (c .before .is-product .result) (c .if1 .left) in
-    (omega arith, sym (all-next 6 magneticIn (a .n) (a .bytes .now) test (l .j) (omega arith) passes) ∙ l .inv .1)
+    (omega arith, sym (all-next 6 magneticIn (a .n) (a .bytes .now) (flaggedPairListed items (a .c) f) (l .j) (omega arith) passes) ∙ l .inv .1)
 
 returns-2 : tie.Need-returns-2 Inv-loop μ-loop
 returns-2 c =

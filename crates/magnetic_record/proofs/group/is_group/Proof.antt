@@ -1,8 +1,7 @@
 -- A conjunction: the identity is listed without the flag, and then the members decide.
-use mathlib.Core.Path.{_≡_, sym, _∙_, ap}
+use mathlib.Core.Path.{sym, _∙_, ap}
 use borrow.Author.Tests.{not-true, not-false}
 use Rattle.laws.specs.Distinct.{has}
-use Rattle.operation.specs.Product.{identityOperation}
 use Rattle.operation.specs.declared.Operation.{Operation}
 use Rattle.group_record.specs.OperationItems.{itemOf}
 use Rattle.group_record.specs.Reading.{alikeItems}
@@ -27,11 +26,12 @@ is-listed-requires c κs = search needs
 returns : tie.Need-returns
 unfolding isMagneticGroup
 returns c =
-    let a = c .before .before .before .before .args in
+    let unit = c .before in
+    let a = unit .before .before .before .args in
     let items = itemsOf (a .n) (a .bytes .now) in
-    let unit : c .before .is-listed .result ≡ has (alikeItems (a .c)) (itemOf identityOperation) (half 0 items) =
-    c .before .is-listed .ensures ∙ ap (λ (o : Operation). has (alikeItems (a .c)) (itemOf o) (half 0 items)) (c .before .before .identity .ensures) in
-    rw (sym unit ∙ not-true (c .before .is-listed .result) (c .if1 .taken))
+    let sought = ap (λ (o : Operation). has (alikeItems (a .c)) (itemOf o) (half 0 items)) (unit .before .identity .ensures) in
+    let there = unit .is-listed .ensures ∙ sought in
+    rw (sym there ∙ not-true (unit .is-listed .result) (c .if1 .taken))
 
 pack-requires : tie.Need-pack-requires
 pack-requires c κs = search needs
@@ -42,11 +42,12 @@ all-members-requires c κs = search needs
 returns-2 : tie.Need-returns-2
 unfolding isMagneticGroup
 returns-2 c =
-    let a = c .before .before .before .before .before .before .before .before .args in
+    let unit = c .before .before .before .before .before in
+    let a = unit .before .before .before .args in
     let items = itemsOf (a .n) (a .bytes .now) in
-    let unit : c .before .before .before .before .before .is-listed .result ≡ has (alikeItems (a .c)) (itemOf identityOperation) (half 0 items) =
-    c .before .before .before .before .before .is-listed .ensures ∙ ap (λ (o : Operation). has (alikeItems (a .c)) (itemOf o) (half 0 items)) (c .before .before .before .before .before .before .identity .ensures) in
-    rw (sym unit ∙ not-false (c .before .before .before .before .before .is-listed .result) (c .before .before .before .before .if1 .left)) (c .all-members .ensures)
+    let sought = ap (λ (o : Operation). has (alikeItems (a .c)) (itemOf o) (half 0 items)) (unit .before .identity .ensures) in
+    let there = unit .is-listed .ensures ∙ sought in
+    rw (sym there ∙ not-false (unit .is-listed .result) (c .before .before .before .before .if1 .left)) (c .all-members .ensures)
 
 pub is-group-spec : {M : Type 1} → statement M
 is-group-spec =

@@ -1,13 +1,10 @@
 -- The place to which halving leads is the only one where the operation can be listed.
-use mathlib.Core.Path.{_≡_, sym, _∙_, ap, subst}
+use mathlib.Core.Path.{sym, _∙_, ap, subst}
 use Prim.Native.Nat.{ℕ, _+_, _*_}
 use native.Mathlib.Omega.{arith}
-use Rattle.operation.specs.Code.{codeOf}
-use Rattle.operation.specs.declared.Translation.{Translation}
 use Rattle.centering.specs.Lattices.{congruentOf}
 use Rattle.group_record.specs.declared.items.Item.{Item}
-use Rattle.magnetic_record.specs.SecondEdition.{magneticKey}
-use Rattle.magnetic_record.specs.Search.{itemAt, KeyPlace, past-end, other-key, listed-there}
+use Rattle.magnetic_record.specs.Search.{KeyPlace, past-end, other-key, listed-there}
 use borrow.Author.Needs.{needs}
 use Rattle.magnetic_record.proofs.group.is_listed.Statement.{statement}
 use Rattle.magnetic_record.proofs.group.is_listed.Tie as tie
@@ -38,7 +35,9 @@ returns : tie.Need-returns
 returns c =
     let s = c .before .before .before .before in
     let a = s .args in
-    let K = subst (λ (k : ℕ). KeyPlace (a .n) (a .bytes .now) (2 * k + a .flag) (c .before .place-of-key .result)) (c .before .before .rotation-code .ensures) (c .before .place-of-key .ensures) in
+    let code = c .before .before .rotation-code .ensures in
+    let found = c .before .place-of-key in
+    let K = subst (λ (k : ℕ). KeyPlace (a .n) (a .bytes .now) (2 * k + a .flag) (found .result)) code (found .ensures) in
     past-end (a .c) (a .n) (a .bytes .now) (s .pre .0) (a .f) (a .flag) _ K (c .if1 .taken)
 
 key-at-requires : tie.Need-key-at-requires
@@ -49,7 +48,8 @@ returns-2 c =
     let s = c .before .before .before .before .before .before in
     let a = s .args in
     let code = c .before .before .before .before .rotation-code .ensures in
-    let K = subst (λ (k : ℕ). KeyPlace (a .n) (a .bytes .now) (2 * k + a .flag) (c .before .before .before .place-of-key .result)) code (c .before .before .before .place-of-key .ensures) in
+    let found = c .before .before .before .place-of-key in
+    let K = subst (λ (k : ℕ). KeyPlace (a .n) (a .bytes .now) (2 * k + a .flag) (found .result)) code (found .ensures) in
     other-key (a .c) (a .n) (a .bytes .now) (s .pre .0) (a .f) (a .flag) _ K (omega (arith, c .before .before .if1 .left))
     (λ e. c .if2 .taken (c .before .key-at .ensures ∙ e ∙ ap (λ (k : ℕ). 2 * k + a .flag) (sym code)))
 
@@ -65,10 +65,10 @@ returns-3 c =
     let a = s .args in
     let code = c .before .before .before .before .before .before .rotation-code .ensures in
     let place = c .before .before .before .before .before .place-of-key .result in
-    let key : magneticKey (itemAt (a .bytes .now) place) ≡ 2 * codeOf (a .f .rotation) + a .flag =
-    sym (c .before .before .before .key-at .ensures) ∙ c .before .before .if2 .left ∙ ap (λ (k : ℕ). 2 * k + a .flag) code in
-    c .congruent .ensures ∙ ap (λ (i : Item). congruentOf (a .c) (a .f .translation) (i .translation)) (c .before .plain-at .ensures)
-    ∙ listed-there (a .c) (a .n) (a .bytes .now) (s .pre .0) (a .f) (a .flag) (s .pre .1) place (omega (arith, c .before .before .before .before .if1 .left)) key
+    let key = sym (c .before .before .before .key-at .ensures) ∙ c .before .before .if2 .left ∙ ap (λ (k : ℕ). 2 * k + a .flag) code in
+    let low = c .before .before .before .before .if1 .left in
+    let decides = listed-there (a .c) (a .n) (a .bytes .now) (s .pre .0) (a .f) (a .flag) (s .pre .1) place (omega (arith, low)) key in
+    c .congruent .ensures ∙ ap (λ (i : Item). congruentOf (a .c) (a .f .translation) (i .translation)) (c .before .plain-at .ensures) ∙ decides
 
 pub is-listed-spec : {M : Type 1} → statement M
 is-listed-spec =

@@ -53,10 +53,12 @@ returns-2 c =
     let a = c .before .before .before .before .before .before .before .before .args in
     let items = itemsOf (a .n) (a .bytes .now) in
     let flag = (flagOf (a .f) + flagOf (a .g)) % 2 in
-    let (says, bit) = inside-says (saidBy (a .f)) (saidBy (a .g)) flag _ (omega arith) (sym (c .before .before .before .before .before .before .product .ensures) ∙ c .before .before .before .before .h .given .1) in
-    c .is-listed .ensures
-    ∙ ap₂ (λ (o : Operation) (k : ℕ). has (alikeItems (a .c)) (itemOf o) (half k items)) (c .before .before .said .ensures) (c .before .flag .ensures .0 ∙ bit)
-    ∙ ap (productListed (a .c) (half flag items)) (sym says)
+    let inside = sym (c .before .before .before .before .before .before .product .ensures) ∙ c .before .before .before .before .h .given .1 in
+    let (says, bit) = inside-says (saidBy (a .f)) (saidBy (a .g)) flag _ (omega arith) inside in
+    let said = c .before .before .said .ensures in
+    let flagged = c .before .flag .ensures .0 ∙ bit in
+    let moved = ap₂ (λ (o : Operation) (k : ℕ). has (alikeItems (a .c)) (itemOf o) (half k items)) said flagged in
+    c .is-listed .ensures ∙ moved ∙ ap (productListed (a .c) (half flag items)) (sym says)
 
 pub is-product-spec : {M : Type 1} → statement M
 is-product-spec =

@@ -1,6 +1,6 @@
 -- The loop's invariant: the numbers passed are those of their items. The measure is what is left.
-use mathlib.Core.Path.{_≡_, sym, _∙_, ap, ap₂}
-use Prim.Native.Nat.{ℕ, _-_, _%_, _≤_}
+use mathlib.Core.Path.{_≡_, _∙_, ap, ap₂}
+use Prim.Native.Nat.{ℕ, _-_, _%_, _<_, _≤_}
 use native.Mathlib.Omega.{arith}
 use borrow.Author.Needs.{needs}
 use lib.ListN.{length, length-set}
@@ -62,7 +62,8 @@ loop-again c =
     let operation = c .before .before .operation-of .ensures ∙ ap operationOfItem plain in
     let made = c .number .ensures ∙ ap₂ (λ (o : Operation) (flag : ℕ). packedOf (narrowed o) (flag % 2)) operation (c .before .flag-at .ensures) in
     let said = item-said (itemAt (s .args .bytes .now) (l .i)) (s .pre .0 .fits (l .i) (omega arith)) (s .pre .0 .flag (l .i) (omega arith)) _ made in
-    (omega arith, length-set (l .numbers) (l .i) _ ∙ l .inv .1, packed-next (s .args .bytes .now) (l .numbers) (l .i) _ (omega (arith, l .inv .1, s .pre .0 .few)) (l .inv .2) said)
+    let inside : l .i < length (l .numbers) = omega (arith, l .inv .1, s .pre .0 .few) in
+    (omega arith, length-set (l .numbers) (l .i) _ ∙ l .inv .1, packed-next (s .args .bytes .now) (l .numbers) (l .i) _ inside (l .inv .2) said)
 
 returns : tie.Need-returns Inv-loop μ-loop
 returns c = λ k h. c .before .loop .inv .2 k (omega arith)

@@ -32,8 +32,10 @@ loop-less c = omega arith
 loop-again : tie.Need-loop-again Inv-loop μ-loop
 loop-again c =
     let s = c .before .before .before .before .before in
+    let a = s .args in
     let l = c .before .before .before .loop in
-    upper-half (s .args .n) (s .args .bytes .now) (s .pre) (s .args .key) (l .low) (l .high) _ (l .inv) (omega arith) (omega (arith, c .before .key-at .ensures))
+    let key = c .before .key-at .ensures in
+    upper-half (a .n) (a .bytes .now) (s .pre) (a .key) (l .low) (l .high) _ (l .inv) (omega arith) (omega (arith, key))
 
 loop-less-2 : tie.Need-loop-less-2 Inv-loop μ-loop
 loop-less-2 c = omega arith
@@ -41,8 +43,10 @@ loop-less-2 c = omega arith
 loop-again-2 : tie.Need-loop-again-2 Inv-loop μ-loop
 loop-again-2 c =
     let s = c .before .before .before .before .before in
+    let a = s .args in
     let l = c .before .before .before .loop in
-    lower-half (s .args .n) (s .args .bytes .now) (s .pre) (s .args .key) (l .low) (l .high) _ (l .inv) (omega arith) (omega (arith, c .before .key-at .ensures)) (omega arith)
+    let key = c .before .key-at .ensures in
+    lower-half (a .n) (a .bytes .now) (s .pre) (a .key) (l .low) (l .high) _ (l .inv) (omega arith) (omega (arith, key)) (omega arith)
 
 returns : tie.Need-returns Inv-loop μ-loop
 returns c =

@@ -31,7 +31,9 @@ cast-code-2 : tie.Need-cast-code-2
 cast-code-2 c = omega (arith, c .shared-slice-known2 .given (6 * c .before .before .args .i + 1))
 
 add-code-2 : tie.Need-add-code-2
-add-code-2 c = omega (arith, c .before .shared-slice-known .given (6 * c .before .before .args .i), c .shared-slice-known2 .given (6 * c .before .before .args .i + 1))
+add-code-2 c =
+    let at = 6 * c .before .before .args .i in
+    omega (arith, c .before .shared-slice-known .given at, c .shared-slice-known2 .given (at + 1))
 
 add-t10 : tie.Need-add-t10
 add-t10 c = search needs

@@ -42,7 +42,9 @@ returns c =
     let l = c .before .before .before .before .loop in
     let next = c .before .before .key-at .ensures in
     let here = c .before .key-at2 .ensures in
-    let fails = le-ltb (magneticKey (itemAt (a .bytes .now) (l .i))) (magneticKey (itemAt (a .bytes .now) (l .i + 1))) (omega (arith, here, next, c .if1 .taken)) in
+    let first = magneticKey (itemAt (a .bytes .now) (l .i)) in
+    let second = magneticKey (itemAt (a .bytes .now) (l .i + 1)) in
+    let fails = le-ltb first second (omega (arith, here, next, c .if1 .taken)) in
     sym (ascending-stop 6 magneticIn (a .n) (a .bytes .now) keyBefore (l .i) (omega arith) fails) ∙ l .inv .1
 
 add-i : tie.Need-add-i Inv-loop μ-loop
@@ -57,7 +59,9 @@ loop-again c =
     let l = c .before .before .before .before .loop in
     let next = c .before .before .key-at .ensures in
     let here = c .before .key-at2 .ensures in
-    let holds = lt-ltb (magneticKey (itemAt (a .bytes .now) (l .i))) (magneticKey (itemAt (a .bytes .now) (l .i + 1))) (omega (arith, here, next, c .if1 .left)) in
+    let first = magneticKey (itemAt (a .bytes .now) (l .i)) in
+    let second = magneticKey (itemAt (a .bytes .now) (l .i + 1)) in
+    let holds = lt-ltb first second (omega (arith, here, next, c .if1 .left)) in
     (omega arith, sym (ascending-next 6 magneticIn (a .n) (a .bytes .now) keyBefore (l .i) (omega arith) holds) ∙ l .inv .1)
 
 returns-2 : tie.Need-returns-2 Inv-loop μ-loop

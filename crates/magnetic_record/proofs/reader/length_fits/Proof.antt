@@ -24,11 +24,15 @@ add-total c = search needs
 
 returns-3 : tie.Need-returns-3
 unfolding lengthFits
-returns-3 c = simp (le-leb 1 (c .before .before .before .args .n) (omega arith), le-leb (c .before .before .before .args .n) 96 (omega arith), ne-eqb _ _ (c .if3 .taken))
+returns-3 c =
+    let n = c .before .before .before .args .n in
+    simp (le-leb 1 n (omega arith), le-leb n 96 (omega arith), ne-eqb _ _ (c .if3 .taken))
 
 returns-4 : tie.Need-returns-4
 unfolding lengthFits
-returns-4 c = simp (le-leb 1 (c .before .before .before .args .n) (omega arith), le-leb (c .before .before .before .args .n) 96 (omega arith), eq-eqb _ _ (c .if3 .left))
+returns-4 c =
+    let n = c .before .before .before .args .n in
+    simp (le-leb 1 n (omega arith), le-leb n 96 (omega arith), eq-eqb _ _ (c .if3 .left))
 
 pub length-fits-spec : {M : Type 1} → statement M
 length-fits-spec = tie.close (tie.spec returns returns-2 mul-total add-total returns-3 returns-4)

@@ -1,5 +1,5 @@
 -- Where the length fits, the items are tried on the rest of the buffer from the record's start.
-use mathlib.Core.Path.{_≡_, sym, _∙_}
+use mathlib.Core.Path.{sym, _∙_}
 use Prim.Native.Nat.{_+_, _*_, _-_}
 use native.Mathlib.Omega.{arith}
 use lib.ListN.{length, length-drop}
@@ -47,13 +47,18 @@ length-fits-requires c κs = search needs
 
 returns : tie.Need-returns
 returns c =
-    let a = c .before .before .before .before .before .before .args in
+    let told = c .before .before in
+    let count = told .before .before .from-end in
+    let high = told .before .from-end2 in
+    let low = told .from-end3 in
+    let a = told .before .before .before .before .args in
     let fails = sym (c .before .length-fits .ensures) ∙ not-true (c .before .length-fits .result) (c .if1 .taken) in
-    sym (counted-fails (a .c) (a .bytes .now) (c .before .before .before .before .from-end .result) (c .before .before .before .from-end2 .result) (c .before .before .from-end3 .result) (c .before .before .before .before .from-end .ensures) (c .before .before .before .from-end2 .ensures)
-    (c .before .before .from-end3 .ensures) fails)
+    sym (counted-fails (a .c) (a .bytes .now) _ _ _ (count .ensures) (high .ensures) (low .ensures) fails)
 
 sub-start : tie.Need-sub-start
-sub-start c = let fits = length-test _ _ _ _ _ .0 (sym (c .before .length-fits .ensures) ∙ not-false (c .before .length-fits .result) (c .if1 .left)) in omega (arith, fits)
+sub-start c =
+    let fits = sym (c .before .length-fits .ensures) ∙ not-false (c .before .length-fits .result) (c .if1 .left) in
+    omega (arith, length-test _ _ _ _ _ .0 fits)
 
 sub-are-items : tie.Need-sub-are-items
 sub-are-items c = search needs
@@ -66,19 +71,29 @@ part-are-items-end c = search needs
 
 are-items-requires : tie.Need-are-items-requires
 are-items-requires c κs =
-    let a = c .before .before .before .before .before .before .before .args in
-    let fits = sym (c .before .before .length-fits .ensures) ∙ not-false (c .before .before .length-fits .result) (c .before .if1 .left) in
+    let long = c .before in
+    let told = long .before .before in
+    let count = told .before .before .from-end in
+    let high = told .before .from-end2 in
+    let low = told .from-end3 in
+    let a = told .before .before .before .before .args in
+    let fits = sym (long .before .length-fits .ensures) ∙ not-false (long .before .length-fits .result) (long .if1 .left) in
+    let lent = tail-part (a .bytes .now) (length (a .bytes .now) - (high .result * 256 + low .result)) in
     let bounds = length-test _ _ _ _ _ .0 fits in
-    (bounds .0, bounds .1, rw (tail-part (a .bytes .now) (length (a .bytes .now) - (c .before .before .before .before .from-end2 .result * 256 + c .before .before .before .from-end3 .result)), length-drop) (omega (arith, bounds)))
+    (bounds .0, bounds .1, rw (lent, length-drop) (omega (arith, bounds)))
 
 returns-2 : tie.Need-returns-2
 returns-2 c =
-    let a = c .before .before .before .before .before .before .before .before .before .args in
-    let fits = sym (c .before .before .before .before .length-fits .ensures) ∙ not-false (c .before .before .before .before .length-fits .result) (c .before .before .before .if1 .left) in
+    let long = c .before .before .before in
+    let told = long .before .before in
+    let count = told .before .before .from-end in
+    let high = told .before .from-end2 in
+    let low = told .from-end3 in
+    let a = told .before .before .before .before .args in
+    let fits = sym (long .before .length-fits .ensures) ∙ not-false (long .before .length-fits .result) (long .if1 .left) in
+    let lent = tail-part (a .bytes .now) (length (a .bytes .now) - (high .result * 256 + low .result)) in
     let wrong = sym (c .before .are-items .ensures) ∙ not-true (c .before .are-items .result) (c .if2 .taken) in
-    sym (items-wrong (a .c) (a .bytes .now) (c .before .before .before .before .before .before .before .from-end .result) (c .before .before .before .before .before .before .from-end2 .result) (c .before .before .before .before .before .from-end3 .result) (c .before .before .before .before .before .before .before .from-end .ensures) (c .before .before .before .before .before .before .from-end2 .ensures)
-    (c .before .before .before .before .before .from-end3 .ensures) fits _
-    (tail-part (a .bytes .now) (length (a .bytes .now) - (c .before .before .before .before .before .before .from-end2 .result * 256 + c .before .before .before .before .before .from-end3 .result))) wrong)
+    sym (items-wrong (a .c) (a .bytes .now) _ _ _ (count .ensures) (high .ensures) (low .ensures) fits _ lent wrong)
 
 sub-is-group : tie.Need-sub-is-group
 sub-is-group c = search needs
@@ -91,31 +106,48 @@ part-is-group-end c = search needs
 
 is-group-requires : tie.Need-is-group-requires
 is-group-requires c κs =
-    let a = c .before .before .before .before .before .before .before .before .before .before .args in
-    let fits = sym (c .before .before .before .before .before .length-fits .ensures) ∙ not-false (c .before .before .before .before .before .length-fits .result) (c .before .before .before .before .if1 .left) in
+    let long = c .before .before .before .before in
+    let told = long .before .before in
+    let count = told .before .before .from-end in
+    let high = told .before .from-end2 in
+    let low = told .from-end3 in
+    let a = told .before .before .before .before .args in
+    let fits = sym (long .before .length-fits .ensures) ∙ not-false (long .before .length-fits .result) (long .if1 .left) in
+    let lent = tail-part (a .bytes .now) (length (a .bytes .now) - (high .result * 256 + low .result)) in
+    let good = c .before in
+    let right = sym (good .before .are-items .ensures) ∙ not-false (good .before .are-items .result) (good .if2 .left) in
     let bounds = length-test _ _ _ _ _ .0 fits in
-    let right = sym (c .before .before .are-items .ensures) ∙ not-false (c .before .before .are-items .result) (c .before .if2 .left) in
-    good-places _ _ (a .c) (bounds .1) (rw (tail-part (a .bytes .now) (length (a .bytes .now) - (c .before .before .before .before .before .before .before .from-end2 .result * 256 + c .before .before .before .before .before .before .from-end3 .result)), length-drop) (omega (arith, bounds))) right
+    good-places _ _ (a .c) (bounds .1) (rw (lent, length-drop) (omega (arith, bounds))) right
 
 returns-3 : tie.Need-returns-3
 returns-3 c =
-    let a = c .before .before .before .before .before .before .before .before .before .before .before .before .args in
-    let fits = sym (c .before .before .before .before .before .before .before .length-fits .ensures) ∙ not-false (c .before .before .before .before .before .before .before .length-fits .result) (c .before .before .before .before .before .before .if1 .left) in
-    let right = sym (c .before .before .before .before .are-items .ensures) ∙ not-false (c .before .before .before .before .are-items .result) (c .before .before .before .if2 .left) in
+    let long = c .before .before .before .before .before .before in
+    let told = long .before .before in
+    let count = told .before .before .from-end in
+    let high = told .before .from-end2 in
+    let low = told .from-end3 in
+    let a = told .before .before .before .before .args in
+    let fits = sym (long .before .length-fits .ensures) ∙ not-false (long .before .length-fits .result) (long .if1 .left) in
+    let lent = tail-part (a .bytes .now) (length (a .bytes .now) - (high .result * 256 + low .result)) in
+    let good = c .before .before .before in
+    let right = sym (good .before .are-items .ensures) ∙ not-false (good .before .are-items .result) (good .if2 .left) in
     let barred = sym (c .before .is-group .ensures) ∙ not-true (c .before .is-group .result) (c .if3 .taken) in
-    sym (items-barred (a .c) (a .bytes .now) (c .before .before .before .before .before .before .before .before .before .before .from-end .result) (c .before .before .before .before .before .before .before .before .before .from-end2 .result) (c .before .before .before .before .before .before .before .before .from-end3 .result) (c .before .before .before .before .before .before .before .before .before .before .from-end .ensures) (c .before .before .before .before .before .before .before .before .before .from-end2 .ensures)
-    (c .before .before .before .before .before .before .before .before .from-end3 .ensures) fits _
-    (tail-part (a .bytes .now) (length (a .bytes .now) - (c .before .before .before .before .before .before .before .before .before .from-end2 .result * 256 + c .before .before .before .before .before .before .before .before .from-end3 .result))) right barred)
+    sym (items-barred (a .c) (a .bytes .now) _ _ _ (count .ensures) (high .ensures) (low .ensures) fits _ lent right barred)
 
 returns-4 : tie.Need-returns-4
 returns-4 c =
-    let a = c .before .before .before .before .before .before .before .before .before .before .before .before .args in
-    let fits = sym (c .before .before .before .before .before .before .before .length-fits .ensures) ∙ not-false (c .before .before .before .before .before .before .before .length-fits .result) (c .before .before .before .before .before .before .if1 .left) in
-    let right = sym (c .before .before .before .before .are-items .ensures) ∙ not-false (c .before .before .before .before .are-items .result) (c .before .before .before .if2 .left) in
+    let long = c .before .before .before .before .before .before in
+    let told = long .before .before in
+    let count = told .before .before .from-end in
+    let high = told .before .from-end2 in
+    let low = told .from-end3 in
+    let a = told .before .before .before .before .args in
+    let fits = sym (long .before .length-fits .ensures) ∙ not-false (long .before .length-fits .result) (long .if1 .left) in
+    let lent = tail-part (a .bytes .now) (length (a .bytes .now) - (high .result * 256 + low .result)) in
+    let good = c .before .before .before in
+    let right = sym (good .before .are-items .ensures) ∙ not-false (good .before .are-items .result) (good .if2 .left) in
     let allowed = sym (c .before .is-group .ensures) ∙ not-false (c .before .is-group .result) (c .if3 .left) in
-    sym (items-right (a .c) (a .bytes .now) (c .before .before .before .before .before .before .before .before .before .before .from-end .result) (c .before .before .before .before .before .before .before .before .before .from-end2 .result) (c .before .before .before .before .before .before .before .before .from-end3 .result) (c .before .before .before .before .before .before .before .before .before .before .from-end .ensures) (c .before .before .before .before .before .before .before .before .before .from-end2 .ensures)
-    (c .before .before .before .before .before .before .before .before .from-end3 .ensures) fits _
-    (tail-part (a .bytes .now) (length (a .bytes .now) - (c .before .before .before .before .before .before .before .before .before .from-end2 .result * 256 + c .before .before .before .before .before .before .before .before .from-end3 .result))) right allowed)
+    sym (items-right (a .c) (a .bytes .now) _ _ _ (count .ensures) (high .ensures) (low .ensures) fits _ lent right allowed)
 
 pub read-counted-spec : {M : Type 1} → statement M
 read-counted-spec =

@@ -1,17 +1,14 @@
 -- Each answer follows from the outcome of the numbers of the generators.
 use mathlib.Core.Path.{_≡_, _∙_, ap}
-use Prim.Native.Nat.{ℕ}
 use native.Mathlib.Omega.{arith}
-use lib.ListN.{length, getD, replicate}
+use lib.ListN.{length, replicate}
 use borrow.Author.Needs.{needs}
 use borrow.Author.Tests.{not-true, not-false}
-use Rattle.space_group.specs.NumberGrowth.{unitNumber}
-use Rattle.space_group.specs.FlaggedSlots.{answers-off, answers-unbounded, answers-torn, answers-listed}
+use Rattle.space_group.specs.FlaggedSlots.{begins-off, begins-unbounded, begins-torn, begins-listed}
 use Rattle.space_group.proofs.flagged.listed.Statement.{statement}
 use Rattle.space_group.proofs.flagged.listed.Tie as tie
 use Rattle.space_group.proofs.flagged.listed.Reads as reads
 use Rattle.space_group.proofs.flagged.listed.Lts as lts
-use Rattle.space_group.proofs.flagged.fill.Reads as fill-reads
 use Rattle.space_group.proofs.flagged.flagged_numbers.Reads as flagged-numbers-reads
 use Rattle.space_group.proofs.group.first_off.Reads as first-off-reads
 use Rattle.space_group.proofs.traverse.traverse.Reads as traverse-reads
@@ -27,7 +24,7 @@ returns : tie.Need-returns
 returns c =
     let start = c .before .before .before in
     let a = start .args in
-    answers-off (a .c) (a .n) (a .generators) (a .flags) (nine start) (start .pre .0) (c .before .first-off .result) (c .before .first-off .ensures)
+    begins-off (a .c) (a .n) (a .generators) (a .flags) (nine start) (start .pre .0) (c .before .first-off .result) (c .before .first-off .ensures)
     (c .if1 .taken) (a .numbers .now) (start .pre .1)
 
 slice-aggregate-flagged-numbers : tie.Need-slice-aggregate-flagged-numbers
@@ -45,53 +42,39 @@ slice-aggregate-traverse-2 c = search needs
 traverse-requires : tie.Need-traverse-requires
 traverse-requires c κs =
     let start = c .before .before .before .before .before .before .before .before .before in
-    let slots = ap length (start .pre .1) in
-    (start .pre .0, omega arith, omega arith, omega arith, omega (arith, slots), omega arith, ap (λ l. getD l 0 0) (start .pre .1))
-
-fill-requires : tie.Need-fill-requires
-fill-requires c κs = search needs
+    (start .pre .0, omega arith, omega arith, omega arith, omega (arith, start .pre .1), omega arith, start .pre .2)
 
 same-length : tie.Need-same-length
 same-length c = search needs
 
 returns-2 : tie.Need-returns-2
 returns-2 c =
-    let g = c .before .before .before .before .before .before .before .before .before in
-    let start =
-    c .before .before .before .before .before .before .before .before .before .before .before .before .before .before .before .before .before .before .before
-    in
+    let g = c .before .before .before .before .before in
+    let start = g .before .before .before .before .before .before .before .before .before .before in
     let a = start .args in
     let off = g .before .before .before .before .before .before .before .before .first-off in
     let factors = g .before .before .before .before .before .flagged-numbers in
-    let long : length (g .traverse .last .1 .1 .1 .1 .0) ≡ 96 = omega (arith, ap length (start .pre .1)) in
-    let fresh = c .before .before .fill .ensures ∙ ap (λ (k : ℕ). replicate k unitNumber) long in
-    answers-unbounded (a .c) (a .n) (a .generators) (a .flags) (nine start) (start .pre .0) (off .result) (off .ensures)
+    let wide : length (g .traverse .last .1 .1 .1 .1 .0) ≡ 96 = omega (arith, start .pre .1) in
+    begins-unbounded (a .c) (a .n) (a .generators) (a .flags) (nine start) (start .pre .0) (off .result) (off .ensures)
     (g .before .before .before .before .before .before .before .if1 .left) (factors .last .1 .1 .1 .0) (factors .ensures) (g .traverse .result)
-    (a .numbers .now) (g .traverse .last .1 .1 .1 .1 .0) (replicate 864 0) (g .traverse .last .1 .1 .1 .1 .1 .0) (g .traverse .ensures)
-    (not-true _ (c .before .before .before .before .if2 .taken)) (c .before .before .fill .last .0) fresh
-
-fill-requires-2 : tie.Need-fill-requires-2
-fill-requires-2 c κs = search needs
+    (a .numbers .now) (g .traverse .last .1 .1 .1 .1 .0) (replicate 864 0) (g .traverse .last .1 .1 .1 .1 .1 .0) (g .traverse .ensures) wide
+    (not-true _ (c .if2 .taken))
 
 same-length-2 : tie.Need-same-length-2
 same-length-2 c = search needs
 
 returns-3 : tie.Need-returns-3
 returns-3 c =
-    let g = c .before .before .before .before .before .before .before .before .before .before .before in
-    let start =
-    c .before .before .before .before .before .before .before .before .before .before .before .before .before .before .before .before .before .before .before .before .before
-    in
+    let g = c .before .before .before .before .before .before .before in
+    let start = g .before .before .before .before .before .before .before .before .before .before in
     let a = start .args in
     let off = g .before .before .before .before .before .before .before .before .first-off in
     let factors = g .before .before .before .before .before .flagged-numbers in
-    let long : length (g .traverse .last .1 .1 .1 .1 .0) ≡ 96 = omega (arith, ap length (start .pre .1)) in
-    let fresh = c .before .before .fill2 .ensures ∙ ap (λ (k : ℕ). replicate k unitNumber) long in
-    answers-torn (a .c) (a .n) (a .generators) (a .flags) (nine start) (start .pre .0) (off .result) (off .ensures)
+    let wide : length (g .traverse .last .1 .1 .1 .1 .0) ≡ 96 = omega (arith, start .pre .1) in
+    begins-torn (a .c) (a .n) (a .generators) (a .flags) (nine start) (start .pre .0) (off .result) (off .ensures)
     (g .before .before .before .before .before .before .before .if1 .left) (factors .last .1 .1 .1 .0) (factors .ensures) (g .traverse .result)
-    (a .numbers .now) (g .traverse .last .1 .1 .1 .1 .0) (replicate 864 0) (g .traverse .last .1 .1 .1 .1 .1 .0) (g .traverse .ensures)
-    (not-false _ (c .before .before .before .before .before .before .if2 .left)) (not-true _ (c .before .before .before .before .if3 .taken))
-    (c .before .before .fill2 .last .0) fresh
+    (a .numbers .now) (g .traverse .last .1 .1 .1 .1 .0) (replicate 864 0) (g .traverse .last .1 .1 .1 .1 .1 .0) (g .traverse .ensures) wide
+    (not-false _ (c .before .before .if2 .left)) (not-true _ (c .if3 .taken))
 
 same-length-3 : tie.Need-same-length-3
 same-length-3 c = search needs
@@ -99,13 +82,14 @@ same-length-3 c = search needs
 returns-4 : tie.Need-returns-4
 returns-4 c =
     let g = c .before .before .before .before .before .before .before in
-    let start = c .before .before .before .before .before .before .before .before .before .before .before .before .before .before .before .before .before in
+    let start = g .before .before .before .before .before .before .before .before .before .before in
     let a = start .args in
     let off = g .before .before .before .before .before .before .before .before .first-off in
     let factors = g .before .before .before .before .before .flagged-numbers in
-    answers-listed (a .c) (a .n) (a .generators) (a .flags) (nine start) (start .pre .0) (off .result) (off .ensures)
+    let wide : length (g .traverse .last .1 .1 .1 .1 .0) ≡ 96 = omega (arith, start .pre .1) in
+    begins-listed (a .c) (a .n) (a .generators) (a .flags) (nine start) (start .pre .0) (off .result) (off .ensures)
     (g .before .before .before .before .before .before .before .if1 .left) (factors .last .1 .1 .1 .0) (factors .ensures) (g .traverse .result)
-    (a .numbers .now) (g .traverse .last .1 .1 .1 .1 .0) (replicate 864 0) (g .traverse .last .1 .1 .1 .1 .1 .0) (g .traverse .ensures)
+    (a .numbers .now) (g .traverse .last .1 .1 .1 .1 .0) (replicate 864 0) (g .traverse .last .1 .1 .1 .1 .1 .0) (g .traverse .ensures) wide
     (not-false _ (c .before .before .if2 .left)) (not-false _ (c .if3 .left)) (start .pre .1)
 
 pub listed-spec : {M : Type 1} → statement M
@@ -119,10 +103,8 @@ listed-spec =
     slice-aggregate-traverse
     slice-aggregate-traverse-2
     traverse-requires
-    fill-requires
     same-length
     returns-2
-    fill-requires-2
     same-length-2
     returns-3
     same-length-3
