@@ -23,12 +23,12 @@ use Rattle.group_record.specs.Record.{itemWidth, editionNumber, totalLength, li
 use Rattle.group_record.specs.Groups.{Form, Listing}
 use Rattle.group_record.specs.ListedForm.{form-length, listed-form}
 use Rattle.group_record.specs.OneRecord.{operationBytes, operationIn, operation-wide, operation-again, record-length}
-use Rattle.group_record.specs.Places.{room-there, all-placed}
-use Rattle.group_record.specs.Copying.{roomFor}
-use Rattle.group_record.specs.AcceptedSymbols.{symbol-writable}
-use Rattle.group_record.specs.SymbolRecords.{textRecord, symbolRecordOf, symbolBufferOf}
-use Rattle.group_record.specs.declared.SymbolRecord.{SymbolRecord}
-use Rattle.group_record.specs.declared.SymbolRecord.the-variants.{Written, NoRoom, Refused as NotWritten}
+use Rattle.record_writing.specs.Places.{room-there, all-placed}
+use Rattle.record_writing.specs.Copying.{roomFor}
+use Rattle.record_writing.specs.AcceptedSymbols.{symbol-writable}
+use Rattle.record_writing.specs.SymbolRecords.{textRecord, symbolRecordOf, symbolBufferOf}
+use Rattle.record_writing.specs.declared.SymbolRecord.{SymbolRecord}
+use Rattle.record_writing.specs.declared.SymbolRecord.the-variants.{Written, NoRoom, Refused as NotWritten}
 use Rattle.answer_text.specs.Words.{newline, decimal, lineOf, number-short}
 use Rattle.answer_text.specs.Text.{operationLine, groupText, refusalText, answerOf, textOf, textAnswer}
 use Rattle.answer_text.specs.Lines.{Plain, refusal-parts, lines-short}

@@ -12,11 +12,11 @@ ghost use Rattle.answer_text.specs.Words.{newline, decimal, lineOf};
 ghost use Rattle.answer_text.specs.Text.{operationLine, refusalText, answerOf, textAnswer};
 ghost use Rattle.answer_text.specs.RecordLines.{AllPlain, operationsIn};
 ghost use Rattle.placed_text.specs.Placing.{Put};
-use group_record::SymbolRecord;
-use group_record::symbol::write_record;
 use operations::put_operations;
 use placing::put_bytes;
 use placing::put_number;
+use record_writing::SymbolRecord;
+use record_writing::symbol::write_record;
 use symbol_group::refusal::Refusal;
 
 // The first `length` bytes are the text, the others 0. A symbol of 80 bytes and its newline, a letter and a count with theirs, and 48 lines of at most

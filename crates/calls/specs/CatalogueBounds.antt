@@ -15,9 +15,9 @@ use Rattle.symbol_group.specs.Answers.{symbolAnswer}
 use Rattle.symbol_group.specs.Slots.{symbol-slots}
 use Rattle.symbol_group.specs.declared.Answer as symbol-answer
 use Rattle.symbol_group.specs.declared.Answer.the-variants.{Group, Refused}
-use Rattle.group_record.specs.Copying.{roomFor}
-use Rattle.group_record.specs.SymbolRecords.{writtenBy, symbolRecordOf, symbolRecordAnswer}
-use Rattle.group_record.specs.declared.SymbolRecord.the-variants.{Written, NoRoom}
+use Rattle.record_writing.specs.Copying.{roomFor}
+use Rattle.record_writing.specs.SymbolRecords.{writtenBy, symbolRecordOf, symbolRecordAnswer}
+use Rattle.record_writing.specs.declared.SymbolRecord.the-variants.{Written, NoRoom}
 use Rattle.catalogue.specs.Answers.{mostAtOnce, isEnded, keeping, lineSoFar, endedIn, toldBy, refusing, partOf, pieceStep, endStep, Said, nothing, line, catalogueAnswer}
 use Rattle.catalogue.specs.declared.Catalogue.{Catalogue}
 use Rattle.catalogue.specs.declared.Answer as call

@@ -27,9 +27,9 @@ use Rattle.layer_group.specs.declared.Answer.the-variants.{Group, Refused}
 use Rattle.layer_group.specs.declared.LayerOperation.the-variants.{Operation as Found, PastEnd}
 use Rattle.layer_group.specs.declared.refusal.Refusal.{Refusal}
 use Rattle.layer_group.specs.declared.refusal.Refusal.the-variants.{Symbol, NoLayer}
-use Rattle.group_record.specs.Copying.{roomFor}
-use Rattle.group_record.specs.LayerRecords.{layerWrittenBy, layerRecordOf, layerRecordAnswer}
-use Rattle.group_record.specs.declared.LayerRecord.the-variants.{Written, NoRoom}
+use Rattle.record_writing.specs.Copying.{roomFor}
+use Rattle.record_writing.specs.LayerRecords.{layerWrittenBy, layerRecordOf, layerRecordAnswer}
+use Rattle.record_writing.specs.declared.LayerRecord.the-variants.{Written, NoRoom}
 use Rattle.calls.specs.Packing.{Told, near, Within, Low}
 use Rattle.calls.specs.SymbolBounds.{symbol-told, symbol-reduced}
 

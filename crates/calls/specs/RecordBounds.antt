@@ -10,10 +10,10 @@ use Rattle.layer_group.specs.Slots.{small-fits}
 use Rattle.group_record.specs.Acceptance.{Bytes}
 use Rattle.group_record.specs.Signs.{letterByte}
 use Rattle.group_record.specs.BothEditions.{editionOf}
-use Rattle.group_record.specs.Copying.{roomBy, chosenEdition, copyAnswer, copiedBy, writtenAs}
+use Rattle.record_writing.specs.Copying.{roomBy, chosenEdition, copyAnswer, copiedBy, writtenAs}
 use Rattle.group_record.specs.Reading.{refusalNumber, orderBy, recordOrder, recordLetter, recordEdition, readOf}
-use Rattle.group_record.specs.RoundTrips.{read-writable}
-use Rattle.group_record.specs.declared.Copied.the-variants.{Written, NoRoom}
+use Rattle.record_writing.specs.RoundTrips.{read-writable}
+use Rattle.record_writing.specs.declared.Copied.the-variants.{Written, NoRoom}
 use Rattle.group_record.specs.declared.Edition.{Edition}
 use Rattle.group_record.specs.declared.Edition.the-variants.{First, Third}
 use Rattle.group_record.specs.declared.Reading.{Reading}

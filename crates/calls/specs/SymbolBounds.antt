@@ -33,9 +33,9 @@ use Rattle.symbol_group.specs.declared.Answer.the-variants.{Group, Refused}
 use Rattle.symbol_group.specs.declared.SymbolOperation.the-variants.{Operation as Found, PastEnd}
 use Rattle.symbol_group.specs.declared.refusal.Refusal.{Refusal}
 use Rattle.symbol_group.specs.declared.refusal.Refusal.the-variants.{Text, Group as NoGroup}
-use Rattle.group_record.specs.Copying.{roomFor}
-use Rattle.group_record.specs.SymbolRecords.{writtenBy, symbolRecordOf, symbolRecordAnswer}
-use Rattle.group_record.specs.declared.SymbolRecord.the-variants.{Written, NoRoom}
+use Rattle.record_writing.specs.Copying.{roomFor}
+use Rattle.record_writing.specs.SymbolRecords.{writtenBy, symbolRecordOf, symbolRecordAnswer}
+use Rattle.record_writing.specs.declared.SymbolRecord.the-variants.{Written, NoRoom}
 use Rattle.calls.specs.Answers.{letterBy, letterAnswer}
 use Rattle.calls.specs.Packing.{Told, Close, near, Within, Low, AnyLetter}
 

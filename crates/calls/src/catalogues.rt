@@ -2,7 +2,7 @@
 ghost use mathlib.Core.Path.{_≡_};
 ghost use Prim.Native.Nat.{_≤_};
 ghost use lib.ListN.{length};
-ghost use Rattle.group_record.specs.SymbolRecords.{symbolRecordAnswer};
+ghost use Rattle.record_writing.specs.SymbolRecords.{symbolRecordAnswer};
 ghost use Rattle.catalogue.specs.Answers.{line, catalogueAnswer};
 ghost use Rattle.calls.specs.CatalogueBounds.{Short, Tellable};
 ghost use Rattle.calls.specs.Catalogues.{catalogueIn, putBack, saidNumber, stepNumber, startAnswer, startState, pieceAnswer, pieceState, pieceOut, endAnswer, endState, endOut};
@@ -10,7 +10,7 @@ ghost use Rattle.calls.specs.Packing.{packed, mapped};
 use super::packing::refused;
 use catalogue::Answer;
 use catalogue::Catalogue;
-use group_record::SymbolRecord;
+use record_writing::SymbolRecord;
 
 #[no_mangle]
 pub extern "C" fn symmetry_catalogue_start(state: &mut [u8]) -> u64

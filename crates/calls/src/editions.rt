@@ -1,13 +1,13 @@
 // Records of one edition and of the other: which one a record is of, and moving it to the other.
 ghost use mathlib.Core.Path.{_≡_};
-ghost use Rattle.group_record.specs.Copying.{copyAnswer, movedOf, movedBufferOf};
+ghost use Rattle.record_writing.specs.Copying.{copyAnswer, movedOf, movedBufferOf};
 ghost use Rattle.group_record.specs.Reading.{recordEdition, readOf};
 ghost use Rattle.calls.specs.Packing.{packed};
 use super::record::copied;
 use super::record::refused_record;
 use group_record::Reading;
-use group_record::copier::move_record;
-use group_record::reader::read_record;
+use record_reading::reader::read_record;
+use record_writing::copier::move_record;
 
 #[no_mangle]
 pub extern "C" fn symmetry_record_edition(bytes: &[u8]) -> u64

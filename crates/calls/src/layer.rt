@@ -3,16 +3,16 @@ ghost use mathlib.Core.Path.{_≡_};
 ghost use Prim.Native.Nat.{_+_, _*_};
 ghost use Rattle.layer_group.specs.Answers.{orderOf, orderAnswer, letterOf, letterAnswer, operationAt, operationAnswer};
 ghost use Rattle.layer_group.specs.Refusals.{numberOf, placeOf};
-ghost use Rattle.group_record.specs.LayerRecords.{layerRecordAnswer, layerRecordOf, layerBufferOf};
+ghost use Rattle.record_writing.specs.LayerRecords.{layerRecordAnswer, layerRecordOf, layerBufferOf};
 ghost use Rattle.calls.specs.Packing.{topByte, packed, mapped, operationNumber, Told};
 use super::packing::operation_number;
 use super::packing::refused;
-use group_record::LayerRecord;
-use group_record::layer::write_record;
 use layer_group::LayerLetter;
 use layer_group::LayerOperation;
 use layer_group::LayerOrder;
 use layer_group::refusal::Refusal;
+use record_writing::LayerRecord;
+use record_writing::layer::write_record;
 
 #[no_mangle]
 pub extern "C" fn symmetry_layer_order(text: &[u8]) -> u64

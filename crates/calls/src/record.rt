@@ -1,16 +1,16 @@
 // What is asked of a record.
 ghost use mathlib.Core.Path.{_≡_};
 ghost use Prim.Native.Nat.{_+_, _*_};
-ghost use Rattle.group_record.specs.Copying.{copyAnswer, copiedOf, bufferOf};
+ghost use Rattle.record_writing.specs.Copying.{copyAnswer, copiedOf, bufferOf};
 ghost use Rattle.group_record.specs.Reading.{refusalNumber, recordLetter, recordOrder, readOf};
 ghost use Rattle.calls.specs.Packing.{topByte, packed};
 use super::packing::refused;
-use group_record::Copied;
 use group_record::Reading;
 use group_record::Refusal;
-use group_record::copier::copy_record;
 use group_record::letter_byte;
-use group_record::reader::read_record;
+use record_reading::reader::read_record;
+use record_writing::Copied;
+use record_writing::copier::copy_record;
 
 #[no_mangle]
 pub extern "C" fn symmetry_record_order(bytes: &[u8]) -> u64

@@ -9,7 +9,7 @@ use Rattle.lines.specs.Lines.{lastLine}
 use Rattle.lines.specs.Feeding.{keptBehind, handedOver, takenOf}
 use Rattle.lines.specs.Keeping.{held, stored}
 use Rattle.lines.specs.declared.Kept.{Kept}
-use Rattle.group_record.specs.SymbolRecords.{symbolRecordAnswer, symbolRecordOf, symbolBufferOf}
+use Rattle.record_writing.specs.SymbolRecords.{symbolRecordAnswer, symbolRecordOf, symbolBufferOf}
 use Rattle.catalogue.specs.declared.Catalogue.{Catalogue}
 use Rattle.catalogue.specs.declared.Step.{Step}
 use Rattle.catalogue.specs.declared.Answer.{Answer}

@@ -12,9 +12,9 @@ use Rattle.hall_symbol.specs.Reader.{readSymbol}
 use Rattle.hall_symbol.specs.declared.refusal.Refusal.the-variants.{TooLong}
 use Rattle.symbol_group.specs.Answers.{symbolAnswer, refusedAnswer}
 use Rattle.symbol_group.specs.declared.refusal.Refusal.the-variants.{Text}
-use Rattle.group_record.specs.SymbolRecords.{symbolRecordOf, symbolBufferOf}
-use Rattle.group_record.specs.declared.SymbolRecord.{SymbolRecord}
-use Rattle.group_record.specs.declared.SymbolRecord.the-variants.{Refused as NotWritten}
+use Rattle.record_writing.specs.SymbolRecords.{symbolRecordOf, symbolBufferOf}
+use Rattle.record_writing.specs.declared.SymbolRecord.{SymbolRecord}
+use Rattle.record_writing.specs.declared.SymbolRecord.the-variants.{Refused as NotWritten}
 use Rattle.lines.specs.Lines.{lastLine, linesOf, inARow}
 use Rattle.lines.specs.Feeding.{shortened, keptBehind, handedOver, allHandedOver, takenOf, short-whole, long-shortened, long-length, all-parts, handed-lines}
 use Rattle.lines.specs.Keeping.{held, stored}

@@ -13,11 +13,11 @@ use Rattle.symbol_group.specs.Answers.{symbolAnswer}
 use Rattle.symbol_group.specs.declared.Answer as symbol-answer
 use Rattle.symbol_group.specs.declared.Answer.the-variants.{Group, Refused}
 use Rattle.symbol_group.specs.declared.refusal.Refusal.the-variants.{Text}
-use Rattle.group_record.specs.AcceptedSymbols.{symbol-writable}
-use Rattle.group_record.specs.Places.{room-there}
-use Rattle.group_record.specs.SymbolRecords.{symbolRecordOf}
-use Rattle.group_record.specs.declared.SymbolRecord.{SymbolRecord}
-use Rattle.group_record.specs.declared.SymbolRecord.the-variants.{NoRoom, Refused as NotWritten}
+use Rattle.record_writing.specs.AcceptedSymbols.{symbol-writable}
+use Rattle.record_writing.specs.Places.{room-there}
+use Rattle.record_writing.specs.SymbolRecords.{symbolRecordOf}
+use Rattle.record_writing.specs.declared.SymbolRecord.{SymbolRecord}
+use Rattle.record_writing.specs.declared.SymbolRecord.the-variants.{NoRoom, Refused as NotWritten}
 use Rattle.lines.specs.Lines.{linesOf, inARow, Unended, next, lines-spelled, spelled-lines}
 use Rattle.lines.specs.Feeding.{takenOf, handedOver, taken-some}
 use Rattle.catalogue.specs.Answers.{mostAtOnce, endedStatus, lineSoFar, fresh, toldBy, refusing, partOf, pieceStep, pieceRoom, endStep, endRoom}

@@ -11,7 +11,7 @@ use Rattle.lines.specs.Feeding.{keptBehind, handedOver, takenOf}
 use Rattle.lines.specs.Keeping.{stored, zeros, lineIn, anyLine, firstLine, takenFrom, lastOf}
 use Rattle.lines.specs.declared.Taken.{Taken}
 use Rattle.lines.specs.declared.Last.{Last}
-use Rattle.group_record.specs.SymbolRecords.{symbolRecordOf, symbolBufferOf}
+use Rattle.record_writing.specs.SymbolRecords.{symbolRecordOf, symbolBufferOf}
 use Rattle.catalogue.specs.Answers.{mostAtOnce, keptIn, keeping, lineSoFar, endedIn, toldBy, roomBy, refusing, partOf, pieceStep, pieceRoom, endStep, endRoom}
 use Rattle.catalogue.specs.declared.Catalogue.{Catalogue}
 use Rattle.catalogue.specs.declared.Answer.{Answer}

@@ -4,14 +4,14 @@ ghost use mathlib.Core.Path.{_≡_};
 ghost use mathlib.Core.Bool.{cond};
 ghost use Prim.Native.Nat.{_≤_};
 ghost use lib.ListN.{take, replicate};
-ghost use Rattle.group_record.specs.SymbolRecords.{symbolRecordOf, symbolBufferOf};
+ghost use Rattle.record_writing.specs.SymbolRecords.{symbolRecordOf, symbolBufferOf};
 ghost use Rattle.catalogue.specs.Answers.{fresh, pieceStep, pieceRoom, endStep, endRoom};
-use group_record::SymbolRecord;
-use group_record::symbol::write_record;
 use lines::Kept;
 use lines::Line;
 use lines::last_line;
 use lines::take_line;
+use record_writing::SymbolRecord;
+use record_writing::symbol::write_record;
 
 // What a catalogue is after the bytes that were taken of it: `status` bytes of a line that goes on are kept; 81 says that it has over 80, of which 80 are kept;
 // 82 and above, that the end was announced.

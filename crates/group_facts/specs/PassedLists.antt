@@ -28,9 +28,9 @@ use Rattle.group_record.specs.Record.{listedForm, writtenIn, recordIn, recordOf
 use Rattle.group_record.specs.FirstEdition.{firstEdition}
 use Rattle.group_record.specs.Groups.{Alike, sameCode, Listing}
 use Rattle.group_record.specs.ListedForm.{told-by-rotation, matrix-injective, alike-reflexive, alike-symmetric, alike-transitive, alike-smallest, form-member, member-form, CodeBefore, codeKey, listed-form}
-use Rattle.group_record.specs.SymbolRecords.{textRecord}
-use Rattle.group_record.specs.AcceptedSymbols.{accepted-listing}
-use Rattle.group_record.specs.SymbolSets.{record-of-list}
+use Rattle.record_writing.specs.SymbolRecords.{textRecord}
+use Rattle.record_writing.specs.AcceptedSymbols.{accepted-listing}
+use Rattle.record_writing.specs.SymbolSets.{record-of-list}
 
 -- ---- the entries of a list, in its order
 unfoldable pub entriesFrom : ℕ → (ℕ → Operation) → List Operation

@@ -12,9 +12,6 @@ pub mod Record
 pub mod Groups
 pub mod Signs
 pub mod Reading
-pub mod Places
-pub mod Copying
-pub mod SymbolRecords
 -- Their laws.
 pub mod ListedForm
 pub mod OneRecord
@@ -23,23 +20,5 @@ pub mod ReadingTests
 pub mod Outcomes
 pub mod Converse
 pub mod Criterion
-pub mod Closing
 pub mod Acceptance
-pub mod RoundTrips
-pub mod AcceptedSymbols
-pub mod SymbolSets
-pub mod LayerRecords
-pub mod SymbolReading
 pub mod RefusalNumbers
-pub mod WritingNumbers
-pub mod LayerReading
-pub mod Moving
-pub mod OldSoftware
-pub mod Example
-pub mod ExampleText
--- What the code does with items.
-pub mod Search
-pub mod Found
-pub mod Parts
-pub mod Selection
-pub mod Writing

@@ -1,12 +1,7 @@
-// The group record: the byte form of a group of operations, written and read. New in the port: the Rust has no such form.
-mod allowed;
-pub mod copier;
+// The group record: the byte form of a group of operations, what it says and what is answered to it. New in the port: the
+// Rust has no such form.
 pub mod items;
-pub mod layer;
-pub mod reader;
 pub mod sign;
-pub mod symbol;
-mod writer;
 
 ghost use mathlib.Core.Path.{_≡_};
 ghost use Rattle.group_record.specs.BothEditions.{editionOf, otherEdition};
@@ -86,13 +81,6 @@ pub struct RecordGroup {
     pub operations: [Operation; 48],
 }
 
-// What was read, written: how many operations it holds. `NoRoom` is refusal 20 at place 0.
-pub enum Copied {
-    Written(usize),
-    NoRoom,
-    Refused(Refusal),
-}
-
 // The byte of a record's letter. 32 lies between a capital and its small letter.
 pub fn letter_byte(layer: bool, c: Centering) -> u8
     ensures { λ r. ⌜ r ≡ letterByte layer c ⌝ }
@@ -102,18 +90,4 @@ pub fn letter_byte(layer: bool, c: Centering) -> u8
         return capital + 32;
     }
     capital
-}
-
-// A symbol's record: how many operations it holds. `NoRoom` is refusal 20 at place 0; `Refused` is the symbol's own refusal, 1 to 14.
-pub enum SymbolRecord {
-    Written(usize),
-    NoRoom,
-    Refused(symbol_group::refusal::Refusal),
-}
-
-// A layer symbol's record: how many operations it holds. `NoRoom` is refusal 20 at place 0; `Refused` is the layer symbol's own refusal, 1 to 14, 17 and 19.
-pub enum LayerRecord {
-    Written(usize),
-    NoRoom,
-    Refused(layer_group::refusal::Refusal),
 }

@@ -11,7 +11,7 @@ use Rattle.centering.specs.declared.Centering.{Centering}
 use Rattle.group_record.specs.Groups.{Allowed}
 use Rattle.group_record.specs.Reading.{readOf}
 use Rattle.group_record.specs.Acceptance.{Bytes}
-use Rattle.group_record.specs.RoundTrips.{Writable, read-writable, written-again}
+use Rattle.record_writing.specs.RoundTrips.{Writable, read-writable, written-again}
 use Rattle.group_record.specs.declared.Reading.{Reading}
 use Rattle.group_record.specs.declared.Reading.the-variants.{Accepted, Refused}
 use Rattle.group_record.specs.declared.RecordGroup.{RecordGroup}

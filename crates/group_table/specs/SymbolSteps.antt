@@ -28,7 +28,7 @@ use Rattle.symbol_group.specs.declared.SymbolGroup.{SymbolGroup}
 use Rattle.symbol_group.specs.declared.SymbolOrder.{SymbolOrder}
 use Rattle.symbol_group.specs.declared.SymbolOrder.the-variants.{Is, Refused as OrderRefused}
 use Rattle.group_record.specs.Groups.{Allowed, Listing}
-use Rattle.group_record.specs.AcceptedSymbols.{accepted-listing, accepted-allowed}
+use Rattle.record_writing.specs.AcceptedSymbols.{accepted-listing, accepted-allowed}
 use Rattle.subgroup_laws.specs.Groups.{Group}
 use Rattle.subgroup_laws.specs.Table.{product}
 use Rattle.subgroup_laws.specs.TableLaws.{square-limit}

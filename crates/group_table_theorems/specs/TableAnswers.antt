@@ -20,8 +20,8 @@ use Rattle.symbol_group.specs.declared.SymbolOrder.the-variants.{Is}
 use Rattle.group_record.specs.Groups.{InSet, Allowed, Listing}
 use Rattle.group_record.specs.Reading.{readOf}
 use Rattle.group_record.specs.Acceptance.{Bytes}
-use Rattle.group_record.specs.AcceptedSymbols.{accepted-listing, accepted-allowed}
-use Rattle.group_record.specs.SymbolSets.{InSetOf, set-of-list}
+use Rattle.record_writing.specs.AcceptedSymbols.{accepted-listing, accepted-allowed}
+use Rattle.record_writing.specs.SymbolSets.{InSetOf, set-of-list}
 use Rattle.group_record.specs.declared.Reading.{Reading}
 use Rattle.group_record.specs.declared.Reading.the-variants.{Accepted, Refused as RecordRefused}
 use Rattle.subgroup_laws.specs.Table.{product, GroupTable}

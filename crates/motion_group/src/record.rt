@@ -20,9 +20,9 @@ use super::table::normalizer_in;
 use super::table::permutation_in;
 use super::table::subgroups_in;
 use group_record::Reading;
-use group_record::reader::read_record;
 use group_table::RecordOrder;
 use group_table::record::fill_cells;
+use record_reading::reader::read_record;
 
 // The table into the cells, and what it is of.
 fn table(bytes: &[u8], cells: &mut [u8]) -> Source

@@ -11,7 +11,7 @@ ghost use Rattle.record_report.specs.Lent.{Read};
 use entries::report_entries;
 use group_record::Reading;
 use group_record::Refusal;
-use group_record::reader::read_first_record;
+use record_reading::reader::read_first_record;
 
 // How many bytes the report has; or why the first record is not read, why the second is not, or that the report does not fit.
 pub enum Compared {

@@ -10,7 +10,7 @@ use Rattle.answer_text.proofs.put_answer.Reads as reads
 use Rattle.answer_text.proofs.put_answer.Lts as lts
 use Rattle.answer_text.proofs.put_group.Reads as put-group-reads
 use Rattle.answer_text.proofs.put_refusal.Reads as put-refusal-reads
-use Rattle.group_record.proofs.symbol.write_record.Reads as write-record-reads
+use Rattle.record_writing.proofs.symbol.write_record.Reads as write-record-reads
 
 slice-aggregate-write-record : tie.Need-slice-aggregate-write-record
 slice-aggregate-write-record c = search needs

@@ -10,7 +10,7 @@ use Rattle.catalogue.proofs.told.Statement.{statement}
 use Rattle.catalogue.proofs.told.Tie as tie
 use Rattle.catalogue.proofs.told.Reads as reads
 use Rattle.catalogue.proofs.told.Lts as lts
-use Rattle.group_record.proofs.symbol.write_record.Reads as write-record-reads
+use Rattle.record_writing.proofs.symbol.write_record.Reads as write-record-reads
 
 returns : tie.Need-returns
 returns c =

@@ -2,7 +2,7 @@
 use mathlib.Core.Path.{_≡_, sym, _∙_, ap, subst}
 use Prim.Native.Nat.{ℕ, _+_, _*_}
 use native.Mathlib.Omega.{arith}
-use Rattle.group_record.specs.SymbolRecords.{symbolRecordAnswer}
+use Rattle.record_writing.specs.SymbolRecords.{symbolRecordAnswer}
 use Rattle.catalogue.specs.Answers.{line, catalogueAnswer}
 use Rattle.catalogue.specs.declared.Answer.{Answer}
 use Rattle.calls.specs.CatalogueBounds.{Tellable, said-low}

@@ -2,8 +2,8 @@
 use mathlib.Core.Path.{sym, _∙_, ap, ap₂, subst}
 use Prim.Native.Nat.{ℕ, _+_, _*_}
 use native.Mathlib.Omega.{arith}
-use Rattle.group_record.specs.SymbolRecords.{symbolRecordAnswer}
-use Rattle.group_record.specs.declared.SymbolRecord.{SymbolRecord}
+use Rattle.record_writing.specs.SymbolRecords.{symbolRecordAnswer}
+use Rattle.record_writing.specs.declared.SymbolRecord.{SymbolRecord}
 use Rattle.catalogue.specs.Answers.{line}
 use Rattle.calls.specs.CatalogueBounds.{Short}
 use Rattle.calls.specs.Catalogues.{saidNumber}

@@ -7,7 +7,7 @@ use Rattle.calls.proofs.editions.symmetry_record_edition.Reads as reads
 use Rattle.calls.proofs.editions.symmetry_record_edition.Lts as lts
 use Rattle.calls.proofs.record.refused_record.Reads as refused-record-reads
 use Rattle.group_record.proofs.Edition.number.Reads as number-reads
-use Rattle.group_record.proofs.reader.read_record.Reads as read-record-reads
+use Rattle.record_reading.proofs.reader.read_record.Reads as read-record-reads
 
 read-record-requires : tie.Need-read-record-requires
 read-record-requires c κs = search needs

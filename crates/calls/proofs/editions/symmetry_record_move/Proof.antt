@@ -1,7 +1,7 @@
 -- The answer, packed, and the lent buffer as it was left.
 use Rattle.calls.specs.Packing.{packed}
-use Rattle.group_record.specs.declared.Copied.{Copied}
-use Rattle.group_record.specs.Copying.{copyAnswer}
+use Rattle.record_writing.specs.declared.Copied.{Copied}
+use Rattle.record_writing.specs.Copying.{copyAnswer}
 use mathlib.Core.Path.{_∙_, ap}
 use borrow.Author.Needs.{needs}
 use Rattle.calls.proofs.editions.symmetry_record_move.Statement.{statement}
@@ -9,7 +9,7 @@ use Rattle.calls.proofs.editions.symmetry_record_move.Tie as tie
 use Rattle.calls.proofs.editions.symmetry_record_move.Reads as reads
 use Rattle.calls.proofs.editions.symmetry_record_move.Lts as lts
 use Rattle.calls.proofs.record.copied.Reads as copied-reads
-use Rattle.group_record.proofs.copier.move_record.Reads as move-record-reads
+use Rattle.record_writing.proofs.copier.move_record.Reads as move-record-reads
 
 move-record-requires : tie.Need-move-record-requires
 move-record-requires c κs = search needs

@@ -1,7 +1,7 @@
 -- Each case of the answer, packed, and the lent buffer as it was left.
 use mathlib.Core.Path.{sym, _∙_, ap, subst}
-use Rattle.group_record.specs.LayerRecords.{layerRecordAnswer}
-use Rattle.group_record.specs.declared.LayerRecord.{LayerRecord}
+use Rattle.record_writing.specs.LayerRecords.{layerRecordAnswer}
+use Rattle.record_writing.specs.declared.LayerRecord.{LayerRecord}
 use Rattle.calls.specs.Packing.{packed, Within, Low}
 use Rattle.calls.specs.LayerBounds.{record-within}
 use borrow.Author.Needs.{needs}

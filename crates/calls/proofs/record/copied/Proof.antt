@@ -1,7 +1,7 @@
 -- Each case of the answer, packed.
 use Rattle.calls.specs.Packing.{packed}
-use Rattle.group_record.specs.declared.Copied.{Copied}
-use Rattle.group_record.specs.Copying.{copyAnswer}
+use Rattle.record_writing.specs.declared.Copied.{Copied}
+use Rattle.record_writing.specs.Copying.{copyAnswer}
 use mathlib.Core.Path.{sym, _∙_, ap}
 use borrow.Author.Needs.{needs}
 use Rattle.calls.proofs.record.copied.Statement.{statement}

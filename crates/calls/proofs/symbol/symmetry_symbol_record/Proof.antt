@@ -1,7 +1,7 @@
 -- Each case of the answer, packed, and the lent buffer as it was left.
 use mathlib.Core.Path.{sym, _∙_, ap, subst}
-use Rattle.group_record.specs.SymbolRecords.{symbolRecordAnswer}
-use Rattle.group_record.specs.declared.SymbolRecord.{SymbolRecord}
+use Rattle.record_writing.specs.SymbolRecords.{symbolRecordAnswer}
+use Rattle.record_writing.specs.declared.SymbolRecord.{SymbolRecord}
 use Rattle.calls.specs.Packing.{packed, Within, Low}
 use Rattle.calls.specs.SymbolBounds.{record-within}
 use borrow.Author.Needs.{needs}

@@ -7,7 +7,7 @@ use Rattle.group_table.proofs.record.fill_cells.Statement.{statement}
 use Rattle.group_table.proofs.record.fill_cells.Tie as tie
 use Rattle.group_table.proofs.record.fill_cells.Reads as reads
 use Rattle.group_table.proofs.record.fill_cells.Lts as lts
-use Rattle.group_record.proofs.reader.read_record.Reads as read-record-reads
+use Rattle.record_reading.proofs.reader.read_record.Reads as read-record-reads
 use Rattle.group_table.proofs.record.fill_rows.Reads as fill-rows-reads
 
 read-record-requires : tie.Need-read-record-requires

@@ -1,0 +1,21 @@
+-- The definition, byte for byte.
+use Rattle.group_record.specs.Editions.{fromEnd}
+use mathlib.Core.Path.{refl}
+use borrow.Author.Needs.{needs}
+use Rattle.record_reading.proofs.reader.from_end.Statement.{statement}
+use Rattle.record_reading.proofs.reader.from_end.Tie as tie
+use Rattle.record_reading.proofs.reader.from_end.Reads as reads
+use Rattle.record_reading.proofs.reader.from_end.Lts as lts
+
+sub-result : tie.Need-sub-result
+sub-result c = search needs
+
+shared-slice-read-result : tie.Need-shared-slice-read-result
+shared-slice-read-result c = search needs
+
+returns : tie.Need-returns
+unfolding fromEnd
+returns c = refl
+
+pub from-end-spec : {M : Type 1} → statement M
+from-end-spec = tie.close (tie.spec sub-result shared-slice-read-result returns)
