@@ -14,7 +14,7 @@
 #include "marks.h"
 #include "measure.h"
 
-enum { LIST_ROOM = 8 * 512, RECORD_ROOM = 5 + 5 * 48, STACK_WORDS = 8192 };
+enum { LIST_ROOM = 8 * 512, RECORD_ROOM = 5 + 6 * 96, STACK_WORDS = 8192 };
 
 /* ---- what a call is given, and what it answers ---- */
 uint8_t source[SOURCE_ROOM];
@@ -41,6 +41,8 @@ static uint64_t set, element;
     CALL(symbol_operation, SYMBOL, number) \
     CALL(symbol_record, SYMBOL, OUT, number) CALL(record_copy, RECORD, OUT, number) \
     CALL(layer_order, SYMBOL) CALL(layer_letter, SYMBOL) CALL(layer_operation, SYMBOL, number) CALL(layer_record, SYMBOL, OUT, number) \
+    CALL(magnetic_order, SYMBOL) CALL(magnetic_letter, SYMBOL) CALL(magnetic_operation, SYMBOL, number) CALL(magnetic_record, SYMBOL, OUT, number) \
+    CALL(magnetic_record_order, RECORD) CALL(magnetic_record_letter, RECORD) CALL(magnetic_record_copy, RECORD, OUT, number) \
     CALL(record_edition, RECORD) CALL(record_move, RECORD, OUT, number) CALL(record_compare, RECORD, other, sizeof other, report, sizeof report) \
     CALL(symbol_check, SYMBOL, other, 5) CALL(catalogue_piece, STATE, SYMBOL, OUT) \
     CALL(symbol_subgroups, SYMBOL, SETS) CALL(record_subgroups, RECORD, SETS) CALL(table_subgroups, TABLE, SETS) \
