@@ -4,6 +4,7 @@ pub mod Answers
 pub mod SymbolBounds
 pub mod RecordBounds
 pub mod LayerBounds
+pub mod Questions
 pub mod ComparisonBounds
 pub mod ListBounds
 pub mod TableBounds

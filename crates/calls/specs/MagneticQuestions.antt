@@ -25,8 +25,8 @@ use Rattle.magnetic_group.specs.declared.MagneticOperation.{MagneticOperation}
 use Rattle.calls.specs.Packing.{Told, Within, Low, mapped, letters, mapped-low}
 use Rattle.calls.specs.FlaggedNumbers.{flaggedNumber, flaggedOperations}
 use Rattle.calls.specs.MagneticBounds.{order-within, letter-within, operation-within}
-use Rattle.calls.specs.declared.magnetic.Question.{Question}
-use Rattle.calls.specs.declared.magnetic.Question.the-variants.{Order, Letter, Operation}
+use Rattle.calls.specs.declared.question.Question.{Question}
+use Rattle.calls.specs.declared.question.Question.the-variants.{Order, Letter, Operation}
 
 -- What is answered.
 abbrev pub answerTo : Question → SymbolOutcome → Answer ℕ Nothing
@@ -35,10 +35,10 @@ answerTo Letter o = mapped byteOf (letterAnswer (letterBy o))
 answerTo (Operation i) o = mapped flaggedNumber (operationAnswer (operationBy o i))
 
 -- The same of a list of numbers, its letter and its length.
-abbrev pub listAnswer : Question → ℕ → Centering → List ℕ → Answer ℕ Nothing
-listAnswer Order count c numbers = given count
-listAnswer Letter count c numbers = given (byteOf c)
-listAnswer (Operation i) count c numbers = cond (ltb i count) (given (flaggedNumber (besideFlag (flaggedSaid (getD numbers i 0))))) (refused 28 0 tt)
+abbrev pub numbersAnswer : Question → ℕ → Centering → List ℕ → Answer ℕ Nothing
+numbersAnswer Order count c numbers = given count
+numbersAnswer Letter count c numbers = given (byteOf c)
+numbersAnswer (Operation i) count c numbers = cond (ltb i count) (given (flaggedNumber (besideFlag (flaggedSaid (getD numbers i 0))))) (refused 28 0 tt)
 
 -- It can be packed.
 pub answer-within : (q : Question) (text : List ℕ) → Within Low (answerTo q (magneticOutcome text))
@@ -60,7 +60,7 @@ module _ (text : List ℕ) (g : MagneticGroup) (e : g ≡ groupBy (magneticOutco
 
   -- and the list of one that is not has the others.
   pub list-answers : (slots : List ℕ) → slots ≡ slotsOf text → g .answer ≡ Group → (q : Question)
-      → listAnswer q (g .count) (g .centering) slots ≡ answerTo q (magneticOutcome text)
+      → numbersAnswer q (g .count) (g .centering) slots ≡ answerTo q (magneticOutcome text)
   list-answers slots h a Order = ap orderAnswer (order-given text g e a)
   list-answers slots h a Letter = ap (λ (l : MagneticLetter). mapped byteOf (letterAnswer l)) (letter-given text g e a)
   list-answers slots h a (Operation i) =

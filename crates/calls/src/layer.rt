@@ -4,12 +4,13 @@ ghost use Prim.Native.Nat.{_+_, _*_};
 ghost use Rattle.layer_group.specs.Answers.{orderOf, orderAnswer, letterOf, letterAnswer, operationAt, operationAnswer};
 ghost use Rattle.layer_group.specs.Refusals.{numberOf, placeOf};
 ghost use Rattle.record_writing.specs.LayerRecords.{layerRecordAnswer, layerRecordOf, layerBufferOf};
+ghost use Rattle.calls.specs.Questions.{layerTo};
 ghost use Rattle.calls.specs.Packing.{topByte, packed, mapped, operationNumber, Told};
-use super::packing::operation_number;
 use super::packing::refused;
-use layer_group::LayerLetter;
-use layer_group::LayerOperation;
-use layer_group::LayerOrder;
+use super::question::Question;
+use super::question::answered;
+use layer_group::Answer;
+use layer_group::LayerGroup;
 use layer_group::refusal::Refusal;
 use record_writing::LayerRecord;
 use record_writing::layer::write_record;
@@ -18,30 +19,37 @@ use record_writing::layer::write_record;
 pub extern "C" fn symmetry_layer_order(text: &[u8]) -> u64
     ensures { λ r. ⌜ r ≡ packed (orderAnswer (orderOf (now (text .entry)))) ⌝ }
 {
-    match layer_group::order(text) {
-        LayerOrder::Is(n) => n as u64,
-        LayerOrder::Refused(refusal) => refused_layer(refusal),
-    }
+    asked(text, Question::Order)
 }
 
 #[no_mangle]
 pub extern "C" fn symmetry_layer_letter(text: &[u8]) -> u64
     ensures { λ r. ⌜ r ≡ packed (letterAnswer (letterOf (now (text .entry)))) ⌝ }
 {
-    match layer_group::letter(text) {
-        LayerLetter::Is(byte) => byte as u64,
-        LayerLetter::Refused(refusal) => refused_layer(refusal),
-    }
+    asked(text, Question::Letter)
 }
 
 #[no_mangle]
 pub extern "C" fn symmetry_layer_operation(text: &[u8], index: u64) -> u64
     ensures { λ r. ⌜ r ≡ packed (mapped operationNumber (operationAnswer (operationAt (now (text .entry)) index))) ⌝ }
 {
-    match layer_group::operation_at(text, index as usize) {
-        LayerOperation::Operation(o) => operation_number(o),
-        LayerOperation::PastEnd => refused(28, 0),
-        LayerOperation::Refused(refusal) => refused_layer(refusal),
+    asked(text, Question::Operation(index))
+}
+
+// The small letter: 32 lies between a capital and its small letter.
+fn asked(text: &[u8], question: Question) -> u64
+    ensures { λ r. ⌜ r ≡ packed (layerTo question (now (text .entry))) ⌝ }
+{
+    let group = LayerGroup::new(text);
+    let answer = group.answer;
+    match answer {
+        Answer::Refused(refusal) => refused_layer(refusal),
+        Answer::Group => {
+            let c = group.centering;
+            let letter = c.byte() + 32;
+            let operations = group.operations;
+            answered(question, group.count, letter, operations)
+        }
     }
 }
 

@@ -9,6 +9,7 @@ pub mod magnetic;
 pub mod magnetic_records;
 mod motion;
 mod packing;
+mod question;
 pub mod record;
 pub mod record_groups;
 pub mod symbol;

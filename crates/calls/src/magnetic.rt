@@ -8,21 +8,16 @@ ghost use Rattle.magnetic_group.specs.Symbols.{magneticOutcome};
 ghost use Rattle.magnetic_group.specs.Answers.{orderBy, orderAnswer, letterBy, letterAnswer, besideFlag, operationBy, operationAnswer};
 ghost use Rattle.calls.specs.Packing.{packed, mapped};
 ghost use Rattle.calls.specs.FlaggedNumbers.{flaggedNumber};
-ghost use Rattle.calls.specs.MagneticQuestions.{answerTo, listAnswer};
+ghost use Rattle.calls.specs.MagneticQuestions.{answerTo, numbersAnswer};
 use super::packing::operation_number;
 use super::packing::refused;
+use super::question::Question;
 use super::symbol::refused_symbol;
 use centering::Centering;
 use magnetic_group::Answer;
 use magnetic_group::list;
 use packed_operation::flag;
 use packed_operation::said;
-
-enum Question {
-    Order,
-    Letter,
-    Operation(u64),
-}
 
 // 3⁹ · 1728: a flag before the nine digits of a code and the twelfths.
 const FLAG: u64 = 34012224;
@@ -66,7 +61,7 @@ fn asked(text: &[u8], question: Question) -> u64
 // What a list of numbers answers.
 fn answered(question: Question, count: usize, c: Centering, numbers: &[u64; 96]) -> u64
     requires { ⌜ count ≤ 96 ⌝ }
-    ensures { λ r. ⌜ r ≡ packed (listAnswer question count c (now (numbers .entry))) ⌝ }
+    ensures { λ r. ⌜ r ≡ packed (numbersAnswer question count c (now (numbers .entry))) ⌝ }
 {
     match question {
         Question::Order => count as u64,

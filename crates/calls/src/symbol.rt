@@ -6,48 +6,51 @@ ghost use Rattle.symbol_group.specs.Answers.{symbolAnswer, orderOf, orderAnswer
 ghost use Rattle.symbol_group.specs.Refusals.{numberOf, placeOf};
 ghost use Rattle.record_writing.specs.SymbolRecords.{symbolRecordAnswer, symbolRecordOf, symbolBufferOf};
 ghost use Rattle.calls.specs.Answers.{letterAnswer};
+ghost use Rattle.calls.specs.Questions.{symbolTo};
 ghost use Rattle.calls.specs.Packing.{topByte, packed, mapped, operationNumber, Told, Within, Low};
-use super::packing::operation_number;
 use super::packing::refused;
+use super::question::Question;
+use super::question::answered;
 use record_writing::SymbolRecord;
 use record_writing::symbol::write_record;
 use symbol_group::Answer;
 use symbol_group::SymbolGroup;
-use symbol_group::SymbolOperation;
-use symbol_group::SymbolOrder;
 use symbol_group::refusal::Refusal;
 
 #[no_mangle]
 pub extern "C" fn symmetry_symbol_order(text: &[u8]) -> u64
     ensures { λ r. ⌜ r ≡ packed (orderAnswer (orderOf (now (text .entry)))) ⌝ }
 {
-    match symbol_group::order(text) {
-        SymbolOrder::Is(n) => n as u64,
-        SymbolOrder::Refused(refusal) => refused_symbol(refusal),
-    }
+    asked(text, Question::Order)
 }
 
 #[no_mangle]
 pub extern "C" fn symmetry_symbol_letter(text: &[u8]) -> u64
     ensures { λ r. ⌜ r ≡ packed (mapped byteOf (letterAnswer (symbolAnswer (now (text .entry))))) ⌝ }
 {
-    let group = SymbolGroup::new(text);
-    let answer = group.answer;
-    let centering = group.centering;
-    match answer {
-        Answer::Group => centering.byte() as u64,
-        Answer::Refused(refusal) => refused_symbol(refusal),
-    }
+    asked(text, Question::Letter)
 }
 
 #[no_mangle]
 pub extern "C" fn symmetry_symbol_operation(text: &[u8], index: u64) -> u64
     ensures { λ r. ⌜ r ≡ packed (mapped operationNumber (operationAnswer (operationAt (now (text .entry)) index))) ⌝ }
 {
-    match symbol_group::operation_at(text, index as usize) {
-        SymbolOperation::Operation(o) => operation_number(o),
-        SymbolOperation::PastEnd => refused(28, 0),
-        SymbolOperation::Refused(refusal) => refused_symbol(refusal),
+    asked(text, Question::Operation(index))
+}
+
+fn asked(text: &[u8], question: Question) -> u64
+    ensures { λ r. ⌜ r ≡ packed (symbolTo question (now (text .entry))) ⌝ }
+{
+    let group = SymbolGroup::new(text);
+    let answer = group.answer;
+    match answer {
+        Answer::Refused(refusal) => refused_symbol(refusal),
+        Answer::Group => {
+            let c = group.centering;
+            let letter = c.byte();
+            let operations = group.operations;
+            answered(question, group.count, letter, operations)
+        }
     }
 }
 
