@@ -132,6 +132,7 @@ static void make_on_filled_stack(const struct entry *entry, uint64_t fill) {
 /* How many bytes of the stack, from its top at the call down to the lowest word that the call changed. */
 static size_t touched(const struct entry *entry, uint64_t fill) {
     size_t untouched = 0;
+    if (entry->prepare != NULL) entry->prepare();
     make_on_filled_stack(entry, fill);
     while (untouched < STACK_WORDS && stack[untouched] == fill) untouched++;
     if (untouched == 0) {

@@ -28,7 +28,7 @@ SYMBOLS = ("P 1", "-P 2ac 2n", "-F 4 2 3")
 # Each has 64 bytes, all that are read.
 LONG_LINES = [" " * (64 - len(line)) + line for line in (
     "-x-y-z-11/12,-x-y-z-11/12,-x-y-z-11/12", "-x+y-11/12,-x+z-11/12,-y-z-11/12", "+ 11/12 - x + y, - 11/12 + x + z, + 11/12 - y - z", "x,y,z")]
-LARGEST_MAGNETIC = ("-P 4 2 3 1'", "-F 4 2 3 1'", "-F 4d 2 3 -1ad 1'", "-F 4ud 2vw 3 1'", "-I 4bd 2c 3 1'", "-P 4 2 3 1 1 1 1 1'")
+LARGEST_MAGNETIC = ("-P 4 2 3 1'", "-F 4 2 3 1'", "-F 4ud 2vw 3 1'", "-I 4bd 2c 3 1'", "F 4d 2 3 -1ad 1'", "F 4d 2 3 -1d 1'", "-P 4 2 3 1 1 1 1 1'")
 CUBIC, MANY = "-P 4 2 3", "C2 ^ 5"
 PROGRAMS = ("rust", "gemmi")
 # The heap of the Rust and of gemmi is warm after the first call, and each call of the Rust has other keys for its hash tables.
