@@ -1,30 +1,13 @@
-// What is asked of two records.
+// On two records.
 ghost use mathlib.Core.Path.{_≡_};
 ghost use lib.ListN.{length};
 ghost use Rattle.record_report.specs.Compared.{comparedAnswer, comparedOf, bufferOf};
-ghost use Rattle.calls.specs.ComparisonBounds.{Tellable};
-ghost use Rattle.calls.specs.Packing.{packed};
-use super::packing::refused;
-use record_report::Compared;
-use record_report::compare_records;
+ghost use Rattle.answer_numbers.specs.Packing.{packed};
 
 #[no_mangle]
 pub extern "C" fn symmetry_record_compare(first: &[u8], second: &[u8], out: &mut [u8]) -> u64
     ensures { λ r. ⌜ (r ≡ packed (comparedAnswer (comparedOf (now (first .entry)) (now (second .entry)) (length (now (out .entry))))))
         × (now (out .exit) ≡ bufferOf (now (first .entry)) (now (second .entry)) (now (out .entry))) ⌝ }
 {
-    packed_answer(compare_records(first, second, out))
-}
-
-// The second record's refusals are the first's plus 30.
-fn packed_answer(compared: Compared) -> u64
-    requires { ⌜ Tellable compared ⌝ }
-    ensures { λ r. ⌜ r ≡ packed (comparedAnswer compared) ⌝ }
-{
-    match compared {
-        Compared::Reported(size) => size as u64,
-        Compared::First(why) => refused(why.number(), 0),
-        Compared::Second(why) => refused(why.number() + 30, 0),
-        Compared::NoRoom => refused(20, 0),
-    }
+    record_numbers::comparison::compare_records(first, second, out)
 }

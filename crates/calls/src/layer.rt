@@ -1,56 +1,28 @@
-// What is asked of a layer symbol's text.
+// On a layer symbol's text.
 ghost use mathlib.Core.Path.{_≡_};
-ghost use Prim.Native.Nat.{_+_, _*_};
 ghost use Rattle.layer_group.specs.Answers.{orderOf, orderAnswer, letterOf, letterAnswer, operationAt, operationAnswer};
-ghost use Rattle.layer_group.specs.Refusals.{numberOf, placeOf};
 ghost use Rattle.record_writing.specs.LayerRecords.{layerRecordAnswer, layerRecordOf, layerBufferOf};
-ghost use Rattle.calls.specs.Questions.{layerTo};
-ghost use Rattle.calls.specs.Packing.{topByte, packed, mapped, operationNumber, Told};
-use super::packing::refused;
-use super::question::Question;
-use super::question::answered;
-use layer_group::Answer;
-use layer_group::LayerGroup;
-use layer_group::refusal::Refusal;
-use record_writing::LayerRecord;
-use record_writing::layer::write_record;
+ghost use Rattle.answer_numbers.specs.Packing.{packed, mapped, operationNumber};
 
 #[no_mangle]
 pub extern "C" fn symmetry_layer_order(text: &[u8]) -> u64
     ensures { λ r. ⌜ r ≡ packed (orderAnswer (orderOf (now (text .entry)))) ⌝ }
 {
-    asked(text, Question::Order)
+    symbol_numbers::layer::order(text)
 }
 
 #[no_mangle]
 pub extern "C" fn symmetry_layer_letter(text: &[u8]) -> u64
     ensures { λ r. ⌜ r ≡ packed (letterAnswer (letterOf (now (text .entry)))) ⌝ }
 {
-    asked(text, Question::Letter)
+    symbol_numbers::layer::letter(text)
 }
 
 #[no_mangle]
 pub extern "C" fn symmetry_layer_operation(text: &[u8], index: u64) -> u64
     ensures { λ r. ⌜ r ≡ packed (mapped operationNumber (operationAnswer (operationAt (now (text .entry)) index))) ⌝ }
 {
-    asked(text, Question::Operation(index))
-}
-
-// The small letter: 32 lies between a capital and its small letter.
-fn asked(text: &[u8], question: Question) -> u64
-    ensures { λ r. ⌜ r ≡ packed (layerTo question (now (text .entry))) ⌝ }
-{
-    let group = LayerGroup::new(text);
-    let answer = group.answer;
-    match answer {
-        Answer::Refused(refusal) => refused_layer(refusal),
-        Answer::Group => {
-            let c = group.centering;
-            let letter = c.byte() + 32;
-            let operations = group.operations;
-            answered(question, group.count, letter, operations)
-        }
-    }
+    symbol_numbers::layer::operation(text, index)
 }
 
 #[no_mangle]
@@ -58,16 +30,5 @@ pub extern "C" fn symmetry_layer_record(text: &[u8], out: &mut [u8], start: u64)
     ensures { λ r. ⌜ (r ≡ packed (layerRecordAnswer (layerRecordOf (now (text .entry)) (now (out .entry)) start)))
         × (now (out .exit) ≡ layerBufferOf (now (text .entry)) (now (out .entry)) start) ⌝ }
 {
-    match write_record(text, out, start as usize) {
-        LayerRecord::Written(n) => n as u64,
-        LayerRecord::NoRoom => refused(20, 0),
-        LayerRecord::Refused(refusal) => refused_layer(refusal),
-    }
-}
-
-fn refused_layer(refusal: Refusal) -> u64
-    requires { ⌜ Told (numberOf refusal) (placeOf refusal) ⌝ }
-    ensures { λ r. ⌜ r ≡ numberOf refusal * topByte + placeOf refusal ⌝ }
-{
-    refused(refusal.number(), refusal.place())
+    symbol_numbers::layer::write_record(text, out, start)
 }

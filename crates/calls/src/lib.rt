@@ -1,4 +1,4 @@
-// The entries for C: each asks one entry of the port, and hands its answer on as one number. include/symmetry.h declares them.
+// The entries for C: each hands on the number that a room above answers. include/symmetry.h declares them.
 pub mod catalogues;
 pub mod comparison;
 pub mod editions;
@@ -7,9 +7,6 @@ pub mod line;
 pub mod list;
 pub mod magnetic;
 pub mod magnetic_records;
-mod motion;
-mod packing;
-mod question;
 pub mod record;
 pub mod record_groups;
 pub mod symbol;

@@ -1,87 +1,28 @@
-// What is asked of a magnetic symbol's text. An operation's number has the flag before the rotation's code. One function answers each question, so that
-// the packing of a refusal stands once.
+// On a magnetic symbol's text.
 ghost use mathlib.Core.Path.{_≡_};
-ghost use Prim.Native.Nat.{_≤_};
 ghost use Rattle.centering.specs.Letters.{byteOf};
-ghost use Rattle.space_group.specs.NumberGrowth.{flaggedSaid};
 ghost use Rattle.magnetic_group.specs.Symbols.{magneticOutcome};
-ghost use Rattle.magnetic_group.specs.Answers.{orderBy, orderAnswer, letterBy, letterAnswer, besideFlag, operationBy, operationAnswer};
-ghost use Rattle.calls.specs.Packing.{packed, mapped};
-ghost use Rattle.calls.specs.FlaggedNumbers.{flaggedNumber};
-ghost use Rattle.calls.specs.MagneticQuestions.{answerTo, numbersAnswer};
-use super::packing::operation_number;
-use super::packing::refused;
-use super::question::Question;
-use super::symbol::refused_symbol;
-use centering::Centering;
-use magnetic_group::Answer;
-use magnetic_group::list;
-use packed_operation::flag;
-use packed_operation::said;
-
-// 3⁹ · 1728: a flag before the nine digits of a code and the twelfths.
-const FLAG: u64 = 34012224;
+ghost use Rattle.magnetic_group.specs.Answers.{orderBy, orderAnswer, letterBy, letterAnswer, operationBy, operationAnswer};
+ghost use Rattle.answer_numbers.specs.Packing.{packed, mapped};
+ghost use Rattle.magnetic_numbers.specs.FlaggedNumbers.{flaggedNumber};
 
 #[no_mangle]
 pub extern "C" fn symmetry_magnetic_order(text: &[u8]) -> u64
     ensures { λ r. ⌜ r ≡ packed (orderAnswer (orderBy (magneticOutcome (now (text .entry))))) ⌝ }
 {
-    asked(text, Question::Order)
+    magnetic_numbers::symbol::order(text)
 }
 
 #[no_mangle]
 pub extern "C" fn symmetry_magnetic_letter(text: &[u8]) -> u64
     ensures { λ r. ⌜ r ≡ packed (mapped byteOf (letterAnswer (letterBy (magneticOutcome (now (text .entry)))))) ⌝ }
 {
-    asked(text, Question::Letter)
+    magnetic_numbers::symbol::letter(text)
 }
 
 #[no_mangle]
 pub extern "C" fn symmetry_magnetic_operation(text: &[u8], index: u64) -> u64
     ensures { λ r. ⌜ r ≡ packed (mapped flaggedNumber (operationAnswer (operationBy (magneticOutcome (now (text .entry))) index))) ⌝ }
 {
-    asked(text, Question::Operation(index))
-}
-
-fn asked(text: &[u8], question: Question) -> u64
-    ensures { λ r. ⌜ r ≡ packed (answerTo question (magneticOutcome (now (text .entry)))) ⌝ }
-{
-    let mut numbers = [0u64; 96];
-    let g = list(text, &mut numbers);
-    let answer = g.answer;
-    match answer {
-        Answer::Refused(refusal) => refused_symbol(refusal),
-        Answer::Group => {
-            let c = g.centering;
-            answered(question, g.count, c, &numbers)
-        }
-    }
-}
-
-// What a list of numbers answers.
-fn answered(question: Question, count: usize, c: Centering, numbers: &[u64; 96]) -> u64
-    requires { ⌜ count ≤ 96 ⌝ }
-    ensures { λ r. ⌜ r ≡ packed (numbersAnswer question count c (now (numbers .entry))) ⌝ }
-{
-    match question {
-        Question::Order => count as u64,
-        Question::Letter => c.byte() as u64,
-        Question::Operation(index) => {
-            let i = index as usize;
-            if count <= i {
-                return refused(28, 0);
-            }
-            flagged_number(numbers[i])
-        }
-    }
-}
-
-fn flagged_number(n: u64) -> u64
-    ensures { λ r. ⌜ r ≡ flaggedNumber (besideFlag (flaggedSaid n)) ⌝ }
-{
-    let number = operation_number(said(n));
-    if flag(n) == 1 {
-        return FLAG + number;
-    }
-    number
+    magnetic_numbers::symbol::operation(text, index)
 }

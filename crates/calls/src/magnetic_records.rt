@@ -1,45 +1,32 @@
-// The record of a magnetic symbol, edition 2, and what is asked of a buffer that ends with one.
+// On a record of edition 2.
 ghost use mathlib.Core.Path.{_≡_};
 ghost use Rattle.record_writing.specs.Copying.{copyAnswer};
 ghost use Rattle.record_writing.specs.SymbolRecords.{symbolRecordAnswer};
 ghost use Rattle.magnetic_record.specs.Answers.{readingOf, magneticOrderAnswer, magneticLetterAnswer};
 ghost use Rattle.magnetic_record.specs.Copying.{magneticCopiedOf, magneticCopyBuffer};
 ghost use Rattle.magnetic_record.specs.TextRecords.{magneticRecordOf, magneticBufferOf};
-ghost use Rattle.calls.specs.Packing.{packed};
-use super::record::copied;
-use super::record::refused_record;
-use super::symbol::written;
-use magnetic_record::MagneticReading;
-use magnetic_record::copier::copy_record;
-use magnetic_record::reader::read_record;
-use magnetic_record::symbol::write_record;
+ghost use Rattle.answer_numbers.specs.Packing.{packed};
 
 #[no_mangle]
 pub extern "C" fn symmetry_magnetic_record(text: &[u8], out: &mut [u8], start: u64) -> u64
     ensures { λ r. ⌜ (r ≡ packed (symbolRecordAnswer (magneticRecordOf (now (text .entry)) (now (out .entry)) start)))
         × (now (out .exit) ≡ magneticBufferOf (now (text .entry)) (now (out .entry)) start) ⌝ }
 {
-    written(write_record(text, out, start as usize))
+    magnetic_numbers::record::write_record(text, out, start)
 }
 
 #[no_mangle]
 pub extern "C" fn symmetry_magnetic_record_order(bytes: &[u8]) -> u64
     ensures { λ r. ⌜ r ≡ packed (magneticOrderAnswer (readingOf (now (bytes .entry)))) ⌝ }
 {
-    match read_record(bytes) {
-        MagneticReading::Is(_, n) => n as u64,
-        MagneticReading::Refused(why) => refused_record(why),
-    }
+    magnetic_numbers::record::order(bytes)
 }
 
 #[no_mangle]
 pub extern "C" fn symmetry_magnetic_record_letter(bytes: &[u8]) -> u64
     ensures { λ r. ⌜ r ≡ packed (magneticLetterAnswer (readingOf (now (bytes .entry)))) ⌝ }
 {
-    match read_record(bytes) {
-        MagneticReading::Is(centering, _) => centering.byte() as u64,
-        MagneticReading::Refused(why) => refused_record(why),
-    }
+    magnetic_numbers::record::letter(bytes)
 }
 
 #[no_mangle]
@@ -47,5 +34,5 @@ pub extern "C" fn symmetry_magnetic_record_copy(bytes: &[u8], out: &mut [u8], st
     ensures { λ r. ⌜ (r ≡ packed (copyAnswer (magneticCopiedOf (now (bytes .entry)) (now (out .entry)) start)))
         × (now (out .exit) ≡ magneticCopyBuffer (now (bytes .entry)) (now (out .entry)) start) ⌝ }
 {
-    copied(copy_record(bytes, out, start as usize))
+    magnetic_numbers::record::copy_record(bytes, out, start)
 }

@@ -1,0 +1,25 @@
+-- The answer on the symbol's group, packed.
+use mathlib.Core.List.{List}
+use Prim.Native.Nat.{ℕ}
+use borrow.Author.Needs.{needs}
+use Rattle.finite_group.specs.Answers.{normalizerEntry}
+use Rattle.group_numbers.specs.MotionBounds.{tellable-as, told-as, on-symbol}
+use Rattle.table_numbers.specs.TableBounds.{table-normalizer}
+use Rattle.group_numbers.proofs.symbol.normalizer.Statement.{statement}
+use Rattle.group_numbers.proofs.symbol.normalizer.Tie as tie
+
+normalizer-requires : tie.Need-normalizer-requires
+normalizer-requires c κs = search needs
+
+answered-requires : tie.Need-answered-requires
+answered-requires c κs =
+    let called = c in
+    let asks = called .before .before .args in
+    tellable-as (called .normalizer .ensures) (on-symbol _ (λ (n : ℕ) (t : List ℕ). normalizerEntry n t (asks .set)) (λ n t. table-normalizer n t (asks .set)))
+
+returns : tie.Need-returns
+returns c = told-as (c .answered .ensures) (c .before .normalizer .ensures)
+
+pub normalizer-spec : {M : Type 1} → statement M
+normalizer-spec =
+    tie.close (tie.spec normalizer-requires answered-requires returns)

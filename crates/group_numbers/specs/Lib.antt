@@ -1,0 +1,2 @@
+-- What is answered on the group of a symbol or a record can be packed.
+pub mod MotionBounds

@@ -1,0 +1,2 @@
+-- What is answered for a line can be packed.
+pub mod LineBounds

@@ -1,0 +1,23 @@
+-- The answer on the table, packed, and the lent list as it was left.
+use Rattle.table_numbers.specs.TableBounds.{packed-as}
+use borrow.Author.Needs.{needs}
+use Rattle.table_numbers.proofs.permutation.Statement.{statement}
+use Rattle.table_numbers.proofs.permutation.Tie as tie
+
+normalizer-action-requires : tie.Need-normalizer-action-requires
+normalizer-action-requires c κs = search needs
+
+answered-requires : tie.Need-answered-requires
+answered-requires c κs = search needs
+
+same-length : tie.Need-same-length
+same-length c = search needs
+
+returns : tie.Need-returns
+returns c =
+    let listed = c .before .before .before .normalizer-action .ensures in
+    (packed-as (c .answered .ensures) (listed .0), listed .1)
+
+pub permutation-spec : {M : Type 1} → statement M
+permutation-spec =
+    tie.close (tie.spec normalizer-action-requires answered-requires same-length returns)
