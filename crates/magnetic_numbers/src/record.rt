@@ -6,11 +6,11 @@ ghost use Rattle.magnetic_record.specs.Answers.{readingOf, magneticOrderAnswer,
 ghost use Rattle.magnetic_record.specs.Copying.{magneticCopiedOf, magneticCopyBuffer};
 ghost use Rattle.magnetic_record.specs.TextRecords.{magneticRecordOf, magneticBufferOf};
 ghost use Rattle.answer_numbers.specs.Packing.{packed};
+use magnetic_record::MagneticReading;
+use magnetic_record::reader::read_record;
 use record_numbers::record::copied;
 use record_numbers::record::refused_record;
 use symbol_numbers::symbol::written;
-use magnetic_record::MagneticReading;
-use magnetic_record::reader::read_record;
 
 pub fn write_record(text: &[u8], out: &mut [u8], start: u64) -> u64
     ensures { λ r. ⌜ (r ≡ packed (symbolRecordAnswer (magneticRecordOf (now (text .entry)) (now (out .entry)) start)))

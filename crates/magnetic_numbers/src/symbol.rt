@@ -11,13 +11,13 @@ ghost use Rattle.magnetic_numbers.specs.FlaggedNumbers.{flaggedNumber};
 ghost use Rattle.magnetic_numbers.specs.MagneticQuestions.{answerTo, numbersAnswer};
 use answer_numbers::operation_number;
 use answer_numbers::refused;
-use symbol_numbers::question::Question;
-use symbol_numbers::symbol::refused_symbol;
 use centering::Centering;
 use magnetic_group::Answer;
 use magnetic_group::list;
 use packed_operation::flag;
 use packed_operation::said;
+use symbol_numbers::question::Question;
+use symbol_numbers::symbol::refused_symbol;
 
 // 3⁹ · 1728: a flag before the nine digits of a code and the twelfths.
 const FLAG: u64 = 34012224;

@@ -7,9 +7,9 @@ ghost use Rattle.record_writing.specs.SymbolRecords.{symbolRecordAnswer, symbol
 ghost use Rattle.symbol_numbers.specs.Answers.{letterAnswer};
 ghost use Rattle.symbol_numbers.specs.Questions.{symbolTo};
 ghost use Rattle.answer_numbers.specs.Packing.{packed, mapped, operationNumber, toldNumber, toldAnswer};
-use answer_numbers::refused;
 use super::question::Question;
 use super::question::answered;
+use answer_numbers::refused;
 use record_writing::SymbolRecord;
 use symbol_group::Answer;
 use symbol_group::SymbolGroup;

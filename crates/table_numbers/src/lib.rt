@@ -58,13 +58,7 @@ pub fn normalizer(order: u64, table: &[u8], set: u64) -> u64
     answered(finite_group::normalizer(order as usize, table, set))
 }
 
-pub fn permutation(
-    order: u64,
-    table: &[u8],
-    set: u64,
-    element: u64,
-    positions: &mut [u8],
-) -> u64
+pub fn permutation(order: u64, table: &[u8], set: u64, element: u64, positions: &mut [u8]) -> u64
     ensures { λ r. ⌜ (r ≡ packed (tableAnswer (permutationEntry order (now (table .entry)) set element (now (positions .entry)))))
         × (now (positions .exit) ≡ permutationList order (now (table .entry)) set element (now (positions .entry))) ⌝ }
 {
