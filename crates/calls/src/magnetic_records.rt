@@ -10,9 +10,9 @@ use super::record::copied;
 use super::record::refused_record;
 use super::symbol::written;
 use magnetic_record::MagneticReading;
-use magnetic_record::copier::copy_record;
-use magnetic_record::reader::read_record;
-use magnetic_record::symbol::write_record;
+use magnetic_record_reading::reader::read_record;
+use magnetic_record_writing::copier::copy_record;
+use magnetic_record_writing::symbol::write_record;
 
 #[no_mangle]
 pub extern "C" fn symmetry_magnetic_record(text: &[u8], out: &mut [u8], start: u64) -> u64
