@@ -7,7 +7,7 @@ ghost use Rattle.magnetic_record.specs.Copying.{magneticCopiedOf, magneticCopyB
 ghost use Rattle.magnetic_record.specs.TextRecords.{magneticRecordOf, magneticBufferOf};
 ghost use Rattle.answer_numbers.specs.Packing.{packed};
 use magnetic_record::MagneticReading;
-use magnetic_record::reader::read_record;
+use magnetic_record_reading::reader::read_record;
 use record_numbers::record::copied;
 use record_numbers::record::refused_record;
 use symbol_numbers::symbol::written;
@@ -16,7 +16,7 @@ pub fn write_record(text: &[u8], out: &mut [u8], start: u64) -> u64
     ensures { λ r. ⌜ (r ≡ packed (symbolRecordAnswer (magneticRecordOf (now (text .entry)) (now (out .entry)) start)))
         × (now (out .exit) ≡ magneticBufferOf (now (text .entry)) (now (out .entry)) start) ⌝ }
 {
-    written(magnetic_record::symbol::write_record(text, out, start as usize))
+    written(magnetic_record_writing::symbol::write_record(text, out, start as usize))
 }
 
 pub fn order(bytes: &[u8]) -> u64
@@ -41,5 +41,5 @@ pub fn copy_record(bytes: &[u8], out: &mut [u8], start: u64) -> u64
     ensures { λ r. ⌜ (r ≡ packed (copyAnswer (magneticCopiedOf (now (bytes .entry)) (now (out .entry)) start)))
         × (now (out .exit) ≡ magneticCopyBuffer (now (bytes .entry)) (now (out .entry)) start) ⌝ }
 {
-    copied(magnetic_record::copier::copy_record(bytes, out, start as usize))
+    copied(magnetic_record_writing::copier::copy_record(bytes, out, start as usize))
 }

@@ -13,10 +13,5 @@ pub mod OtherEditions
 pub mod Example
 pub mod Answers
 pub mod TextRecords
-pub mod Writing
-pub mod Walk
-pub mod Search
-pub mod Numbers
-pub mod Trailer
 pub mod Copying
 pub mod TextSets

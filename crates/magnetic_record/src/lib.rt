@@ -1,12 +1,5 @@
 // The record of a magnetic group, edition 2: the byte form of a group of flagged operations, six bytes an operation with the flag last.
 // New in the port: the Rust has no such form.
-pub mod copier;
-mod group;
-mod items;
-pub mod reader;
-pub mod symbol;
-mod writer;
-
 use centering::Centering;
 use group_record::Refusal;
 
