@@ -2,4 +2,3 @@
 pub mod Search
 pub mod Found
 pub mod Closing
-pub mod Parts
