@@ -3,7 +3,8 @@ use mathlib.Core.Path.{_≡_, refl, ap₂}
 use mathlib.Core.List.{List, [], _∷_, _++_}
 use Prim.Native.Nat.{ℕ, _+_, _*_, _/_, _%_, _<_, _≤_}
 use native.Mathlib.Omega.{arith}
-use lib.ListN.{length, getD, take}
+use lib.ListN.{length, getD, take, drop}
+use lib.Seq.{getD-drop}
 use Rattle.group_record.specs.Items.{Bytes}
 use Rattle.group_record.specs.Editions.{Edition}
 use Rattle.group_record.specs.OperationItems.{Item, item≡}
@@ -25,6 +26,18 @@ itemIn bytes =
       code = getD bytes 0 0 * 256 + getD bytes 1 0;
       translation = record { x = getD bytes 2 0; y = getD bytes 3 0; z = getD bytes 4 0 };
     }
+
+-- So the bytes from a place on say it, each by its own place.
+pub first-item-bytes : (bytes : List ℕ) (at : ℕ)
+    → record {
+      code = getD bytes at 0 * 256 + getD bytes (at + 1) 0;
+      translation = record { x = getD bytes (at + 2) 0; y = getD bytes (at + 3) 0; z = getD bytes (at + 4) 0 };
+    }
+    ≡ itemIn (drop at bytes)
+unfolding itemIn
+first-item-bytes bytes at =
+    let first : at + 0 ≡ at = omega arith in
+    rw (getD-drop at bytes 0 0, getD-drop at bytes 1 0, getD-drop at bytes 2 0, getD-drop at bytes 3 0, getD-drop at bytes 4 0, first)
 
 -- An item takes five bytes,
 pub item-wide : (i : Item) → length (itemBytes i) ≡ itemWidth

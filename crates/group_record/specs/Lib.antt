@@ -21,3 +21,6 @@ pub mod Converse
 pub mod Criterion
 pub mod Acceptance
 pub mod RefusalNumbers
+-- How code goes through items, and that few products decide what is allowed.
+pub mod Walk
+pub mod Closing

@@ -5,7 +5,8 @@ use mathlib.Core.List.{List, [], _∷_, _++_, List·Memᴰ as Mem, List·Memᴰ�
 use Prim.Native.Nat.{ℕ, _+_, _*_, _/_, _%_, _<_, _≤_}
 use native.Mathlib.Omega.{arith}
 use native.Mathlib.Decide.{decLt}
-use lib.ListN.{length, getD, take}
+use lib.ListN.{length, getD, take, drop}
+use lib.Seq.{getD-drop}
 use Rattle.laws.specs.Residue.{Triple}
 use Rattle.laws.specs.Lattice.{rank, unrank, Before, before-rank, rank-lt, unrank-rank}
 use Rattle.laws.specs.Sorted.{Sorted, sorted-nil, sorted-cons}
@@ -29,6 +30,14 @@ fourBytes n = n / 256 / 256 / 256 ∷ n / 256 / 256 % 256 ∷ n / 256 % 256 ∷ 
 -- The number that the first four bytes say.
 unfoldable pub fourByteNumber : List ℕ → ℕ
 fourByteNumber bytes = (getD bytes 0 0 * 256 + getD bytes 1 0) * 65536 + (getD bytes 2 0 * 256 + getD bytes 3 0)
+
+-- So the bytes from a place on say it, each by its own place.
+pub third-item-bytes : (bytes : List ℕ) (at : ℕ)
+    → fourByteNumber (drop at bytes) ≡ (getD bytes at 0 * 256 + getD bytes (at + 1) 0) * 65536 + (getD bytes (at + 2) 0 * 256 + getD bytes (at + 3) 0)
+unfolding fourByteNumber
+third-item-bytes bytes at =
+    let first : at + 0 ≡ at = omega arith in
+    rw (getD-drop at bytes 0 0, getD-drop at bytes 1 0, getD-drop at bytes 2 0, getD-drop at bytes 3 0, first)
 
 -- The bytes of an item, and the item of the first four bytes.
 unfoldable pub numberedBytes : Item → List ℕ

@@ -13,9 +13,9 @@ ghost use Rattle.magnetic_record_reading.specs.Search.{itemsOf, itemAt, 
 ghost use Rattle.magnetic_record_reading.specs.Numbers.{Packed};
 use super::items::flag_at;
 use super::items::key_at;
-use super::items::operation_of;
 use super::items::plain_at;
 use centering::Centering;
+use group_record::items::operation_of_item;
 use operation::Operation;
 use operation::code::rotation_code;
 use operation::product::identity;
@@ -45,7 +45,10 @@ fn pack(bytes: &[u8], n: usize, numbers: &mut [u64; 96])
 {
     let mut i = 0usize;
     while i < n {
-        numbers[i] = number(operation_of(plain_at(bytes, i)), flag_at(bytes, i) as u64);
+        numbers[i] = number(
+            operation_of_item(plain_at(bytes, i)),
+            flag_at(bytes, i) as u64,
+        );
         i += 1;
     }
 }

@@ -2,15 +2,10 @@
 ghost use mathlib.Core.Path.{_≡_};
 ghost use Prim.Native.Nat.{_+_, _*_, _≤_};
 ghost use lib.ListN.{length};
-ghost use Rattle.group_record.specs.OperationItems.{operationOfItem};
 ghost use Rattle.magnetic_record.specs.SecondEdition.{magneticKey};
 ghost use Rattle.magnetic_record_reading.specs.Search.{itemAt};
 use group_record::items::Item;
-use operation::Operation;
 use operation::Translation;
-use operation::code::Decoded;
-use operation::code::rotation_of_code;
-use operation::product::identity;
 
 // The code, high byte first, then x y z; the flag stands behind them.
 pub(crate) fn plain_at(bytes: &[u8], i: usize) -> Item
@@ -41,23 +36,4 @@ pub(crate) fn key_at(bytes: &[u8], i: usize) -> u64
 {
     let item = plain_at(bytes, i);
     2 * item.code as u64 + flag_at(bytes, i) as u64
-}
-
-// A code over 19682 gives the identity; no record that is accepted has one.
-pub(crate) fn operation_of(item: Item) -> Operation
-    ensures { λ r. ⌜ r ≡ operationOfItem item ⌝ }
-{
-    let translation = item.translation;
-    let Decoded::Inside(rotation) = rotation_of_code(item.code) else {
-        let unit = identity();
-        let rotation = unit.rotation;
-        return Operation {
-            rotation,
-            translation,
-        };
-    };
-    Operation {
-        rotation,
-        translation,
-    }
 }

@@ -2,10 +2,8 @@
 ghost use mathlib.Core.Path.{_≡_};
 ghost use Prim.Native.Nat.{_+_, _*_, _≤_};
 ghost use lib.ListN.{length};
-ghost use Rattle.laws.specs.Lattice.{sameTriple};
 ghost use Rattle.laws.specs.Sorted.{ascending};
 ghost use Rattle.laws.specs.Truth.{all};
-ghost use Rattle.centering.specs.Lattices.{tripleOf};
 ghost use Rattle.group_record.specs.Editions.{fromEnd};
 ghost use Rattle.group_record.specs.Rules.{lengthFits, areGood};
 ghost use Rattle.magnetic_record.specs.Reading.{isMagneticItem, magneticRules};
@@ -21,7 +19,6 @@ use centering::Centering;
 use centering::Letter;
 use group_record::Refusal;
 use magnetic_record::MagneticReading;
-use operation::Translation;
 
 // The record of edition 2 that ends where the bytes end.
 pub fn read_record(bytes: &[u8]) -> MagneticReading
@@ -109,32 +106,15 @@ fn items_fit(bytes: &[u8], c: Centering, n: usize) -> bool
     true
 }
 
-// The smallest triple of a class is below 12, so a triple that is the smallest is.
+// An item of a plain record, and a flag.
 fn is_item(bytes: &[u8], c: Centering, i: usize) -> bool
     requires { ⌜ 6 * i + 6 ≤ length (now bytes) ⌝ }
     ensures { λ r. ⌜ r ≡ isMagneticItem c (itemAt (now (bytes .entry)) i) ⌝ }
 {
-    let item = plain_at(bytes, i);
-    if 19683 <= item.code {
-        return false;
-    }
-    let t = item.translation;
-    if !same(c.smallest(t), t) {
+    if !group_record::items::is_item(plain_at(bytes, i), c) {
         return false;
     }
     flag_at(bytes, i) <= 1
-}
-
-fn same(s: Translation, t: Translation) -> bool
-    ensures { λ r. ⌜ r ≡ sameTriple (tripleOf s) (tripleOf t) ⌝ }
-{
-    if s.x != t.x {
-        return false;
-    }
-    if s.y != t.y {
-        return false;
-    }
-    s.z == t.z
 }
 
 fn keys_ascend(bytes: &[u8], n: usize) -> bool

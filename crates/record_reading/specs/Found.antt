@@ -1,16 +1,20 @@
 -- What the reader finds at a buffer's end before the operations are laid out, and which group it stands for.
 use mathlib.Core.Path.{_≡_, refl, sym, _∙_, ap}
-use mathlib.Core.Bool.{Bool, true, false}
+use mathlib.Core.Bool.{Bool, true, false, cond, _&&_}
 use mathlib.Core.List.{List, map}
-use Prim.Native.Nat.{ℕ, _+_, _*_, _≤_}
+use Prim.Native.Nat.{ℕ, _+_, _*_, _-_, _≤_}
 use native.Mathlib.Omega.{arith}
-use lib.ListN.{length, drop, length-map}
+use lib.ListN.{length, drop, length-map, length-drop}
 use Rattle.centering.specs.declared.Centering.the-variants.{P}
 use Rattle.group_record.specs.Items.{itemsIn}
 use Rattle.group_record.specs.BothEditions.{widthIn}
-use Rattle.group_record.specs.Reading.{operationOfItem, slots, acceptedGroup, refusedGroup, areItems, isAllowed, bothRules}
-use Rattle.group_record.specs.Rules.{areGood, itemsTold}
-use Rattle.record_reading.specs.Search.{itemsOf, items-count, readItems, good-items}
+use Rattle.group_record.specs.Reading.{operationOfItem, slots, acceptedGroup, refusedGroup, areItems, isAllowed, groupOf}
+use Rattle.group_record.specs.Rules.{refused, holds, lengthFits, itemsTold}
+use Rattle.group_record.specs.Outcomes.{length-test}
+use Rattle.group_record.specs.declared.items.Item.{Item}
+use Rattle.record_items.specs.Items.{itemsOf, items-count}
+use Rattle.record_items.specs.Rules.{itemsThere, there-test, rulesAnswer, itemsAnswer}
+use Rattle.record_reading.specs.Trailer.{readItems, good-items}
 use Rattle.group_record.specs.declared.Edition.{Edition as Known}
 use Rattle.group_record.specs.declared.Edition.the-variants.{First}
 use Rattle.group_record.specs.declared.Refusal.{Refusal}
@@ -22,6 +26,13 @@ use Rattle.group_record.specs.declared.RecordGroup.{RecordGroup}
 use Rattle.group_record.specs.declared.sign.Sign.{Sign}
 use Rattle.group_record.specs.declared.sign.Sign.the-variants.{Plain}
 use Rattle.record_reading.specs.declared.reader.Found.{Found}
+
+-- What is accepted is not refused, and what is refused has one reason.
+accepted-alone : (why : Refusal) → ¬ (Accepted ≡ Refused why)
+accepted-alone why e = let z : _≡_ {A = ℕ} 0 1 = cc in absurd (omega arith)
+
+one-reason : (a b : Refusal) → Refused a ≡ Refused b → a ≡ b
+one-reason a b e = cc
 
 abbrev pub nothingFound : Refusal → Found
 nothingFound why = record { answer = Refused why; edition = First; sign = Plain P; count = 0; start = 0 }
@@ -77,33 +88,58 @@ stands-as s e = record { few = s .few; within = s .within; same = s .same ∙ sy
 pub nothing-found : {bytes : List ℕ} {f : Found} {h : RecordGroup} {why : Refusal} → f ≡ nothingFound why → h ≡ refusedGroup why → Stands bytes f h
 nothing-found {bytes} {f} {h} {why} e r = rw e (stands-as (nothing-stands bytes why) r)
 
--- ---- 34 and 35, tried on the part of the buffer that holds the items
-module _ (edition : Known) (s : Sign) (n : ℕ) (part rest : List ℕ) (lent : part ≡ rest) where
-  by-items : (b : Bool) → areItems (latticeOf s) (itemsOf edition n part) ≡ b → areGood bothRules edition s (itemsOf edition n rest) ≡ b
-  by-items b h = good-items edition s (itemsOf edition n rest) ∙ ap (λ (l : List ℕ). areItems (latticeOf s) (itemsOf edition n l)) (sym lent) ∙ h
+-- ---- 34 and 35
+-- What is told by what is answered of the items, and by the rule of layers.
+module _ (edition : Known) (s : Sign) (items : List Item) where
+  told-refused : (why : Refusal) → rulesAnswer (latticeOf s) items ≡ Refused why → readItems edition s items ≡ refusedGroup why
+  unfolding itemsTold rulesAnswer
+  told-refused why e = rw (good-items edition s items) (by (areItems (latticeOf s) items) (isAllowed (latticeOf s) items) e)
+    where
+      by : (good allowed : Bool) → cond good (cond allowed Accepted (Refused NotAllowed)) (Refused WrongItem) ≡ Refused why
+          → groupOf (cond good (cond (allowed && layersIf (isSmall s) (map operationOfItem items)) (holds edition s items) (refused NotAllowed))
+          (refused WrongItem)) ≡ refusedGroup why
+      by true true q = absurd (accepted-alone why q)
+      by true false q = ap refusedGroup (one-reason NotAllowed why q)
+      by false allowed q = ap refusedGroup (one-reason WrongItem why q)
 
-  by-group : (b : Bool) → isAllowed (latticeOf s) (itemsOf edition n part) ≡ b → isAllowed (latticeOf s) (itemsOf edition n rest) ≡ b
-  by-group b h = ap (λ (l : List ℕ). isAllowed (latticeOf s) (itemsOf edition n l)) (sym lent) ∙ h
+  told-layers : rulesAnswer (latticeOf s) items ≡ Accepted → (b : Bool) → layersIf (isSmall s) (map operationOfItem items) ≡ b
+      → readItems edition s items ≡ groupOf (cond b (holds edition s items) (refused NotAllowed))
+  unfolding itemsTold rulesAnswer
+  told-layers e b h = rw (good-items edition s items, h) (by (areItems (latticeOf s) items) (isAllowed (latticeOf s) items) e)
+    where
+      by : (good allowed : Bool) → cond good (cond allowed Accepted (Refused NotAllowed)) (Refused WrongItem) ≡ Accepted
+          → groupOf (cond good (cond (allowed && b) (holds edition s items) (refused NotAllowed)) (refused WrongItem))
+          ≡ groupOf (cond b (holds edition s items) (refused NotAllowed))
+      by true true q = refl
+      by true false q = absurd (accepted-alone NotAllowed (sym q))
+      by false allowed q = absurd (accepted-alone WrongItem (sym q))
+
+-- Where count and length fit, the items are there.
+pub items-there : (edition : Known) (n stated : ℕ) (bytes part : List ℕ) → part ≡ drop (length bytes - stated) bytes
+    → lengthFits (widthIn edition) 48 n stated (length bytes) ≡ true → itemsThere edition n part ≡ true
+items-there edition n stated bytes part lent fits =
+    let (one, few, right, within) = length-test _ _ _ _ _ .0 fits in
+    there-test edition n part .1 (one, few, rw (lent, length-drop) (omega arith))
+
+-- They are tried on the part of the buffer that holds the items.
+module _ (edition : Known) (s : Sign) (n : ℕ) (part rest : List ℕ) (lent : part ≡ rest) (there : itemsThere edition n part ≡ true) where
+  -- What was answered of the part, said of the rest of the buffer.
+  answer-by : (r : Reading) → itemsAnswer edition (latticeOf s) n part ≡ r → rulesAnswer (latticeOf s) (itemsOf edition n rest) ≡ r
+  unfolding itemsAnswer
+  answer-by r e = ap (λ (l : List ℕ). rulesAnswer (latticeOf s) (itemsOf edition n l)) (sym lent) ∙ rw there at e
 
   by-layers : (b : Bool) → layersIf (isSmall s) (map operationOfItem (itemsOf edition n part)) ≡ b
       → layersIf (isSmall s) (map operationOfItem (itemsOf edition n rest)) ≡ b
   by-layers b h = ap (λ (l : List ℕ). layersIf (isSmall s) (map operationOfItem (itemsOf edition n l))) (sym lent) ∙ h
 
-  pub items-wrong : areItems (latticeOf s) (itemsOf edition n part) ≡ false → readItems edition s (itemsOf edition n rest) ≡ refusedGroup WrongItem
-  unfolding itemsTold
-  items-wrong h = rw (by-items false h)
+  pub items-refused : (why : Refusal) → itemsAnswer edition (latticeOf s) n part ≡ Refused why → readItems edition s (itemsOf edition n rest) ≡ refusedGroup why
+  items-refused why e = told-refused edition s (itemsOf edition n rest) why (answer-by (Refused why) e)
 
-  module _ (h : areItems (latticeOf s) (itemsOf edition n part) ≡ true) where
-    pub items-barred : isAllowed (latticeOf s) (itemsOf edition n part) ≡ false → readItems edition s (itemsOf edition n rest) ≡ refusedGroup NotAllowed
-    unfolding itemsTold
-    items-barred k = rw (by-items true h, by-group false k)
-
-    pub layers-barred : isAllowed (latticeOf s) (itemsOf edition n part) ≡ true → layersIf (isSmall s) (map operationOfItem (itemsOf edition n part)) ≡ false
+  module _ (e : itemsAnswer edition (latticeOf s) n part ≡ Accepted) where
+    pub layers-barred : layersIf (isSmall s) (map operationOfItem (itemsOf edition n part)) ≡ false
         → readItems edition s (itemsOf edition n rest) ≡ refusedGroup NotAllowed
-    unfolding itemsTold
-    layers-barred k m = rw (by-items true h, by-group true k, by-layers false m)
+    layers-barred m = told-layers edition s (itemsOf edition n rest) (answer-by Accepted e) false (by-layers false m)
 
-    pub items-right : isAllowed (latticeOf s) (itemsOf edition n part) ≡ true → layersIf (isSmall s) (map operationOfItem (itemsOf edition n part)) ≡ true
+    pub items-right : layersIf (isSmall s) (map operationOfItem (itemsOf edition n part)) ≡ true
         → readItems edition s (itemsOf edition n rest) ≡ acceptedGroup edition s (map operationOfItem (itemsOf edition n rest))
-    unfolding itemsTold
-    items-right k m = rw (by-items true h, by-group true k, by-layers true m)
+    items-right m = told-layers edition s (itemsOf edition n rest) (answer-by Accepted e) true (by-layers true m)

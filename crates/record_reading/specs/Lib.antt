@@ -1,5 +1,4 @@
--- Reading records: what the code does with items, what it finds at the end of a buffer, and that few products decide what is allowed.
-pub mod Search
+-- Reading records: what the bytes before the end decide, how operations are laid out, and what is found at the end of a buffer.
+pub mod Trailer
+pub mod Slots
 pub mod Found
-pub mod Closing
-pub mod Parts

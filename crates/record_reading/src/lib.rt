@@ -1,4 +1,2 @@
 // Reading records: the rules of refusals 30 to 35, tried on the bytes as they stand.
-mod allowed;
-pub mod items;
 pub mod reader;

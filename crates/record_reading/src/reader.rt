@@ -2,23 +2,17 @@
 ghost use mathlib.Core.Path.{_≡_};
 ghost use Prim.Native.Nat.{_+_, _*_, _≤_};
 ghost use lib.ListN.{length, drop};
-ghost use Rattle.laws.specs.Lattice.{sameTriple};
-ghost use Rattle.laws.specs.Sorted.{ascending};
 ghost use Rattle.laws.specs.Truth.{all};
-ghost use Rattle.centering.specs.Lattices.{tripleOf};
-ghost use Rattle.group_record.specs.Reading.{operationOfItem, isItem, itemBefore, areItems, readOf, readFirstOf};
+ghost use Rattle.group_record.specs.Reading.{operationOfItem, readOf, readFirstOf};
 ghost use mathlib.Core.List.{map};
 ghost use Rattle.layer_group.specs.Layers.{isLayer};
 ghost use Rattle.group_record.specs.Signs.{layersIf};
 ghost use Rattle.group_record.specs.Editions.{fromEnd};
 ghost use Rattle.group_record.specs.BothEditions.{widthIn};
 ghost use Rattle.group_record.specs.Rules.{lengthFits};
-ghost use Rattle.record_reading.specs.Search.{itemsOf, itemAt, readCounted, readLettered};
+ghost use Rattle.record_items.specs.Items.{itemsOf};
+ghost use Rattle.record_reading.specs.Trailer.{readCounted, readLettered};
 ghost use Rattle.record_reading.specs.Found.{nothingFound, laidOut, Stands};
-use super::allowed::is_allowed;
-use super::items::item_at;
-use super::items::items_length;
-use super::items::operation_at;
 use centering::Centering;
 use centering::Letter;
 use group_record::Edition;
@@ -27,8 +21,10 @@ use group_record::RecordGroup;
 use group_record::Refusal;
 use group_record::sign::Sign;
 use layer_group::is_layer;
-use operation::Translation;
 use operation::product::identity;
+use record_items::items::items_length;
+use record_items::items::operation_in;
+use record_items::rules::items_answer;
 
 // What is found at a buffer's end: the answer, and of a record that is accepted the edition, the letter, the count and the place of its first item.
 struct Found {
@@ -145,22 +141,19 @@ fn find_counted(bytes: &[u8], edition: Edition, sign: Sign) -> Found
     let start = size - stated;
     let c = sign.lattice();
     let small = sign.is_small();
-    if !are_items(&bytes[start..], edition, c, n) {
-        return nothing(Refusal::WrongItem);
-    }
-    if !is_allowed(&bytes[start..], edition, c, n) {
-        return nothing(Refusal::NotAllowed);
-    }
-    if !are_layers(&bytes[start..], edition, small, n) {
-        return nothing(Refusal::NotAllowed);
-    }
-    Found {
-        answer: Reading::Accepted,
-        edition,
-        sign,
-        count: n,
-        start,
-    }
+    let Reading::Refused(why) = items_answer(&bytes[start..], edition, c, n) else {
+        if !are_layers(&bytes[start..], edition, small, n) {
+            return nothing(Refusal::NotAllowed);
+        }
+        return Found {
+            answer: Reading::Accepted,
+            edition,
+            sign,
+            count: n,
+            start,
+        };
+    };
+    nothing(why)
 }
 
 // 1 to 48 operations, and the stated length right and within the buffer.
@@ -180,71 +173,6 @@ fn length_fits(edition: Edition, n: usize, stated: usize, size: usize) -> bool
     total <= size
 }
 
-fn are_items(bytes: &[u8], edition: Edition, c: Centering, n: usize) -> bool
-    requires { ⌜ (1 ≤ n) × (n ≤ 48) × (widthIn edition * n ≤ length (now bytes)) ⌝ }
-    ensures { λ r. ⌜ r ≡ areItems c (itemsOf edition n (now (bytes .entry))) ⌝ }
-{
-    if !items_fit(bytes, edition, c, n) {
-        return false;
-    }
-    codes_ascend(bytes, edition, n)
-}
-
-fn items_fit(bytes: &[u8], edition: Edition, c: Centering, n: usize) -> bool
-    requires { ⌜ (n ≤ 48) × (widthIn edition * n ≤ length (now bytes)) ⌝ }
-    ensures { λ r. ⌜ r ≡ all (isItem c) (itemsOf edition n (now (bytes .entry))) ⌝ }
-{
-    let mut i = 0usize;
-    while i < n {
-        if !is_item(bytes, edition, c, i) {
-            return false;
-        }
-        i += 1;
-    }
-    true
-}
-
-// The smallest triple of a class is below 12, so a triple that is the smallest is.
-fn is_item(bytes: &[u8], edition: Edition, c: Centering, i: usize) -> bool
-    requires { ⌜ widthIn edition * i + widthIn edition ≤ length (now bytes) ⌝ }
-    ensures { λ r. ⌜ r ≡ isItem c (itemAt edition (now (bytes .entry)) i) ⌝ }
-{
-    let item = item_at(bytes, edition, i);
-    if 19683 <= item.code {
-        return false;
-    }
-    let t = item.translation;
-    same(c.smallest(t), t)
-}
-
-fn same(s: Translation, t: Translation) -> bool
-    ensures { λ r. ⌜ r ≡ sameTriple (tripleOf s) (tripleOf t) ⌝ }
-{
-    if s.x != t.x {
-        return false;
-    }
-    if s.y != t.y {
-        return false;
-    }
-    s.z == t.z
-}
-
-fn codes_ascend(bytes: &[u8], edition: Edition, n: usize) -> bool
-    requires { ⌜ (1 ≤ n) × (n ≤ 48) × (widthIn edition * n ≤ length (now bytes)) ⌝ }
-    ensures { λ r. ⌜ r ≡ ascending itemBefore (itemsOf edition n (now (bytes .entry))) ⌝ }
-{
-    let mut i = 0usize;
-    while i + 1 < n {
-        let item = item_at(bytes, edition, i);
-        let next = item_at(bytes, edition, i + 1);
-        if next.code <= item.code {
-            return false;
-        }
-        i += 1;
-    }
-    true
-}
-
 // Under a small letter every operation is one of a layer.
 fn are_layers(bytes: &[u8], edition: Edition, small: bool, n: usize) -> bool
     requires { ⌜ (n ≤ 48) × (widthIn edition * n ≤ length (now bytes)) ⌝ }
@@ -262,7 +190,7 @@ fn all_layers(bytes: &[u8], edition: Edition, n: usize) -> bool
 {
     let mut i = 0usize;
     while i < n {
-        if !is_layer(operation_at(bytes, edition, i)) {
+        if !is_layer(operation_in(bytes, edition, i as u8)) {
             return false;
         }
         i += 1;
@@ -277,7 +205,7 @@ fn laid_out(bytes: &[u8], answer: Reading, edition: Edition, sign: Sign, n: usiz
     let mut operations = [identity(); 48];
     let mut i = 0usize;
     while i < n {
-        operations[i] = operation_at(bytes, edition, i);
+        operations[i] = operation_in(bytes, edition, i as u8);
         i += 1;
     }
     RecordGroup {

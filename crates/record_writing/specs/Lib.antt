@@ -14,7 +14,8 @@ pub mod Moving
 pub mod OldSoftware
 pub mod Example
 pub mod ExampleText
--- What the code does with operations.
+-- What the code does with operations and with bytes.
 pub mod Selection
+pub mod Parts
 pub mod WrittenItems
 pub mod Writing

@@ -19,7 +19,7 @@ use Rattle.group_record.specs.Reading.{groupAnswer, refusedGroup, firstRules, r
 use Rattle.group_record.specs.OneRecord.{record-by-length}
 use Rattle.group_record.specs.Acceptance.{firstMeaning}
 use Rattle.group_record.specs.RefusalNumbers.{Refuses, told-refused, group-number}
-use Rattle.record_reading.specs.Search.{read-as-first, first-short, first-other-edition, first-by-letter}
+use Rattle.record_reading.specs.Trailer.{read-as-first, first-short, first-other-edition, first-by-letter}
 use Rattle.group_record.specs.declared.Edition.{Edition as Known}
 use Rattle.group_record.specs.declared.Edition.the-variants.{First, Third}
 use Rattle.group_record.specs.declared.Refusal.the-variants.{Short, WrongEdition}

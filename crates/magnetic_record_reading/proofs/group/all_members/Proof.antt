@@ -8,7 +8,7 @@ use Rattle.laws.specs.Truth.{all}
 use Rattle.magnetic_record.specs.SecondEdition.{magneticIn}
 use Rattle.magnetic_record.specs.Reading.{flaggedMember}
 use Rattle.magnetic_record_reading.specs.Search.{itemsOf}
-use Rattle.magnetic_record_reading.specs.Walk.{all-next, all-stop, all-end}
+use Rattle.group_record.specs.Walk.{all-next, all-stop, all-end}
 use Rattle.magnetic_record_reading.proofs.group.all_members.Statement.{statement}
 use Rattle.magnetic_record_reading.proofs.group.all_members.Tie as tie
 

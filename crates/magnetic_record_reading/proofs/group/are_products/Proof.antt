@@ -9,7 +9,7 @@ use Rattle.magnetic_record.specs.SecondEdition.{magneticIn}
 use Rattle.magnetic_record.specs.Reading.{flaggedPairListed}
 use Rattle.magnetic_record_reading.specs.Search.{itemsOf, itemAt}
 use Rattle.magnetic_record_reading.specs.Numbers.{pair-said}
-use Rattle.magnetic_record_reading.specs.Walk.{all-next, all-stop, all-end}
+use Rattle.group_record.specs.Walk.{all-next, all-stop, all-end}
 use Rattle.magnetic_record_reading.proofs.group.are_products.Statement.{statement}
 use Rattle.magnetic_record_reading.proofs.group.are_products.Tie as tie
 

@@ -24,8 +24,8 @@ loop-holds c = (omega arith, c .before .pre .1, λ k h. absurd (omega arith))
 plain-at-requires : tie.Need-plain-at-requires Inv-loop μ-loop
 plain-at-requires c κs = omega (arith, c .before .before .before .pre .0 .inside)
 
-operation-of-requires : tie.Need-operation-of-requires Inv-loop μ-loop
-operation-of-requires c κs = search needs
+operation-of-item-requires : tie.Need-operation-of-item-requires Inv-loop μ-loop
+operation-of-item-requires c κs = search needs
 
 flag-at-requires : tie.Need-flag-at-requires Inv-loop μ-loop
 flag-at-requires c κs = omega (arith, c .before .before .before .before .before .pre .0 .inside)
@@ -53,7 +53,7 @@ loop-again c =
     let s = c .before .before .before .before .before .before .before in
     let l = c .before .before .before .before .before .loop in
     let plain = c .before .before .before .plain-at .ensures in
-    let operation = c .before .before .operation-of .ensures ∙ ap operationOfItem plain in
+    let operation = c .before .before .operation-of-item .ensures ∙ ap operationOfItem plain in
     let made = c .number .ensures ∙ ap₂ (λ (o : Operation) (flag : ℕ). packedOf (narrowed o) (flag % 2)) operation (c .before .flag-at .ensures) in
     let said = item-said (itemAt (s .args .bytes .now) (l .i)) (s .pre .0 .fits (l .i) (omega arith)) (s .pre .0 .flag (l .i) (omega arith)) _ made in
     let inside : l .i < length (l .numbers) = omega (arith, l .inv .1, s .pre .0 .few) in
@@ -70,7 +70,7 @@ pack-spec =
     μ-loop
     loop-holds
     plain-at-requires
-    operation-of-requires
+    operation-of-item-requires
     flag-at-requires
     cast-number
     number-requires

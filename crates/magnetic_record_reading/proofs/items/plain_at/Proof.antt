@@ -1,7 +1,7 @@
 -- Five bytes, by their places.
 use Prim.Native.Nat.{_+_, _*_}
 use native.Mathlib.Omega.{arith}
-use Rattle.record_reading.specs.Search.{first-item-bytes}
+use Rattle.group_record.specs.FirstEdition.{first-item-bytes}
 use Rattle.magnetic_record.specs.SecondEdition.{magneticIn}
 use borrow.Author.Needs.{needs}
 use Rattle.magnetic_record_reading.proofs.items.plain_at.Statement.{statement}

@@ -8,7 +8,7 @@ use Rattle.laws.specs.Sorted.{ascending}
 use Rattle.magnetic_record.specs.SecondEdition.{magneticIn, magneticKey}
 use Rattle.magnetic_record.specs.Record.{keyBefore}
 use Rattle.magnetic_record_reading.specs.Search.{itemsOf, itemAt}
-use Rattle.magnetic_record_reading.specs.Walk.{ascending-next, ascending-stop, ascending-end}
+use Rattle.group_record.specs.Walk.{ascending-next, ascending-stop, ascending-end}
 use Rattle.magnetic_record_reading.proofs.reader.keys_ascend.Statement.{statement}
 use Rattle.magnetic_record_reading.proofs.reader.keys_ascend.Tie as tie
 

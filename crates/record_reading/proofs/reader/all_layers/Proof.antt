@@ -6,10 +6,11 @@ use lib.ListN.{drop}
 use borrow.Author.Tests.{not-true, not-false}
 use Rattle.laws.specs.Truth.{all}
 use Rattle.layer_group.specs.Layers.{isLayer}
-use Rattle.group_record.specs.BothEditions.{item-inside}
+use Rattle.group_record.specs.BothEditions.{editionOf, widthIn}
 use Rattle.group_record.specs.declared.items.Item.{Item}
 use Rattle.group_record.specs.Reading.{operationOfItem}
-use Rattle.record_reading.specs.Search.{itemsOf, all-next, all-stop, all-end}
+use Rattle.group_record.specs.Walk.{all-next, all-stop, all-end}
+use Rattle.record_items.specs.Items.{itemsOf, itemAt, operation-there}
 use borrow.Author.Needs.{needs}
 use Rattle.record_reading.proofs.reader.all_layers.Statement.{statement}
 use Rattle.record_reading.proofs.reader.all_layers.Tie as tie
@@ -26,21 +27,25 @@ abbrev μ-loop : tie.MeasureT-loop
 loop-holds : tie.Need-loop-holds Inv-loop μ-loop
 loop-holds c = (omega arith, refl)
 
-operation-at-requires : tie.Need-operation-at-requires Inv-loop μ-loop
-operation-at-requires c κs =
-    item-inside (c .before .before .before .args .edition) (c .before .loop .i) (c .before .before .before .args .n) _ (omega arith)
-    (c .before .before .before .pre .1)
+cast-operation-in : tie.Need-cast-operation-in Inv-loop μ-loop
+cast-operation-in c = omega arith
+
+operation-in-requires : tie.Need-operation-in-requires Inv-loop μ-loop
+operation-in-requires c κs = search needs
 
 is-layer-requires : tie.Need-is-layer-requires Inv-loop μ-loop
 is-layer-requires c κs = search needs
 
 returns : tie.Need-returns Inv-loop μ-loop
+unfolding itemAt
 returns c =
     let a = c .before .before .before .before .before .before .args in
+    let wide = c .before .before .before .before .before .before .pre .1 in
     let l = c .before .before .before .before .loop in
-    let said = sym (c .before .is-layer .ensures ∙ ap isLayer (c .before .before .operation-at .ensures)) in
-    sym (all-stop (a .edition) (a .n) (a .bytes .now) (λ (j : Item). isLayer (operationOfItem j)) (l .i) (omega arith)
-    (said ∙ not-true (c .before .is-layer .result) (c .if1 .taken))) ∙ l .inv .1
+    let there = operation-there (a .edition) (a .n) (l .i) (a .bytes .now) (omega arith) wide in
+    let said = sym (c .before .is-layer .ensures ∙ ap isLayer (c .before .before .operation-in .ensures ∙ there)) in
+    sym (all-stop (widthIn (a .edition)) (editionOf (a .edition) .read) (a .n) (a .bytes .now) (λ (j : Item). isLayer (operationOfItem j)) (l .i)
+    (omega arith) (said ∙ not-true (c .before .is-layer .result) (c .if1 .taken))) ∙ l .inv .1
 
 add-i : tie.Need-add-i Inv-loop μ-loop
 add-i c = omega arith
@@ -49,20 +54,24 @@ loop-less : tie.Need-loop-less Inv-loop μ-loop
 loop-less c = omega arith
 
 loop-again : tie.Need-loop-again Inv-loop μ-loop
+unfolding itemAt
 loop-again c =
     let a = c .before .before .before .before .before .before .args in
+    let wide = c .before .before .before .before .before .before .pre .1 in
     let l = c .before .before .before .before .loop in
-    let said = sym (c .before .is-layer .ensures ∙ ap isLayer (c .before .before .operation-at .ensures)) in (
+    let there = operation-there (a .edition) (a .n) (l .i) (a .bytes .now) (omega arith) wide in
+    let said = sym (c .before .is-layer .ensures ∙ ap isLayer (c .before .before .operation-in .ensures ∙ there)) in (
       omega arith,
-      sym (all-next (a .edition) (a .n) (a .bytes .now) (λ (j : Item). isLayer (operationOfItem j)) (l .i) (omega arith)
-          (said ∙ not-false (c .before .is-layer .result) (c .if1 .left))) ∙ l .inv .1,
+      sym (all-next (widthIn (a .edition)) (editionOf (a .edition) .read) (a .n) (a .bytes .now) (λ (j : Item). isLayer (operationOfItem j)) (l .i)
+          (omega arith) (said ∙ not-false (c .before .is-layer .result) (c .if1 .left))) ∙ l .inv .1,
     )
 
 returns-2 : tie.Need-returns-2 Inv-loop μ-loop
 returns-2 c =
     let a = c .before .before .before .args in
     let l = c .before .loop in
-    sym (all-end (a .edition) (a .n) (a .bytes .now) (λ (j : Item). isLayer (operationOfItem j)) (l .i) (omega arith) (omega arith)) ∙ l .inv .1
+    sym (all-end (widthIn (a .edition)) (editionOf (a .edition) .read) (a .n) (a .bytes .now) (λ (j : Item). isLayer (operationOfItem j)) (l .i)
+    (omega arith) (omega arith)) ∙ l .inv .1
 
 pub all-layers-spec : {M : Type 1} → statement M
 all-layers-spec =
@@ -71,7 +80,8 @@ all-layers-spec =
     Inv-loop
     μ-loop
     loop-holds
-    operation-at-requires
+    cast-operation-in
+    operation-in-requires
     is-layer-requires
     returns
     add-i

@@ -2,7 +2,7 @@
 use mathlib.Core.Path.{sym, _∙_}
 use borrow.Author.Tests.{not-true, not-false}
 use Rattle.layer_group.specs.Layers.{isLayer}
-use Rattle.record_reading.specs.Search.{all-operations}
+use Rattle.record_reading.specs.Slots.{all-operations}
 use borrow.Author.Needs.{needs}
 use Rattle.record_reading.proofs.reader.are_layers.Statement.{statement}
 use Rattle.record_reading.proofs.reader.are_layers.Tie as tie

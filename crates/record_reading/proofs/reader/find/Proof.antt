@@ -1,5 +1,5 @@
 -- Each early return is a rule of the reading, or what the edition leaves to be read.
-use Rattle.record_reading.specs.Search.{read-short, read-other-edition, read-as-first, read-as-third}
+use Rattle.record_reading.specs.Trailer.{read-short, read-other-edition, read-as-first, read-as-third}
 use Rattle.record_reading.specs.Found.{nothing-found, stands-as}
 use native.Mathlib.Omega.{arith}
 use borrow.Author.Needs.{needs}

@@ -1,17 +1,49 @@
 -- Where the length fits, the items are tried on the rest of the buffer from the record's start; what is found there stands for the group that is read.
-use Rattle.record_reading.specs.Search.{counted-fits, counted-fails}
 use Rattle.laws.specs.LentParts.{tail-part}
-use Rattle.record_reading.specs.Found.{nothing-found, stands-as, record-stands, items-wrong, items-barred, layers-barred, items-right}
+use Rattle.group_record.specs.BothEditions.{widthIn}
+use Rattle.group_record.specs.Editions.{fromEnd}
 use Rattle.group_record.specs.Outcomes.{length-test}
-use Rattle.group_record.specs.ReadingTests.{items-test}
-use lib.ListN.{length, length-drop}
+use Rattle.group_record.specs.Rules.{lengthFits}
+use Rattle.record_items.specs.Items.{itemsOf}
+use Rattle.record_items.specs.Rules.{there-test}
+use Rattle.record_reading.specs.Trailer.{readCounted, readItems, counted-fits, counted-fails}
+use Rattle.record_reading.specs.Found.{nothing-found, stands-as, record-stands, items-there, items-refused, layers-barred, items-right}
+use lib.ListN.{length, drop}
 use borrow.Author.Tests.{not-true, not-false}
 use native.Mathlib.Omega.{arith}
 use Prim.Native.Nat.{_+_, _*_, _-_}
-use mathlib.Core.Path.{sym, _∙_}
+use mathlib.Core.Bool.{true}
+use mathlib.Core.Path.{_≡_, sym, _∙_}
 use borrow.Author.Needs.{needs}
 use Rattle.record_reading.proofs.reader.find_counted.Statement.{statement}
 use Rattle.record_reading.proofs.reader.find_counted.Tie as tie
+
+-- Count and length fit,
+fits-at : (c : tie.After-is-small)
+    → lengthFits (widthIn (c .before .before .before .before .before .before .before .before .args .edition)) 48
+    (c .before .before .before .before .before .before .from-end .result)
+    (c .before .before .before .before .before .from-end2 .result * 256 + c .before .before .before .before .from-end3 .result)
+    (length (c .before .before .before .before .before .before .before .before .args .bytes .now)) ≡ true
+fits-at c = sym (c .before .before .before .length-fits .ensures) ∙ not-false (c .before .before .before .length-fits .result) (c .before .before .if1 .left)
+
+-- so the items decide.
+told-at : (c : tie.After-is-small)
+    → readCounted (c .before .before .before .before .before .before .before .before .args .edition)
+    (c .before .before .before .before .before .before .before .before .args .sign)
+    (fromEnd (c .before .before .before .before .before .before .before .before .args .bytes .now) 3)
+    (c .before .before .before .before .before .before .before .before .args .bytes .now)
+    ≡ readItems (c .before .before .before .before .before .before .before .before .args .edition)
+    (c .before .before .before .before .before .before .before .before .args .sign)
+    (itemsOf (c .before .before .before .before .before .before .before .before .args .edition)
+    (c .before .before .before .before .before .before .from-end .result)
+    (drop
+    (length (c .before .before .before .before .before .before .before .before .args .bytes .now)
+    - (c .before .before .before .before .before .from-end2 .result * 256 + c .before .before .before .before .from-end3 .result))
+    (c .before .before .before .before .before .before .before .before .args .bytes .now)))
+told-at c =
+    let a = c .before .before .before .before .before .before .before .before .args in
+    counted-fits (a .edition) (a .sign) (a .bytes .now) _ _ _ (c .before .before .before .before .before .before .from-end .ensures)
+    (c .before .before .before .before .before .from-end2 .ensures) (c .before .before .before .before .from-end3 .ensures) (fits-at c)
 
 from-end-requires : tie.Need-from-end-requires
 from-end-requires c κs = search needs
@@ -61,108 +93,23 @@ lattice-requires c κs = search needs
 is-small-requires : tie.Need-is-small-requires
 is-small-requires c κs = search needs
 
-sub-are-items : tie.Need-sub-are-items
-sub-are-items c = search needs
+sub-items-answer : tie.Need-sub-items-answer
+sub-items-answer c = search needs
 
-part-are-items-start : tie.Need-part-are-items-start
-part-are-items-start c = search needs
+part-items-answer-start : tie.Need-part-items-answer-start
+part-items-answer-start c = search needs
 
-part-are-items-end : tie.Need-part-are-items-end
-part-are-items-end c = search needs
+part-items-answer-end : tie.Need-part-items-answer-end
+part-items-answer-end c = search needs
 
-are-items-requires : tie.Need-are-items-requires
-are-items-requires c κs =
-    let a = c .before .before .before .before .before .before .before .before .before .args in
-    let fits =
-    length-test _ _ _ _ _ .0
-    (sym (c .before .before .before .before .length-fits .ensures)
-    ∙ not-false (c .before .before .before .before .length-fits .result) (c .before .before .before .if1 .left)) in (
-      fits .0,
-      fits .1,
-      rw (
-        tail-part (a .bytes .now)
-            (length (a .bytes .now)
-            - (c .before .before .before .before .before .before .from-end2 .result * 256 + c .before .before .before .before .before .from-end3 .result)),
-        length-drop,
-      ) (omega (arith, fits)),
-    )
+items-answer-requires : tie.Need-items-answer-requires
+items-answer-requires c κs = search needs
 
-nothing-requires-2 : tie.Need-nothing-requires-2
-nothing-requires-2 c κs = search needs
+enum-known-why : tie.Need-enum-known-why
+enum-known-why c = search needs
 
-returns-2 : tie.Need-returns-2
-returns-2 c =
-    let a = c .before .before .before .before .before .before .before .before .before .before .before .before .args in
-    let n = c .before .before .before .before .before .before .before .before .before .before .from-end .result in
-    let fits =
-    sym (c .before .before .before .before .before .before .before .length-fits .ensures)
-    ∙ not-false (c .before .before .before .before .before .before .before .length-fits .result)
-    (c .before .before .before .before .before .before .if1 .left) in
-    nothing-found (c .nothing2 .ensures)
-    (counted-fits (a .edition) (a .sign) (a .bytes .now) _ _ _
-    (c .before .before .before .before .before .before .before .before .before .before .from-end .ensures)
-    (c .before .before .before .before .before .before .before .before .before .from-end2 .ensures)
-    (c .before .before .before .before .before .before .before .before .from-end3 .ensures) fits
-    ∙ items-wrong (a .edition) (a .sign) n _ _
-    (tail-part (a .bytes .now)
-    (length (a .bytes .now)
-    - (c .before .before .before .before .before .before .before .before .before .from-end2 .result * 256
-    + c .before .before .before .before .before .before .before .before .from-end3 .result)))
-    (rw (← (c .before .before .before .before .before .lattice .ensures))
-    (sym (c .before .before .are-items .ensures) ∙ not-true (c .before .before .are-items .result) (c .before .if2 .taken))))
-
-sub-is-allowed : tie.Need-sub-is-allowed
-sub-is-allowed c = search needs
-
-part-is-allowed-start : tie.Need-part-is-allowed-start
-part-is-allowed-start c = search needs
-
-part-is-allowed-end : tie.Need-part-is-allowed-end
-part-is-allowed-end c = search needs
-
-is-allowed-requires : tie.Need-is-allowed-requires
-is-allowed-requires c κs =
-    let a = c .before .before .before .before .before .before .before .before .before .before .before .before .args in
-    let fits =
-    length-test _ _ _ _ _ .0 (sym (c .before .before .before .before .before .before .before .length-fits .ensures)
-    ∙ not-false (c .before .before .before .before .before .before .before .length-fits .result)
-    (c .before .before .before .before .before .before .if1 .left)) in (
-      fits .1,
-      rw (
-        tail-part (a .bytes .now)
-            (length (a .bytes .now)
-            - (c .before .before .before .before .before .before .before .before .before .from-end2 .result * 256
-            + c .before .before .before .before .before .before .before .before .from-end3 .result)),
-        length-drop,
-      ) (omega (arith, fits)),
-      items-test _ _ .0 (sym (c .before .before .are-items .ensures) ∙ not-false (c .before .before .are-items .result) (c .before .if2 .left)),
-    )
-
-nothing-requires-3 : tie.Need-nothing-requires-3
-nothing-requires-3 c κs = search needs
-
-returns-3 : tie.Need-returns-3
-returns-3 c =
-    let a = c .before .before .before .before .before .before .before .before .before .before .before .before .before .before .before .args in
-    let n = c .before .before .before .before .before .before .before .before .before .before .before .before .before .from-end .result in
-    let fits = sym (c .before .before .before .before .before .before .before .before .before .before .length-fits .ensures)
-    ∙ not-false (c .before .before .before .before .before .before .before .before .before .before .length-fits .result)
-    (c .before .before .before .before .before .before .before .before .before .if1 .left) in
-    nothing-found (c .nothing3 .ensures)
-    (counted-fits (a .edition) (a .sign) (a .bytes .now) _ _ _
-    (c .before .before .before .before .before .before .before .before .before .before .before .before .before .from-end .ensures)
-    (c .before .before .before .before .before .before .before .before .before .before .before .before .from-end2 .ensures)
-    (c .before .before .before .before .before .before .before .before .before .before .before .from-end3 .ensures) fits
-    ∙ items-barred (a .edition) (a .sign) n _ _
-    (tail-part (a .bytes .now)
-    (length (a .bytes .now)
-    - (c .before .before .before .before .before .before .before .before .before .before .before .before .from-end2 .result * 256
-    + c .before .before .before .before .before .before .before .before .before .before .before .from-end3 .result)))
-    (rw (← (c .before .before .before .before .before .before .before .before .lattice .ensures))
-    (sym (c .before .before .before .before .before .are-items .ensures)
-    ∙ not-false (c .before .before .before .before .before .are-items .result) (c .before .before .before .before .if2 .left)))
-    (rw (← (c .before .before .before .before .before .before .before .before .lattice .ensures))
-    (sym (c .before .before .is-allowed .ensures) ∙ not-true (c .before .before .is-allowed .result) (c .before .if3 .taken))))
+enum-told : tie.Need-enum-told
+enum-told c = search needs
 
 sub-are-layers : tie.Need-sub-are-layers
 sub-are-layers c = search needs
@@ -175,84 +122,62 @@ part-are-layers-end c = search needs
 
 are-layers-requires : tie.Need-are-layers-requires
 are-layers-requires c κs =
-    let a = c .before .before .before .before .before .before .before .before .before .before .before .before .before .before .before .args in
-    let fits =
-    length-test _ _ _ _ _ .0 (sym (c .before .before .before .before .before .before .before .before .before .before .length-fits .ensures)
-    ∙ not-false (c .before .before .before .before .before .before .before .before .before .before .length-fits .result)
-    (c .before .before .before .before .before .before .before .before .before .if1 .left)) in (
-      fits .1,
-      rw (
-        tail-part (a .bytes .now)
-            (length (a .bytes .now)
-            - (c .before .before .before .before .before .before .before .before .before .before .before .before .from-end2 .result * 256
-            + c .before .before .before .before .before .before .before .before .before .before .before .from-end3 .result)),
-        length-drop,
-      ) (omega (arith, fits)),
-    )
+    let s = c .before .before .before .before .before in
+    let a = s .before .before .before .before .before .before .before .before .args in
+    let n = s .before .before .before .before .before .before .from-end .result in
+    let stated = s .before .before .before .before .before .from-end2 .result * 256 + s .before .before .before .before .from-end3 .result in
+    let lent = tail-part (a .bytes .now) (length (a .bytes .now) - stated) in
+    let there = there-test (a .edition) n _ .0 (items-there (a .edition) n _ (a .bytes .now) _ lent (fits-at s)) in
+    (there .1, there .2)
 
-nothing-requires-4 : tie.Need-nothing-requires-4
-nothing-requires-4 c κs = search needs
+nothing-requires-2 : tie.Need-nothing-requires-2
+nothing-requires-2 c κs = search needs
+
+returns-2 : tie.Need-returns-2
+returns-2 c =
+    let s = c .before .before .before .before .before .before .before .before in
+    let a = s .before .before .before .before .before .before .before .before .args in
+    let n = s .before .before .before .before .before .before .from-end .result in
+    let stated = s .before .before .before .before .before .from-end2 .result * 256 + s .before .before .before .before .from-end3 .result in
+    let lent = tail-part (a .bytes .now) (length (a .bytes .now) - stated) in
+    nothing-found (c .nothing2 .ensures)
+    (told-at s
+    ∙ layers-barred (a .edition) (a .sign) n _ _ lent (items-there (a .edition) n _ (a .bytes .now) _ lent (fits-at s))
+    (rw (← (s .before .lattice .ensures))
+    (sym (c .before .before .before .before .before .before .items-answer .ensures) ∙ c .before .before .before .before .enum-told .given .1))
+    (rw (← (s .is-small .ensures))
+    (sym (c .before .before .are-layers .ensures) ∙ not-true (c .before .before .are-layers .result) (c .before .if2 .taken))))
+
+returns-3 : tie.Need-returns-3
+returns-3 c =
+    let s = c .before .before .before .before .before .before .before in
+    let a = s .before .before .before .before .before .before .before .before .args in
+    let n = s .before .before .before .before .before .before .from-end .result in
+    let stated = s .before .before .before .before .before .from-end2 .result * 256 + s .before .before .before .before .from-end3 .result in
+    let lent = tail-part (a .bytes .now) (length (a .bytes .now) - stated) in
+    let bounds = length-test _ _ _ _ _ .0 (fits-at s) in
+    stands-as (record-stands (a .bytes .now) (a .edition) (a .sign) n _ (bounds .1) (omega (arith, bounds)))
+    (told-at s
+    ∙ items-right (a .edition) (a .sign) n _ _ lent (items-there (a .edition) n _ (a .bytes .now) _ lent (fits-at s))
+    (rw (← (s .before .lattice .ensures))
+    (sym (c .before .before .before .before .before .items-answer .ensures) ∙ c .before .before .before .enum-told .given .1))
+    (rw (← (s .is-small .ensures)) (sym (c .before .are-layers .ensures) ∙ not-false (c .before .are-layers .result) (c .if2 .left))))
+
+nothing-requires-3 : tie.Need-nothing-requires-3
+nothing-requires-3 c κs = search needs
 
 returns-4 : tie.Need-returns-4
 returns-4 c =
-    let a =
-    c .before .before .before .before .before .before .before .before .before .before .before .before .before .before .before .before .before .before
-    .args in
-    let n =
-    c .before .before .before .before .before .before .before .before .before .before .before .before .before .before .before .before .from-end .result in
-    let fits = sym (c .before .before .before .before .before .before .before .before .before .before .before .before .before .length-fits .ensures)
-    ∙ not-false (c .before .before .before .before .before .before .before .before .before .before .before .before .before .length-fits .result)
-    (c .before .before .before .before .before .before .before .before .before .before .before .before .if1 .left) in
-    nothing-found (c .nothing4 .ensures)
-    (counted-fits (a .edition) (a .sign) (a .bytes .now) _ _ _
-    (c .before .before .before .before .before .before .before .before .before .before .before .before .before .before .before .before .from-end .ensures)
-    (c .before .before .before .before .before .before .before .before .before .before .before .before .before .before .before .from-end2 .ensures)
-    (c .before .before .before .before .before .before .before .before .before .before .before .before .before .before .from-end3 .ensures) fits
-    ∙ layers-barred (a .edition) (a .sign) n _ _
-    (tail-part (a .bytes .now)
-    (length (a .bytes .now)
-    - (c .before .before .before .before .before .before .before .before .before .before .before .before .before .before .before .from-end2 .result * 256
-    + c .before .before .before .before .before .before .before .before .before .before .before .before .before .before .from-end3 .result)))
-    (rw (← (c .before .before .before .before .before .before .before .before .before .before .before .lattice .ensures))
-    (sym (c .before .before .before .before .before .before .before .before .are-items .ensures)
-    ∙ not-false (c .before .before .before .before .before .before .before .before .are-items .result)
-    (c .before .before .before .before .before .before .before .if2 .left)))
-    (rw (← (c .before .before .before .before .before .before .before .before .before .before .before .lattice .ensures))
-    (sym (c .before .before .before .before .before .is-allowed .ensures)
-    ∙ not-false (c .before .before .before .before .before .is-allowed .result) (c .before .before .before .before .if3 .left)))
-    (rw (← (c .before .before .before .before .before .before .before .before .before .before .is-small .ensures))
-    (sym (c .before .before .are-layers .ensures) ∙ not-true (c .before .before .are-layers .result) (c .before .if4 .taken))))
-
-returns-5 : tie.Need-returns-5
-returns-5 c =
-    let a = c .before .before .before .before .before .before .before .before .before .before .before .before .before .before .before .before .before .args in
-    let n = c .before .before .before .before .before .before .before .before .before .before .before .before .before .before .before .from-end .result in
-    let fits = sym (c .before .before .before .before .before .before .before .before .before .before .before .before .length-fits .ensures)
-    ∙ not-false (c .before .before .before .before .before .before .before .before .before .before .before .before .length-fits .result)
-    (c .before .before .before .before .before .before .before .before .before .before .before .if1 .left) in
-    let bounds = length-test _ _ _ _ _ .0 fits in
-    stands-as (record-stands (a .bytes .now) (a .edition) (a .sign) n
-    (length (a .bytes .now)
-    - (c .before .before .before .before .before .before .before .before .before .before .before .before .before .before .from-end2 .result * 256
-    + c .before .before .before .before .before .before .before .before .before .before .before .before .before .from-end3 .result)) (bounds .1)
-    (omega (arith, bounds)))
-    (counted-fits (a .edition) (a .sign) (a .bytes .now) _ _ _
-    (c .before .before .before .before .before .before .before .before .before .before .before .before .before .before .before .from-end .ensures)
-    (c .before .before .before .before .before .before .before .before .before .before .before .before .before .before .from-end2 .ensures)
-    (c .before .before .before .before .before .before .before .before .before .before .before .before .before .from-end3 .ensures) fits
-    ∙ items-right (a .edition) (a .sign) n _ _
-    (tail-part (a .bytes .now)
-    (length (a .bytes .now)
-    - (c .before .before .before .before .before .before .before .before .before .before .before .before .before .before .from-end2 .result * 256
-    + c .before .before .before .before .before .before .before .before .before .before .before .before .before .from-end3 .result)))
-    (rw (← (c .before .before .before .before .before .before .before .before .before .before .lattice .ensures))
-    (sym (c .before .before .before .before .before .before .before .are-items .ensures)
-    ∙ not-false (c .before .before .before .before .before .before .before .are-items .result) (c .before .before .before .before .before .before .if2 .left)))
-    (rw (← (c .before .before .before .before .before .before .before .before .before .before .lattice .ensures))
-    (sym (c .before .before .before .before .is-allowed .ensures)
-    ∙ not-false (c .before .before .before .before .is-allowed .result) (c .before .before .before .if3 .left)))
-    (rw (← (c .before .before .before .before .before .before .before .before .before .is-small .ensures))
-    (sym (c .before .are-layers .ensures) ∙ not-false (c .before .are-layers .result) (c .if4 .left))))
+    let s = c .before .before .before .before .before .before in
+    let a = s .before .before .before .before .before .before .before .before .args in
+    let n = s .before .before .before .before .before .before .from-end .result in
+    let stated = s .before .before .before .before .before .from-end2 .result * 256 + s .before .before .before .before .from-end3 .result in
+    let lent = tail-part (a .bytes .now) (length (a .bytes .now) - stated) in
+    nothing-found (c .nothing3 .ensures)
+    (told-at s
+    ∙ items-refused (a .edition) (a .sign) n _ _ lent (items-there (a .edition) n _ (a .bytes .now) _ lent (fits-at s)) _
+    (rw (← (s .before .lattice .ensures))
+    (sym (c .before .before .before .before .items-answer .ensures) ∙ c .before .before .why .given .1)))
 
 pub find-counted-spec : {M : Type 1} → statement M
 find-counted-spec =
@@ -272,22 +197,18 @@ find-counted-spec =
     sub-start
     lattice-requires
     is-small-requires
-    sub-are-items
-    part-are-items-start
-    part-are-items-end
-    are-items-requires
-    nothing-requires-2
-    returns-2
-    sub-is-allowed
-    part-is-allowed-start
-    part-is-allowed-end
-    is-allowed-requires
-    nothing-requires-3
-    returns-3
+    sub-items-answer
+    part-items-answer-start
+    part-items-answer-end
+    items-answer-requires
+    enum-known-why
+    enum-told
     sub-are-layers
     part-are-layers-start
     part-are-layers-end
     are-layers-requires
-    nothing-requires-4
-    returns-4
-    returns-5)
+    nothing-requires-2
+    returns-2
+    returns-3
+    nothing-requires-3
+    returns-4)

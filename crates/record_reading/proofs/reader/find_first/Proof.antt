@@ -1,5 +1,5 @@
 -- Each early return is a rule of the reading; the last call is what the edition leaves to be read.
-use Rattle.record_reading.specs.Search.{first-short, first-other-edition, first-by-letter}
+use Rattle.record_reading.specs.Trailer.{first-short, first-other-edition, first-by-letter}
 use Rattle.record_reading.specs.Found.{nothing-found, stands-as}
 use native.Mathlib.Omega.{arith}
 use borrow.Author.Needs.{needs}

@@ -3,7 +3,7 @@ use mathlib.Core.Path.{sym, _∙_, ap}
 use Rattle.centering.specs.Letters.{letterOf}
 use Rattle.group_record.specs.Editions.{fromEnd}
 use Rattle.record_reading.specs.Found.{nothing-found, stands-as}
-use Rattle.record_reading.specs.Search.{lettered-p, lettered-c, lettered-plain, lettered-none}
+use Rattle.record_reading.specs.Trailer.{lettered-p, lettered-c, lettered-plain, lettered-none}
 use borrow.Author.Needs.{needs}
 use Rattle.record_reading.proofs.reader.find_lettered.Statement.{statement}
 use Rattle.record_reading.proofs.reader.find_lettered.Tie as tie

@@ -1,11 +1,11 @@
-use Rattle.group_record.specs.BothEditions.{item-inside}
 -- The loop's invariant: the first slots hold the operations read so far, the others the identity. The measure is what is left.
 use mathlib.Core.Path.{_≡_, sym, _∙_}
 use Prim.Native.Nat.{_-_, _≤_}
 use native.Mathlib.Omega.{arith}
 use borrow.Author.Needs.{needs}
+use Rattle.record_items.specs.Items.{operation-there}
 use Rattle.record_reading.specs.Found.{laidOut}
-use Rattle.record_reading.specs.Search.{filledTo, filled-next, filled-start, filled-end}
+use Rattle.record_reading.specs.Slots.{filledTo, filled-next, filled-start, filled-end}
 use Rattle.record_reading.proofs.reader.laid_out.Statement.{statement}
 use Rattle.record_reading.proofs.reader.laid_out.Tie as tie
 
@@ -24,10 +24,11 @@ loop-holds c = (
   rw (c .identity .ensures) (sym (filled-start (c .before .before .args .edition) (c .before .before .args .n) (c .before .before .args .bytes .now))),
 )
 
-operation-at-requires : tie.Need-operation-at-requires Inv-loop μ-loop
-operation-at-requires c κs =
-    item-inside (c .before .before .before .before .args .edition) (c .before .loop .i) (c .before .before .before .before .args .n) _ (omega arith)
-    (c .before .before .before .before .pre .1)
+cast-operation-in : tie.Need-cast-operation-in Inv-loop μ-loop
+cast-operation-in c = omega arith
+
+operation-in-requires : tie.Need-operation-in-requires Inv-loop μ-loop
+operation-in-requires c κs = search needs
 
 mul-operations : tie.Need-mul-operations Inv-loop μ-loop
 mul-operations c = omega arith
@@ -44,9 +45,11 @@ loop-less c = omega arith
 loop-again : tie.Need-loop-again Inv-loop μ-loop
 loop-again c =
     let a = c .before .before .before .before .before .args in
-    let l = c .before .before .loop in (
+    let wide = c .before .before .before .before .before .pre .1 in
+    let l = c .before .before .loop in
+    let there = operation-there (a .edition) (a .n) (l .i) (a .bytes .now) (omega arith) wide in (
       omega arith,
-      rw (l .inv .1, c .operation-at .ensures) (filled-next (a .edition) (a .n) (a .bytes .now) (l .i) (omega arith) (omega arith)),
+      rw (l .inv .1, c .operation-in .ensures ∙ there) (filled-next (a .edition) (a .n) (a .bytes .now) (l .i) (omega arith) (omega arith)),
     )
 
 is-small-requires : tie.Need-is-small-requires Inv-loop μ-loop
@@ -78,7 +81,8 @@ laid-out-spec =
     μ-loop
     identity-requires
     loop-holds
-    operation-at-requires
+    cast-operation-in
+    operation-in-requires
     mul-operations
     array-set-from-operations
     add-i
