@@ -3,7 +3,7 @@ ghost use mathlib.Core.Path.{_≡_};
 ghost use mathlib.Core.List.{List};
 ghost use Prim.Native.Nat.{ℕ};
 ghost use Rattle.finite_group.specs.Answers.{identityAnswer, subgroupsAnswer, subgroupsBytes, classesAnswer, classesBytes, conjugateEntry, normalizerEntry, permutationEntry, permutationList, conjugatesEntry, conjugatesList, conjugatorsList};
-ghost use Rattle.motion_group.specs.Answers.{motionAnswer, onSymbol, bytesOnSymbol};
+ghost use Rattle.motion_tables.specs.Answers.{motionAnswer, onSymbol, bytesOnSymbol};
 ghost use Rattle.answer_numbers.specs.Packing.{packed};
 
 #[no_mangle]

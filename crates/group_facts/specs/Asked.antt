@@ -16,9 +16,9 @@ use Rattle.table_check.specs.CheckAnswers.{Accepts}
 use Rattle.table_check.specs.declared.Answer.{Answer as TableAnswer}
 use Rattle.table_check.specs.declared.Answer.the-variants as table-answers
 use Rattle.motion_group.specs.Accepted.{symbol-table-accepted, record-table-accepted}
-use Rattle.motion_group.specs.Answers.{symbolRefusal, recordRefusal, ofTable, onSymbol, onRecord}
-use Rattle.motion_group.specs.declared.Answer.{Answer}
-use Rattle.motion_group.specs.declared.Answer.the-variants.{Value, Refused}
+use Rattle.motion_tables.specs.Answers.{symbolRefusal, recordRefusal, ofTable, onSymbol, onRecord}
+use Rattle.motion_tables.specs.declared.Answer.{Answer}
+use Rattle.motion_tables.specs.declared.Answer.the-variants.{Value, Refused}
 
 -- a value of a table is told as a value, and nothing else is
 pub told-value : (a : TableAnswer) (k : ℕ) → ofTable a ≡ Value k → a ≡ table-answers.Value k

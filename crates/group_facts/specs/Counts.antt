@@ -34,9 +34,9 @@ use Rattle.table_check.specs.TableVerdict.{checked-table}
 use Rattle.table_check.specs.declared.Answer.{Answer as TableAnswer}
 use Rattle.table_check.specs.declared.Answer.the-variants as table-answers
 use Rattle.table_check.specs.declared.Refusal.the-variants as table-refusals
-use Rattle.motion_group.specs.Answers.{onSymbol, onRecord}
-use Rattle.motion_group.specs.declared.Answer.{Answer}
-use Rattle.motion_group.specs.declared.Answer.the-variants.{Value}
+use Rattle.motion_tables.specs.Answers.{onSymbol, onRecord}
+use Rattle.motion_tables.specs.declared.Answer.{Answer}
+use Rattle.motion_tables.specs.declared.Answer.the-variants.{Value}
 use Rattle.group_facts.specs.Asked.{Asked, told-value, symbol-asked, record-asked}
 
 -- the first k entries of p are the positions of h's members, each once, and they move products to products

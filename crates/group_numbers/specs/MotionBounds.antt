@@ -11,8 +11,8 @@ use Rattle.group_record.specs.declared.Reading.the-variants as reading
 use Rattle.group_table.specs.Tables.{orderOfRecordBy, orderOfRecord, symbolCells, recordCells}
 use Rattle.table_check.specs.declared.Answer as table
 use Rattle.table_check.specs.declared.Answer.the-variants as table-variant
-use Rattle.motion_group.specs.Answers.{motionAnswer, ofTable, onSource, ofSymbol, onSymbol, ofRecord, onRecord}
-use Rattle.motion_group.specs.declared.Answer.{Answer}
+use Rattle.motion_tables.specs.Answers.{motionAnswer, ofTable, onSource, ofSymbol, onSymbol, ofRecord, onRecord}
+use Rattle.motion_tables.specs.declared.Answer.{Answer}
 use Rattle.answer_numbers.specs.Packing.{packed, Within, Low}
 use Rattle.record_numbers.specs.RecordBounds.{record-told}
 use Rattle.symbol_numbers.specs.SymbolBounds.{symbol-told}

@@ -1,6 +1,6 @@
 // How an answer on the group of a symbol or a record is handed on.
 ghost use mathlib.Core.Path.{_≡_};
-ghost use Rattle.motion_group.specs.Answers.{motionAnswer};
+ghost use Rattle.motion_tables.specs.Answers.{motionAnswer};
 ghost use Rattle.group_numbers.specs.MotionBounds.{Tellable};
 ghost use Rattle.answer_numbers.specs.Packing.{packed};
 use answer_numbers::refused;

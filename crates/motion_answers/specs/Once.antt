@@ -14,10 +14,10 @@ use Rattle.finite_group.specs.Answers as group
 use Rattle.table_check.specs.declared.Refusal as group-refusal
 use Rattle.table_check.specs.declared.Refusal.the-variants as group-refusals
 use Rattle.table_answers.specs.Once.{number-once}
-use Rattle.motion_group.specs.Answers.{symbolRefusal, recordRefusal, tableRefusal, motionAnswer}
-use Rattle.motion_group.specs.declared.Answer.{Answer}
-use Rattle.motion_group.specs.declared.Answer.the-variants.{Value, Refused}
-use Rattle.motion_group.specs.declared.Refusal.{Refusal}
+use Rattle.motion_tables.specs.Answers.{symbolRefusal, recordRefusal, tableRefusal, motionAnswer}
+use Rattle.motion_tables.specs.declared.Answer.{Answer}
+use Rattle.motion_tables.specs.declared.Answer.the-variants.{Value, Refused}
+use Rattle.motion_tables.specs.declared.Refusal.{Refusal}
 
 -- the numbers of tables
 group-number : (r : group-refusal.Refusal) → (21 ≤ group.numberOf r) × (group.numberOf r ≤ 29)

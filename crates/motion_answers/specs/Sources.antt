@@ -23,8 +23,8 @@ use Rattle.table_check.specs.TableVerdict.{checked-table}
 use Rattle.table_check.specs.declared.Answer as table
 use Rattle.table_check.specs.declared.Answer.the-variants.{Value, Refused}
 use Rattle.motion_group.specs.Accepted.{record-table-accepted}
-use Rattle.motion_group.specs.Answers.{motionAnswer, ofTable, onSymbol, bytesOnSymbol, onRecord, bytesOnRecord}
-use Rattle.motion_group.specs.declared.Answer.{Answer}
+use Rattle.motion_tables.specs.Answers.{motionAnswer, ofTable, onSymbol, bytesOnSymbol, onRecord, bytesOnRecord}
+use Rattle.motion_tables.specs.declared.Answer.{Answer}
 use Rattle.table_answers.specs.Entries.{subgroupsAsked, classesAsked, conjugateAsked, normalizerAsked, permutationAsked, conjugatesAsked, identity-exactly, subgroups-exactly, subgroups-left, classes-exactly, classes-left, conjugate-exactly, normalizer-exactly, permutation-exactly, permutation-left, conjugates-exactly, conjugates-left, conjugators-left}
 use Rattle.table_answers.specs.OnGroup.{OnGroup, on-group}
 use Rattle.table_answers.specs.Reasons.{Question, Exactly, Leaves}

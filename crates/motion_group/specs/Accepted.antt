@@ -1,9 +1,9 @@
 -- The tables of symbols and records are those of groups: the check of a table accepts them, and they fit the lent slots.
 use mathlib.Core.Path.{_≡_, refl, sym, _∙_, ap, subst}
 use mathlib.Core.List.{List}
-use Prim.Native.Nat.{ℕ, _*_, _≤_}
+use Prim.Native.Nat.{ℕ, _*_, _-_, _≤_}
 use native.Mathlib.Omega.{arith}
-use lib.ListN.{length, take, length-take}
+use lib.ListN.{length, take}
 use Rattle.symbol_group.specs.Answers.{orderOf}
 use Rattle.symbol_group.specs.declared.SymbolOrder.{SymbolOrder}
 use Rattle.symbol_group.specs.declared.SymbolOrder.the-variants as symbol-order
@@ -21,10 +21,12 @@ use Rattle.finite_group.specs.Answers.{identityAnswer}
 use Rattle.table_check.specs.CheckAnswers.{Accepts}
 use Rattle.table_check.specs.TableVerdict.{accepted-exactly}
 use Rattle.table_check.specs.declared.Answer.the-variants as group-answers
-use Rattle.motion_group.specs.Answers.{ofSymbol, ofRecord}
+use Rattle.motion_tables.specs.Answers.{symbolRefusal, recordRefusal, endOf, filledFrom, ofSymbol, ofRecord}
+use Rattle.motion_tables.specs.Orders.{symbol-end, record-end}
+use Rattle.motion_tables.specs.declared.Filled.{Filled}
+use Rattle.motion_tables.specs.declared.Refusal.{Refusal}
+use Rattle.motion_tables.specs.declared.Source.the-variants.{Group, Refused}
 use Rattle.motion_group.specs.Cells.{Holds}
-use Rattle.motion_group.specs.declared.table.Source.{Source}
-use Rattle.motion_group.specs.declared.table.Source.the-variants.{Group}
 
 -- ---- the check
 table-accepted : (n e : ℕ) (t : List ℕ) → GroupTable n t e → Accepts n t e
@@ -48,9 +50,9 @@ unfolding orderOfRecord
 order-read bytes g e = ap (λ (h : RecordGroup). orderOfRecordBy (h .answer) (h .count)) (sym e)
 
 -- ---- the slots
--- What was filled is what was given.
-pub filled-holds : {given s : Source} {table cells filled : List ℕ} → given ≡ s → cells ≡ filled → Holds s table filled → (given ≡ s) × Holds given table cells
-filled-holds e same h = (e, rw (e, same) h)
+-- A part from the start on is so many first cells.
+from-start : (k : ℕ) (l : List ℕ) → take (k - 0) l ≡ take k l
+from-start k l = let same : k - 0 ≡ k = omega arith in ap (λ (j : ℕ). take j l) same
 
 module _ (n e : ℕ) (table lent : List ℕ) (T : GroupTable n table e) (wide : 2304 ≤ length lent) where
   abbrev cells : List ℕ
@@ -59,28 +61,49 @@ module _ (n e : ℕ) (table lent : List ℕ) (T : GroupTable n table e) (wide : 
   front : take (n * n) cells ≡ table
   front = subst (λ (k : ℕ). take k cells ≡ table) (T .cells .size) (laid-front table lent (omega (arith, T .cells .size, square-limit n (T .cells .limit))))
 
-  pub laid-holds : (n ≤ 48) × (n * n ≤ length cells) × (take (n * n) cells ≡ table)
-  laid-holds = (T .cells .limit, omega (arith, length-take (n * n) cells, ap length front, T .cells .size), front)
+  laid-holds : Holds (filledFrom (Group n)) table cells
+  laid-holds = record { front = λ m same. from-start (n * n) cells ∙ front }
+
+none-holds : (r : Refusal) (table cells : List ℕ) → Holds (filledFrom (Refused r)) table cells
+none-holds r table cells = record { front = λ n e. let z : _≡_ {A = ℕ} 0 1 = cc in absurd (omega arith) }
+
+-- There are slots for the largest table.
+pub every-slot : 2304 ≤ 2304
+every-slot = omega arith
+
+-- What was filled is what was given.
+pub filled-holds : {given f : Filled} {table cells filled : List ℕ} → (given ≡ f) × (cells ≡ filled) → Holds f table filled
+    → (given .source ≡ f .source) × Holds given table cells
+filled-holds (e, same) h = (ap (λ (g : Filled). g .source) e, rw (e, same) h)
 
 -- The slots hold the table of an accepted symbol,
-pub symbol-holds : (text lent : List ℕ) → 2304 ≤ length lent → Holds (ofSymbol (orderOf text)) (symbolCells text) (laid (symbolCells text) lent)
-symbol-holds text lent wide = record { first = λ n e. by-order n (orderOf text) refl e }
+pub symbol-holds : (text lent : List ℕ) → 2304 ≤ length lent → Holds (filledFrom (ofSymbol (orderOf text))) (symbolCells text) (laid (symbolCells text) lent)
+symbol-holds text lent wide = by-order (orderOf text) refl
   where
-    by-order : (n : ℕ) (o : SymbolOrder) → orderOf text ≡ o → ofSymbol o ≡ Group n → (n ≤ 48) × (n * n ≤ length (laid (symbolCells text) lent))
-        × (take (n * n) (laid (symbolCells text) lent) ≡ symbolCells text)
-    by-order n (symbol-order.Is m) p e =
-        let same : m ≡ n = cc in
-        laid-holds n 0 (symbolCells text) lent (symbol-cells-group text n (p ∙ ap symbol-order.Is same)) wide
-    by-order n (symbol-order.Refused r) p e = let z : _≡_ {A = ℕ} 0 1 = cc in absurd (omega arith)
+    by-order : (o : SymbolOrder) → orderOf text ≡ o → Holds (filledFrom (ofSymbol o)) (symbolCells text) (laid (symbolCells text) lent)
+    by-order (symbol-order.Is n) p = laid-holds n 0 (symbolCells text) lent (symbol-cells-group text n p) wide
+    by-order (symbol-order.Refused r) p = none-holds (symbolRefusal r) (symbolCells text) (laid (symbolCells text) lent)
 
 -- and of a record that is read.
 pub record-holds : (bytes lent : List ℕ) → Bytes bytes → 2304 ≤ length lent
-    → Holds (ofRecord (orderOfRecord bytes)) (recordCells bytes) (laid (recordCells bytes) lent)
-record-holds bytes lent b wide = record { first = λ n e. by-order n (orderOfRecord bytes) refl e }
+    → Holds (filledFrom (ofRecord (orderOfRecord bytes))) (recordCells bytes) (laid (recordCells bytes) lent)
+record-holds bytes lent b wide = by-order (orderOfRecord bytes) refl
   where
-    by-order : (n : ℕ) (o : RecordOrder) → orderOfRecord bytes ≡ o → ofRecord o ≡ Group n → (n ≤ 48) × (n * n ≤ length (laid (recordCells bytes) lent))
-        × (take (n * n) (laid (recordCells bytes) lent) ≡ recordCells bytes)
-    by-order n (record-order.Is m) p e =
-        let same : m ≡ n = cc in
-        laid-holds n _ (recordCells bytes) lent (record-cells-group bytes b n (p ∙ ap record-order.Is same)) wide
-    by-order n (record-order.Refused r) p e = let z : _≡_ {A = ℕ} 0 1 = cc in absurd (omega arith)
+    by-order : (o : RecordOrder) → orderOfRecord bytes ≡ o → Holds (filledFrom (ofRecord o)) (recordCells bytes) (laid (recordCells bytes) lent)
+    by-order (record-order.Is n) p = laid-holds n _ (recordCells bytes) lent (record-cells-group bytes b n p) wide
+    by-order (record-order.Refused r) p = none-holds (recordRefusal r) (recordCells bytes) (laid (recordCells bytes) lent)
+
+-- A table ends within 2304 cells.
+pub symbol-inside : (text : List ℕ) {given : Filled} → given ≡ filledFrom (ofSymbol (orderOf text)) → given .end ≤ 2304
+symbol-inside text e = rw e (by-order (orderOf text) refl)
+  where
+    by-order : (o : SymbolOrder) → orderOf text ≡ o → endOf (ofSymbol o) ≤ 2304
+    by-order (symbol-order.Is n) p = symbol-end text n p
+    by-order (symbol-order.Refused r) p = omega arith
+
+pub record-inside : (bytes : List ℕ) → Bytes bytes → {given : Filled} → given ≡ filledFrom (ofRecord (orderOfRecord bytes)) → given .end ≤ 2304
+record-inside bytes b e = rw e (by-order (orderOfRecord bytes) refl)
+  where
+    by-order : (o : RecordOrder) → orderOfRecord bytes ≡ o → endOf (ofRecord o) ≤ 2304
+    by-order (record-order.Is n) p = record-end bytes b n p
+    by-order (record-order.Refused r) p = omega arith

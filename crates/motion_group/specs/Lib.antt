@@ -1,5 +1,3 @@
--- What is answered on the groups of symbols and records.
-pub mod Answers
 -- The cells of their tables: at the front of lent slots, and accepted by the check of a table.
 pub mod Cells
 pub mod Accepted

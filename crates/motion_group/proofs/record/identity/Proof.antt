@@ -1,9 +1,11 @@
 -- What is answered on the cells is what is answered on the record's table.
 use mathlib.Core.List.{List}
 use Prim.Native.Nat.{ℕ}
+use native.Mathlib.Omega.{arith}
 use borrow.Author.Needs.{needs}
 use Rattle.finite_group.specs.Answers.{identityAnswer}
-use Rattle.motion_group.specs.Cells.{holds-fits, asked}
+use Rattle.motion_group.specs.Accepted.{every-slot, filled-holds, record-holds, record-inside}
+use Rattle.motion_group.specs.Cells.{asked}
 use Rattle.motion_group.proofs.record.identity.Statement.{statement}
 use Rattle.motion_group.proofs.record.identity.Tie as tie
 
@@ -13,17 +15,26 @@ slice-aggregate-table c = search needs
 table-requires : tie.Need-table-requires
 table-requires c κs = search needs
 
-slice-aggregate-identity-in : tie.Need-slice-aggregate-identity-in
-slice-aggregate-identity-in c = search needs
+sub-identity-in : tie.Need-sub-identity-in
+sub-identity-in c = search needs
+
+part-identity-in-start : tie.Need-part-identity-in-start
+part-identity-in-start c = search needs
+
+part-identity-in-end : tie.Need-part-identity-in-end
+part-identity-in-end c =
+    let filling = c .before .before in
+    omega (arith, record-inside _ (λ i. omega (arith, filling .before .before .shared-slice-known .given i)) (filling .table .ensures .0))
 
 identity-in-requires : tie.Need-identity-in-requires
-identity-in-requires c κs = holds-fits (c .before .before .table .ensures .1)
+identity-in-requires c κs = search needs
 
 returns : tie.Need-returns
 returns c =
-    let called = c in
-    let filled = called .before .before .before .table .ensures in
-    asked filled (λ (n : ℕ) (t : List ℕ). identityAnswer n t) (called .identity-in .ensures)
+    let filling = c .before .before .before .before in
+    let filled = filled-holds (filling .table .ensures)
+    (record-holds _ _ (λ i. omega (arith, filling .before .before .shared-slice-known .given i)) every-slot) in
+    asked filled (λ (n : ℕ) (t : List ℕ). identityAnswer n t) (c .identity-in .ensures)
 
 pub identity-spec : {M : Type 1} → statement M
 identity-spec =
@@ -31,6 +42,8 @@ identity-spec =
     (tie.spec
     slice-aggregate-table
     table-requires
-    slice-aggregate-identity-in
+    sub-identity-in
+    part-identity-in-start
+    part-identity-in-end
     identity-in-requires
     returns)

@@ -1,9 +1,11 @@
 -- What is answered on the cells is what is answered on the symbol's table.
 use mathlib.Core.List.{List}
 use Prim.Native.Nat.{ℕ}
+use native.Mathlib.Omega.{arith}
 use borrow.Author.Needs.{needs}
 use Rattle.finite_group.specs.Answers.{conjugatesEntry, conjugatesList, conjugatorsList}
-use Rattle.motion_group.specs.Cells.{holds-fits, asked, lent-asked}
+use Rattle.motion_group.specs.Accepted.{every-slot, filled-holds, symbol-holds, symbol-inside}
+use Rattle.motion_group.specs.Cells.{asked, lent-asked}
 use Rattle.motion_group.proofs.symbol.conjugates.Statement.{statement}
 use Rattle.motion_group.proofs.symbol.conjugates.Tie as tie
 
@@ -13,11 +15,19 @@ slice-aggregate-table c = search needs
 table-requires : tie.Need-table-requires
 table-requires c κs = search needs
 
-slice-aggregate-conjugates-in : tie.Need-slice-aggregate-conjugates-in
-slice-aggregate-conjugates-in c = search needs
+sub-conjugates-in : tie.Need-sub-conjugates-in
+sub-conjugates-in c = search needs
+
+part-conjugates-in-start : tie.Need-part-conjugates-in-start
+part-conjugates-in-start c = search needs
+
+part-conjugates-in-end : tie.Need-part-conjugates-in-end
+part-conjugates-in-end c =
+    let filling = c .before .before in
+    omega (arith, symbol-inside _ (filling .table .ensures .0))
 
 conjugates-in-requires : tie.Need-conjugates-in-requires
-conjugates-in-requires c κs = holds-fits (c .before .before .before .before .table .ensures .1)
+conjugates-in-requires c κs = search needs
 
 same-length : tie.Need-same-length
 same-length c = search needs
@@ -28,8 +38,9 @@ same-length-2 c = search needs
 returns : tie.Need-returns
 returns c =
     let called = c .before .before .before .before in
-    let filled = called .before .before .before .before .before .table .ensures in
-    let asks = called .before .before .before .before .before .before .before .before .before .before .args in (
+    let filling = called .before .before .before .before .before .before in
+    let filled = filled-holds (filling .table .ensures) (symbol-holds _ _ every-slot) in
+    let asks = filling .before .before .before .before .before .args in (
       asked filled (λ (n : ℕ) (t : List ℕ). conjugatesEntry n t (asks .set) (asks .sets .now) (asks .conjugators .now)) (called .conjugates-in .ensures .0),
       lent-asked filled (asks .sets .now) (λ (n : ℕ) (t : List ℕ). conjugatesList n t (asks .set) (asks .sets .now)
           (asks .conjugators .now)) (called .conjugates-in .ensures .1),
@@ -43,7 +54,9 @@ conjugates-spec =
     (tie.spec
     slice-aggregate-table
     table-requires
-    slice-aggregate-conjugates-in
+    sub-conjugates-in
+    part-conjugates-in-start
+    part-conjugates-in-end
     conjugates-in-requires
     same-length
     same-length-2

@@ -1,9 +1,11 @@
 -- What is answered on the cells is what is answered on the symbol's table.
 use mathlib.Core.List.{List}
 use Prim.Native.Nat.{ℕ}
+use native.Mathlib.Omega.{arith}
 use borrow.Author.Needs.{needs}
 use Rattle.finite_group.specs.Answers.{normalizerEntry}
-use Rattle.motion_group.specs.Cells.{holds-fits, asked}
+use Rattle.motion_group.specs.Accepted.{every-slot, filled-holds, symbol-holds, symbol-inside}
+use Rattle.motion_group.specs.Cells.{asked}
 use Rattle.motion_group.proofs.symbol.normalizer.Statement.{statement}
 use Rattle.motion_group.proofs.symbol.normalizer.Tie as tie
 
@@ -13,18 +15,26 @@ slice-aggregate-table c = search needs
 table-requires : tie.Need-table-requires
 table-requires c κs = search needs
 
-slice-aggregate-normalizer-in : tie.Need-slice-aggregate-normalizer-in
-slice-aggregate-normalizer-in c = search needs
+sub-normalizer-in : tie.Need-sub-normalizer-in
+sub-normalizer-in c = search needs
+
+part-normalizer-in-start : tie.Need-part-normalizer-in-start
+part-normalizer-in-start c = search needs
+
+part-normalizer-in-end : tie.Need-part-normalizer-in-end
+part-normalizer-in-end c =
+    let filling = c .before .before in
+    omega (arith, symbol-inside _ (filling .table .ensures .0))
 
 normalizer-in-requires : tie.Need-normalizer-in-requires
-normalizer-in-requires c κs = holds-fits (c .before .before .table .ensures .1)
+normalizer-in-requires c κs = search needs
 
 returns : tie.Need-returns
 returns c =
-    let called = c in
-    let filled = called .before .before .before .table .ensures in
-    let asks = called .before .before .before .before .before .before .args in
-    asked filled (λ (n : ℕ) (t : List ℕ). normalizerEntry n t (asks .set)) (called .normalizer-in .ensures)
+    let filling = c .before .before .before .before in
+    let filled = filled-holds (filling .table .ensures) (symbol-holds _ _ every-slot) in
+    let asks = filling .before .before .before .args in
+    asked filled (λ (n : ℕ) (t : List ℕ). normalizerEntry n t (asks .set)) (c .normalizer-in .ensures)
 
 pub normalizer-spec : {M : Type 1} → statement M
 normalizer-spec =
@@ -32,6 +42,8 @@ normalizer-spec =
     (tie.spec
     slice-aggregate-table
     table-requires
-    slice-aggregate-normalizer-in
+    sub-normalizer-in
+    part-normalizer-in-start
+    part-normalizer-in-end
     normalizer-in-requires
     returns)

@@ -1,9 +1,11 @@
 -- What is answered on the cells is what is answered on the symbol's table.
 use mathlib.Core.List.{List}
 use Prim.Native.Nat.{ℕ}
+use native.Mathlib.Omega.{arith}
 use borrow.Author.Needs.{needs}
 use Rattle.finite_group.specs.Answers.{permutationEntry, permutationList}
-use Rattle.motion_group.specs.Cells.{holds-fits, asked, lent-asked}
+use Rattle.motion_group.specs.Accepted.{every-slot, filled-holds, symbol-holds, symbol-inside}
+use Rattle.motion_group.specs.Cells.{asked, lent-asked}
 use Rattle.motion_group.proofs.symbol.normalizer_action.Statement.{statement}
 use Rattle.motion_group.proofs.symbol.normalizer_action.Tie as tie
 
@@ -13,11 +15,19 @@ slice-aggregate-table c = search needs
 table-requires : tie.Need-table-requires
 table-requires c κs = search needs
 
-slice-aggregate-permutation-in : tie.Need-slice-aggregate-permutation-in
-slice-aggregate-permutation-in c = search needs
+sub-permutation-in : tie.Need-sub-permutation-in
+sub-permutation-in c = search needs
+
+part-permutation-in-start : tie.Need-part-permutation-in-start
+part-permutation-in-start c = search needs
+
+part-permutation-in-end : tie.Need-part-permutation-in-end
+part-permutation-in-end c =
+    let filling = c .before .before in
+    omega (arith, symbol-inside _ (filling .table .ensures .0))
 
 permutation-in-requires : tie.Need-permutation-in-requires
-permutation-in-requires c κs = holds-fits (c .before .before .before .table .ensures .1)
+permutation-in-requires c κs = search needs
 
 same-length : tie.Need-same-length
 same-length c = search needs
@@ -25,8 +35,9 @@ same-length c = search needs
 returns : tie.Need-returns
 returns c =
     let called = c .before .before in
-    let filled = called .before .before .before .before .table .ensures in
-    let asks = called .before .before .before .before .before .before .before .before .args in (
+    let filling = called .before .before .before .before .before in
+    let filled = filled-holds (filling .table .ensures) (symbol-holds _ _ every-slot) in
+    let asks = filling .before .before .before .before .args in (
       asked filled (λ (n : ℕ) (t : List ℕ). permutationEntry n t (asks .set) (asks .element) (asks .positions .now)) (called .permutation-in .ensures .0),
       lent-asked filled (asks .positions .now) (λ (n : ℕ) (t : List ℕ). permutationList n t (asks .set) (asks .element)
           (asks .positions .now)) (called .permutation-in .ensures .1),
@@ -38,7 +49,9 @@ normalizer-action-spec =
     (tie.spec
     slice-aggregate-table
     table-requires
-    slice-aggregate-permutation-in
+    sub-permutation-in
+    part-permutation-in-start
+    part-permutation-in-end
     permutation-in-requires
     same-length
     returns)
