@@ -8,30 +8,36 @@ import os
 import sys
 
 
-def fault(crate, edit):
-    """What is wrong with an edit, or nothing."""
+class Unfit(Exception):
+    """Why an edit does not fit."""
+
+
+def edited(crate, edit):
+    """The files of a crate's folder that an edit changes, with the texts that it makes of them."""
     texts, name, old, pairs = {}, None, None, 0
     with open(edit) as lines:
         for line in lines.read().split("\n"):
             if line.startswith("file: "):
                 name = line[len("file: "):]
-                path = os.path.join("crates", crate, name)
+                path = os.path.join(crate, name)
                 if not os.path.exists(path):
-                    return f"there is no {path}"
+                    raise Unfit(f"there is no {path}")
                 texts.setdefault(name, open(path).read())
             elif line.startswith("old: "):
                 old = line[len("old: "):]
             elif line.startswith("new:"):
                 new = line[len("new:"):].removeprefix(" ")
                 if old is None or name is None:
-                    return "a new text without an old one or a file"
+                    raise Unfit("a new text without an old one or a file")
                 if texts[name].count(old) != 1:
-                    return f"its old text stands {texts[name].count(old)} times in {name}: {old}"
+                    raise Unfit(f"its old text stands {texts[name].count(old)} times in {name}: {old}")
                 if old == new:
-                    return f"it changes nothing in {name}"
+                    raise Unfit(f"it changes nothing in {name}")
                 texts[name] = texts[name].replace(old, new)
                 old, pairs = None, pairs + 1
-    return None if pairs else "it has no pair of old and new"
+    if not pairs:
+        raise Unfit("it has no pair of old and new")
+    return texts
 
 
 def main():
@@ -40,8 +46,9 @@ def main():
     edits += [(path.split(os.sep)[2], path) for path in glob.glob("tests/edits/*/*.edit")]
     failed = 0
     for crate, path in sorted(edits):
-        wrong = fault(crate, path)
-        if wrong:
+        try:
+            edited(os.path.join("crates", crate), path)
+        except Unfit as wrong:
             failed += 1
             print(f"{path}: {wrong}")
     print(f"{len(edits) - failed} passed, {failed} failed")

@@ -12,13 +12,13 @@ import sys
 UNFIT = re.compile(r"has no `Need-|is not in scope|no such (?:module|name)|unknown name|cannot find")
 
 
-def reason(log):
-    """The first error of a log, in short."""
-    with open(log, errors="replace") as lines:
-        for line in lines:
-            if ": error" in line:
-                return line.strip()
-    return ""
+def judged(log):
+    """Whether what the prover said of a crate that it did not prove shows a fact that fails, and that in words."""
+    first = next((line.strip() for line in log.split("\n") if ": error" in line), "")
+    if not first or UNFIT.search(first):
+        return False, f"refused, but not by a fact: {first[:300]}"
+    place = re.search(r"((?:src|specs|proofs)/[^ ]*?\.(?:antt|rt)):(\d+)", first)
+    return True, f"refused at {place.group(1)}:{place.group(2)}" if place else "refused"
 
 
 def main(words):
@@ -26,16 +26,10 @@ def main(words):
     failed = passed = 0
     for result in sorted(glob.glob(os.path.join(root, "target/must-fail/*/*.res"))):
         name = "/".join(result[: -len(".res")].split(os.sep)[-2:])
-        first = reason(os.path.join(result[: -len(".res")], ".log"))
-        with open(result) as said:
-            refused = said.read().strip() == "refused"
-        if refused and first and not UNFIT.search(first):
-            passed += 1
-            place = re.search(r"((?:src|specs|proofs)/[^ ]*?\.(?:antt|rt)):(\d+)", first)
-            print(f"{name}: refused at {place.group(1)}:{place.group(2)}" if place else f"{name}: refused")
-        else:
-            failed += 1
-            print(f"{name}: {'refused, but not by a fact: ' + first[:300] if refused else 'NOT REFUSED'}")
+        with open(result) as said, open(os.path.join(result[: -len(".res")], ".log"), errors="replace") as log:
+            good, words = judged(log.read()) if said.read().strip() == "refused" else (False, "NOT REFUSED")
+        passed, failed = passed + good, failed + (not good)
+        print(f"{name}: {words}")
     print(f"{passed} passed, {failed} failed")
     return 1 if failed or not passed else 0
 
