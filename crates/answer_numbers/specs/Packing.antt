@@ -28,6 +28,10 @@ placeLimit = 4294967296
 abbrev pub toldNumber : ℕ → ℕ → ℕ
 toldNumber number place = number * topByte + place % placeLimit
 
+-- One of two equal outcomes is packed as the other.
+pub packed-as : {A : Type 0} (answer : A → Answer ℕ Nothing) {r : ℕ} {a b : A} → r ≡ packed (answer a) → a ≡ b → r ≡ packed (answer b)
+packed-as answer e same = e ∙ ap (λ x. packed (answer x)) same
+
 -- An answer with something made of its value.
 abbrev pub mapped : {A B : Type 0} → (A → B) → Answer A Nothing → Answer B Nothing
 mapped f (given value) = given (f value)
@@ -145,7 +149,8 @@ pub letters : Numbers AnyLetter byteOf
 letters = record { low = λ c _. letter-low c; once = λ c d _ _ e. byte-injective c d e }
 
 -- The number says the code and the coordinates,
-number-parts : (a b c d e f g h : ℕ) → b < 12 → c < 12 → d < 12 → f < 12 → g < 12 → h < 12 → a * 1728 + b * 144 + c * 12 + d ≡ e * 1728 + f * 144 + g * 12 + h → (a ≡ e) × (b ≡ f) × (c ≡ g) × (d ≡ h)
+number-parts : (a b c d e f g h : ℕ) → b < 12 → c < 12 → d < 12 → f < 12 → g < 12 → h < 12 → a * 1728 + b * 144 + c * 12 + d ≡ e * 1728 + f * 144 + g * 12 + h
+    → (a ≡ e) × (b ≡ f) × (c ≡ g) × (d ≡ h)
 number-parts a b c d e f g h hb hc hd hf hg hh same = (omega arith, omega arith, omega arith, omega arith)
 
 -- which stay below 19683 · 1728,
@@ -155,7 +160,8 @@ operation-low o r = omega (arith, code-lt (o .rotation) (r .digits))
 -- and an operation is told by them,
 operation-once : (o p : Operation) → Reduced o → Reduced p → operationNumber o ≡ operationNumber p → o ≡ p
 operation-once o p r s e =
-    let (codes, x, y, z) = number-parts (codeOf (o .rotation)) (o .translation .x) (o .translation .y) (o .translation .z) (codeOf (p .rotation)) (p .translation .x) (p .translation .y) (p .translation .z) (r .x) (r .y) (r .z) (s .x) (s .y) (s .z) e in
+    let (codes, x, y, z) = number-parts (codeOf (o .rotation)) (o .translation .x) (o .translation .y) (o .translation .z) (codeOf (p .rotation))
+    (p .translation .x) (p .translation .y) (p .translation .z) (r .x) (r .y) (r .z) (s .x) (s .y) (s .z) e in
     let turns : o .rotation ≡ p .rotation = code-injective (o .rotation) (p .rotation) (r .digits) (s .digits) codes in
     λ i. record { rotation = turns i; translation = record { x = x i; y = y i; z = z i } }
 

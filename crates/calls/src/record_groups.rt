@@ -43,9 +43,12 @@ pub extern "C" fn symmetry_record_conjugates(
     sets: &mut [u8],
     conjugators: &mut [u8],
 ) -> u64
-    ensures { λ r. ⌜ (r ≡ packed (motionAnswer (onRecord (now (bytes .entry)) (λ (n : ℕ) (t : List ℕ). conjugatesEntry n t set (now (sets .entry)) (now (conjugators .entry))))))
-        × (now (sets .exit) ≡ bytesOnRecord (now (bytes .entry)) (now (sets .entry)) (λ (n : ℕ) (t : List ℕ). conjugatesList n t set (now (sets .entry)) (now (conjugators .entry))))
-        × (now (conjugators .exit) ≡ bytesOnRecord (now (bytes .entry)) (now (conjugators .entry)) (λ (n : ℕ) (t : List ℕ). conjugatorsList n t set (now (sets .entry)) (now (conjugators .entry)))) ⌝ }
+    ensures { λ r. ⌜ (r ≡ packed (motionAnswer (onRecord (now (bytes .entry))
+        (λ (n : ℕ) (t : List ℕ). conjugatesEntry n t set (now (sets .entry)) (now (conjugators .entry))))))
+        × (now (sets .exit) ≡ bytesOnRecord (now (bytes .entry)) (now (sets .entry))
+        (λ (n : ℕ) (t : List ℕ). conjugatesList n t set (now (sets .entry)) (now (conjugators .entry))))
+        × (now (conjugators .exit) ≡ bytesOnRecord (now (bytes .entry)) (now (conjugators .entry))
+        (λ (n : ℕ) (t : List ℕ). conjugatorsList n t set (now (sets .entry)) (now (conjugators .entry)))) ⌝ }
 {
     group_numbers::record::conjugates(bytes, set, sets, conjugators)
 }
@@ -64,8 +67,10 @@ pub extern "C" fn symmetry_record_permutation(
     element: u64,
     positions: &mut [u8],
 ) -> u64
-    ensures { λ r. ⌜ (r ≡ packed (motionAnswer (onRecord (now (bytes .entry)) (λ (n : ℕ) (t : List ℕ). permutationEntry n t set element (now (positions .entry))))))
-        × (now (positions .exit) ≡ bytesOnRecord (now (bytes .entry)) (now (positions .entry)) (λ (n : ℕ) (t : List ℕ). permutationList n t set element (now (positions .entry)))) ⌝ }
+    ensures { λ r. ⌜ (r ≡ packed (motionAnswer (onRecord (now (bytes .entry))
+        (λ (n : ℕ) (t : List ℕ). permutationEntry n t set element (now (positions .entry))))))
+        × (now (positions .exit) ≡ bytesOnRecord (now (bytes .entry)) (now (positions .entry))
+        (λ (n : ℕ) (t : List ℕ). permutationList n t set element (now (positions .entry)))) ⌝ }
 {
     group_numbers::record::permutation(bytes, set, element, positions)
 }

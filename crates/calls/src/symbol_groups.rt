@@ -43,9 +43,12 @@ pub extern "C" fn symmetry_symbol_conjugates(
     sets: &mut [u8],
     conjugators: &mut [u8],
 ) -> u64
-    ensures { λ r. ⌜ (r ≡ packed (motionAnswer (onSymbol (now (text .entry)) (λ (n : ℕ) (t : List ℕ). conjugatesEntry n t set (now (sets .entry)) (now (conjugators .entry))))))
-        × (now (sets .exit) ≡ bytesOnSymbol (now (text .entry)) (now (sets .entry)) (λ (n : ℕ) (t : List ℕ). conjugatesList n t set (now (sets .entry)) (now (conjugators .entry))))
-        × (now (conjugators .exit) ≡ bytesOnSymbol (now (text .entry)) (now (conjugators .entry)) (λ (n : ℕ) (t : List ℕ). conjugatorsList n t set (now (sets .entry)) (now (conjugators .entry)))) ⌝ }
+    ensures { λ r. ⌜ (r ≡ packed (motionAnswer (onSymbol (now (text .entry))
+        (λ (n : ℕ) (t : List ℕ). conjugatesEntry n t set (now (sets .entry)) (now (conjugators .entry))))))
+        × (now (sets .exit) ≡ bytesOnSymbol (now (text .entry)) (now (sets .entry))
+        (λ (n : ℕ) (t : List ℕ). conjugatesList n t set (now (sets .entry)) (now (conjugators .entry))))
+        × (now (conjugators .exit) ≡ bytesOnSymbol (now (text .entry)) (now (conjugators .entry))
+        (λ (n : ℕ) (t : List ℕ). conjugatorsList n t set (now (sets .entry)) (now (conjugators .entry)))) ⌝ }
 {
     group_numbers::symbol::conjugates(text, set, sets, conjugators)
 }
@@ -64,8 +67,10 @@ pub extern "C" fn symmetry_symbol_permutation(
     element: u64,
     positions: &mut [u8],
 ) -> u64
-    ensures { λ r. ⌜ (r ≡ packed (motionAnswer (onSymbol (now (text .entry)) (λ (n : ℕ) (t : List ℕ). permutationEntry n t set element (now (positions .entry))))))
-        × (now (positions .exit) ≡ bytesOnSymbol (now (text .entry)) (now (positions .entry)) (λ (n : ℕ) (t : List ℕ). permutationList n t set element (now (positions .entry)))) ⌝ }
+    ensures { λ r. ⌜ (r ≡ packed (motionAnswer (onSymbol (now (text .entry))
+        (λ (n : ℕ) (t : List ℕ). permutationEntry n t set element (now (positions .entry))))))
+        × (now (positions .exit) ≡ bytesOnSymbol (now (text .entry)) (now (positions .entry))
+        (λ (n : ℕ) (t : List ℕ). permutationList n t set element (now (positions .entry)))) ⌝ }
 {
     group_numbers::symbol::permutation(text, set, element, positions)
 }

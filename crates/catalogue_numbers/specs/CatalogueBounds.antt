@@ -75,7 +75,8 @@ steps = record { low = step-low; once = step-once }
 
 -- ---- what is answered is short
 -- For a line, by the answer of its symbol's group, and by the room for the record.
-record-by : (text : List ℕ) (start size : ℕ) (a : symbol-answer.Answer) → symbolAnswer text .answer ≡ a → Short (line (symbolRecordAnswer (writtenBy a (symbolAnswer text .count) start size)))
+record-by : (text : List ℕ) (start size : ℕ) (a : symbol-answer.Answer) → symbolAnswer text .answer ≡ a
+    → Short (line (symbolRecordAnswer (writtenBy a (symbolAnswer text .count) start size)))
 record-by text start size Group e = by-room (roomFor start (symbolAnswer text .count) size)
   where
     by-room : (b : Bool) → Short (line (symbolRecordAnswer (cond b (Written (symbolAnswer text .count)) NoRoom)))
@@ -98,7 +99,9 @@ unfolding pieceStep
 piece-short c piece out =
     by-tests (ltb mostAtOnce (length piece)) (isEnded c) (keeping (stored (c .bytes) (keptBehind (lineSoFar c) (partOf piece)))) refl
   where
-    by-tests : (t u : Bool) (then : Catalogue) → ltb mostAtOnce (length piece) ≡ t → Tellable (cond t (refusing LongPiece c) (cond u (refusing AfterEnd c) (record { answer = toldBy (takenOf piece) (handedOver (lineSoFar c) (partOf piece)) out; catalogue = then })) .answer)
+    by-tests : (t u : Bool) (then : Catalogue) → ltb mostAtOnce (length piece) ≡ t
+        → Tellable (cond t (refusing LongPiece c) (cond u (refusing AfterEnd c)
+        (record { answer = toldBy (takenOf piece) (handedOver (lineSoFar c) (partOf piece)) out; catalogue = then })) .answer)
     by-tests true u then e = near (omega arith) (omega arith) (omega arith)
     by-tests false true then e = near (omega arith) (omega arith) (omega arith)
     by-tests false false then e =
@@ -110,7 +113,8 @@ pub end-short : (c : Catalogue) (out : List ℕ) → Tellable (endStep c out .an
 unfolding endStep
 end-short c out = by-test (isEnded c) (endedIn (c .bytes))
   where
-    by-test : (t : Bool) (then : Catalogue) → Tellable (cond t (refusing AfterEnd c) (record { answer = toldBy 0 (lastLine (lineSoFar c)) out; catalogue = then }) .answer)
+    by-test : (t : Bool) (then : Catalogue)
+        → Tellable (cond t (refusing AfterEnd c) (record { answer = toldBy 0 (lastLine (lineSoFar c)) out; catalogue = then }) .answer)
     by-test true then = near (omega arith) (omega arith) (omega arith)
     by-test false then = told-short 0 (lastLine (lineSoFar c)) out (omega arith)
 

@@ -42,7 +42,8 @@ state-places state h = length-take-le 80 (drop 1 state) (omega (arith, length-dr
 abbrev pub foundSoFar : List ℕ → ℕ → List ℕ
 foundSoFar state n = copied (replicate 80 0) (drop 1 state) n
 
-pub found-more : (state bytes : List ℕ) (n : ℕ) → stateLength ≤ length state → n < 80 → bytes ≡ foundSoFar state n → set bytes n (getD state (n + 1) 0) ≡ foundSoFar state (n + 1)
+pub found-more : (state bytes : List ℕ) (n : ℕ) → stateLength ≤ length state → n < 80 → bytes ≡ foundSoFar state n
+    → set bytes n (getD state (n + 1) 0) ≡ foundSoFar state (n + 1)
 found-more state bytes n long less e =
     let byte : getD state (n + 1) 0 ≡ getD (drop 1 state) n 0 = ap (λ (k : ℕ). getD state k 0) (omega arith) ∙ sym (getD-drop 1 state n 0) in
     ap₂ (λ (l : List ℕ) (b : ℕ). set l n b) e byte ∙ copied-more (replicate 80 0) (drop 1 state) n (omega arith) (omega (arith, length-drop 1 state))
@@ -58,19 +59,22 @@ pub put-none : (state bytes : List ℕ) → 0 < length state → state ≡ putSo
 put-none [] bytes h = absurd (omega arith)
 put-none (b ∷ state) bytes h = refl
 
-pub put-more : (state bytes now : List ℕ) (n : ℕ) → stateLength ≤ length state → length bytes ≡ 80 → n < 80 → now ≡ putSoFar state bytes n → set now (n + 1) (getD bytes n 0) ≡ putSoFar state bytes (n + 1)
+pub put-more : (state bytes now : List ℕ) (n : ℕ) → stateLength ≤ length state → length bytes ≡ 80 → n < 80 → now ≡ putSoFar state bytes n
+    → set now (n + 1) (getD bytes n 0) ≡ putSoFar state bytes (n + 1)
 put-more state bytes now n long places less e =
     let byte = getD bytes n 0 in
     ap₂ (λ (l : List ℕ) (k : ℕ). set l k byte) e (add-one n)
     ∙ ap (λ (l : List ℕ). getD state 0 0 ∷ l) (copied-more (drop 1 state) bytes n (omega (arith, length-drop 1 state)) (omega arith))
 
-pub put-length : (state bytes now : List ℕ) (n : ℕ) → stateLength ≤ length state → length bytes ≡ 80 → n ≤ 80 → now ≡ putSoFar state bytes n → length now ≡ length state
+pub put-length : (state bytes now : List ℕ) (n : ℕ) → stateLength ≤ length state → length bytes ≡ 80 → n ≤ 80 → now ≡ putSoFar state bytes n
+    → length now ≡ length state
 put-length state bytes now n long places few e =
     ap length e ∙ ap suc (length-append (take n bytes) (drop n (drop 1 state)))
     ∙ omega (arith, length-take-le n bytes (omega arith), length-drop n (drop 1 state), length-drop 1 state)
 
 -- The status is put there first.
-pub put-all : (c : Catalogue) → length (c .bytes) ≡ 80 → (state now : List ℕ) → 0 < length state → now ≡ putSoFar (set state 0 (c .status)) (c .bytes) 80 → now ≡ putBack c state
+pub put-all : (c : Catalogue) → length (c .bytes) ≡ 80 → (state now : List ℕ) → 0 < length state → now ≡ putSoFar (set state 0 (c .status)) (c .bytes) 80
+    → now ≡ putBack c state
 unfolding putBack
 put-all c places [] now h e = absurd (omega arith)
 put-all c places (b ∷ state) now h e = e ∙ ap (λ (l : List ℕ). c .status ∷ (l ++ drop 80 state)) (take-all 80 (c .bytes) (omega arith))

@@ -1,5 +1,5 @@
 -- What is answered on the group of a symbol or a record can be packed if it can on every table: the refusals of symbols and records can be told.
-use mathlib.Core.Path.{_≡_, refl, sym, _∙_, ap, subst}
+use mathlib.Core.Path.{_≡_, refl, sym, subst}
 use mathlib.Core.List.{List}
 use Prim.Native.Nat.{ℕ}
 use Rattle.symbol_group.specs.Answers.{symbolAnswer, orderBy, orderOf}
@@ -13,7 +13,7 @@ use Rattle.table_check.specs.declared.Answer as table
 use Rattle.table_check.specs.declared.Answer.the-variants as table-variant
 use Rattle.motion_tables.specs.Answers.{motionAnswer, ofTable, onSource, ofSymbol, onSymbol, ofRecord, onRecord}
 use Rattle.motion_tables.specs.declared.Answer.{Answer}
-use Rattle.answer_numbers.specs.Packing.{packed, Within, Low}
+use Rattle.answer_numbers.specs.Packing.{Within, Low}
 use Rattle.record_numbers.specs.RecordBounds.{record-told}
 use Rattle.symbol_numbers.specs.SymbolBounds.{symbol-told}
 use Rattle.table_numbers.specs.TableBounds.{Packable}
@@ -26,9 +26,6 @@ Tellable a = Within Low (motionAnswer a)
 pub tellable-as : {a b : Answer} → a ≡ b → Tellable b → Tellable a
 tellable-as e k = subst (λ (a : Answer). Tellable a) (sym e) k
 
-pub told-as : {r : ℕ} {a b : Answer} → r ≡ packed (motionAnswer a) → a ≡ b → r ≡ packed (motionAnswer b)
-told-as p e = p ∙ ap (λ (a : Answer). packed (motionAnswer a)) e
-
 -- An answer on a table is handed on as it is.
 table-tellable : (a : table.Answer) → Packable a → Tellable (ofTable a)
 table-tellable (table-variant.Value n) h = h
@@ -39,7 +36,8 @@ pub on-symbol : (text : List ℕ) (f : ℕ → List ℕ → table.Answer) → ((
 unfolding orderOf
 on-symbol text f h = by-answer (symbolAnswer text .answer) refl
   where
-    by-answer : (a : symbol.Answer) → symbolAnswer text .answer ≡ a → Tellable (onSource (ofSymbol (orderBy a (symbolAnswer text .count))) (λ n. f n (symbolCells text)))
+    by-answer : (a : symbol.Answer) → symbolAnswer text .answer ≡ a
+        → Tellable (onSource (ofSymbol (orderBy a (symbolAnswer text .count))) (λ n. f n (symbolCells text)))
     by-answer symbol-variant.Group e = table-tellable (f (symbolAnswer text .count) (symbolCells text)) (h (symbolAnswer text .count) (symbolCells text))
     by-answer (symbol-variant.Refused r) e = symbol-told text r e
 

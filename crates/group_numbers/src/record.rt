@@ -34,9 +34,12 @@ pub fn conjugate(bytes: &[u8], set: u64, element: u64) -> u64
 }
 
 pub fn conjugates(bytes: &[u8], set: u64, sets: &mut [u8], conjugators: &mut [u8]) -> u64
-    ensures { λ r. ⌜ (r ≡ packed (motionAnswer (onRecord (now (bytes .entry)) (λ (n : ℕ) (t : List ℕ). conjugatesEntry n t set (now (sets .entry)) (now (conjugators .entry))))))
-        × (now (sets .exit) ≡ bytesOnRecord (now (bytes .entry)) (now (sets .entry)) (λ (n : ℕ) (t : List ℕ). conjugatesList n t set (now (sets .entry)) (now (conjugators .entry))))
-        × (now (conjugators .exit) ≡ bytesOnRecord (now (bytes .entry)) (now (conjugators .entry)) (λ (n : ℕ) (t : List ℕ). conjugatorsList n t set (now (sets .entry)) (now (conjugators .entry)))) ⌝ }
+    ensures { λ r. ⌜ (r ≡ packed (motionAnswer (onRecord (now (bytes .entry))
+        (λ (n : ℕ) (t : List ℕ). conjugatesEntry n t set (now (sets .entry)) (now (conjugators .entry))))))
+        × (now (sets .exit) ≡ bytesOnRecord (now (bytes .entry)) (now (sets .entry))
+        (λ (n : ℕ) (t : List ℕ). conjugatesList n t set (now (sets .entry)) (now (conjugators .entry))))
+        × (now (conjugators .exit) ≡ bytesOnRecord (now (bytes .entry)) (now (conjugators .entry))
+        (λ (n : ℕ) (t : List ℕ). conjugatorsList n t set (now (sets .entry)) (now (conjugators .entry)))) ⌝ }
 {
     answered(motion_group::record::conjugates(bytes, set, sets, conjugators))
 }
@@ -48,8 +51,10 @@ pub fn normalizer(bytes: &[u8], set: u64) -> u64
 }
 
 pub fn permutation(bytes: &[u8], set: u64, element: u64, positions: &mut [u8]) -> u64
-    ensures { λ r. ⌜ (r ≡ packed (motionAnswer (onRecord (now (bytes .entry)) (λ (n : ℕ) (t : List ℕ). permutationEntry n t set element (now (positions .entry))))))
-        × (now (positions .exit) ≡ bytesOnRecord (now (bytes .entry)) (now (positions .entry)) (λ (n : ℕ) (t : List ℕ). permutationList n t set element (now (positions .entry)))) ⌝ }
+    ensures { λ r. ⌜ (r ≡ packed (motionAnswer (onRecord (now (bytes .entry))
+        (λ (n : ℕ) (t : List ℕ). permutationEntry n t set element (now (positions .entry))))))
+        × (now (positions .exit) ≡ bytesOnRecord (now (bytes .entry)) (now (positions .entry))
+        (λ (n : ℕ) (t : List ℕ). permutationList n t set element (now (positions .entry)))) ⌝ }
 {
     answered(motion_group::record::normalizer_action(bytes, set, element as usize, positions))
 }

@@ -34,9 +34,12 @@ pub fn conjugate(text: &[u8], set: u64, element: u64) -> u64
 }
 
 pub fn conjugates(text: &[u8], set: u64, sets: &mut [u8], conjugators: &mut [u8]) -> u64
-    ensures { λ r. ⌜ (r ≡ packed (motionAnswer (onSymbol (now (text .entry)) (λ (n : ℕ) (t : List ℕ). conjugatesEntry n t set (now (sets .entry)) (now (conjugators .entry))))))
-        × (now (sets .exit) ≡ bytesOnSymbol (now (text .entry)) (now (sets .entry)) (λ (n : ℕ) (t : List ℕ). conjugatesList n t set (now (sets .entry)) (now (conjugators .entry))))
-        × (now (conjugators .exit) ≡ bytesOnSymbol (now (text .entry)) (now (conjugators .entry)) (λ (n : ℕ) (t : List ℕ). conjugatorsList n t set (now (sets .entry)) (now (conjugators .entry)))) ⌝ }
+    ensures { λ r. ⌜ (r ≡ packed (motionAnswer (onSymbol (now (text .entry))
+        (λ (n : ℕ) (t : List ℕ). conjugatesEntry n t set (now (sets .entry)) (now (conjugators .entry))))))
+        × (now (sets .exit) ≡ bytesOnSymbol (now (text .entry)) (now (sets .entry))
+        (λ (n : ℕ) (t : List ℕ). conjugatesList n t set (now (sets .entry)) (now (conjugators .entry))))
+        × (now (conjugators .exit) ≡ bytesOnSymbol (now (text .entry)) (now (conjugators .entry))
+        (λ (n : ℕ) (t : List ℕ). conjugatorsList n t set (now (sets .entry)) (now (conjugators .entry)))) ⌝ }
 {
     answered(motion_group::symbol::conjugates(text, set, sets, conjugators))
 }
@@ -48,8 +51,10 @@ pub fn normalizer(text: &[u8], set: u64) -> u64
 }
 
 pub fn permutation(text: &[u8], set: u64, element: u64, positions: &mut [u8]) -> u64
-    ensures { λ r. ⌜ (r ≡ packed (motionAnswer (onSymbol (now (text .entry)) (λ (n : ℕ) (t : List ℕ). permutationEntry n t set element (now (positions .entry))))))
-        × (now (positions .exit) ≡ bytesOnSymbol (now (text .entry)) (now (positions .entry)) (λ (n : ℕ) (t : List ℕ). permutationList n t set element (now (positions .entry)))) ⌝ }
+    ensures { λ r. ⌜ (r ≡ packed (motionAnswer (onSymbol (now (text .entry))
+        (λ (n : ℕ) (t : List ℕ). permutationEntry n t set element (now (positions .entry))))))
+        × (now (positions .exit) ≡ bytesOnSymbol (now (text .entry)) (now (positions .entry))
+        (λ (n : ℕ) (t : List ℕ). permutationList n t set element (now (positions .entry)))) ⌝ }
 {
     answered(motion_group::symbol::normalizer_action(text, set, element as usize, positions))
 }

@@ -51,7 +51,8 @@ module _ (bytes : List ℕ) (b : Bytes bytes) where
   order-within = order-by (readOf bytes .answer) refl
 
   -- By what was read, and by the room for it in an edition.
-  copy-by : (a : Reading) (edition : Edition) (start size : ℕ) → readOf bytes .answer ≡ a → Within Low (copyAnswer (copiedBy a edition (readOf bytes .count) start size))
+  copy-by : (a : Reading) (edition : Edition) (start size : ℕ) → readOf bytes .answer ≡ a
+      → Within Low (copyAnswer (copiedBy a edition (readOf bytes .count) start size))
   copy-by Accepted edition start size e = by-room (roomBy edition start (readOf bytes .count) size)
     where
       by-room : (r : Bool) → Within Low (copyAnswer (cond r (Written (readOf bytes .count)) NoRoom))

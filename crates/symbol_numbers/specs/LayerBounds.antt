@@ -78,10 +78,12 @@ unfolding letterOf
 letter-within bytes = letter-by bytes (layerAnswer bytes .answer) refl
 
 -- ---- an operation
-operation-by : (bytes : List ℕ) (i : ℕ) (a : Answer) → layerAnswer bytes .answer ≡ a → Within Reduced (operationAnswer (operationBy a (layerAnswer bytes .count) (layerAnswer bytes .operations) i))
+operation-by : (bytes : List ℕ) (i : ℕ) (a : Answer) → layerAnswer bytes .answer ≡ a
+    → Within Reduced (operationAnswer (operationBy a (layerAnswer bytes .count) (layerAnswer bytes .operations) i))
 operation-by bytes i Group e = by-test (ltb i (layerAnswer bytes .count)) refl
   where
-    by-test : (b : Bool) → ltb i (layerAnswer bytes .count) ≡ b → Within Reduced (operationAnswer (cond b (Found (getD (layerAnswer bytes .operations) i identityOperation)) PastEnd))
+    by-test : (b : Bool) → ltb i (layerAnswer bytes .count) ≡ b
+        → Within Reduced (operationAnswer (cond b (Found (getD (layerAnswer bytes .operations) i identityOperation)) PastEnd))
     by-test true t =
         let (_, _, counts, lists) = layer-table bytes e in
         rw lists (symbol-reduced (capitalised bytes) i (rw (← counts) (ltb-true i (layerAnswer bytes .count) t)))
@@ -94,7 +96,8 @@ unfolding operationAt
 operation-within bytes i = operation-by bytes i (layerAnswer bytes .answer) refl
 
 -- ---- the record
-record-by : (bytes : List ℕ) (start size : ℕ) (a : Answer) → layerAnswer bytes .answer ≡ a → Within Low (layerRecordAnswer (layerWrittenBy a (layerAnswer bytes .count) start size))
+record-by : (bytes : List ℕ) (start size : ℕ) (a : Answer) → layerAnswer bytes .answer ≡ a
+    → Within Low (layerRecordAnswer (layerWrittenBy a (layerAnswer bytes .count) start size))
 record-by bytes start size Group e = by-room (roomFor start (layerAnswer bytes .count) size)
   where
     by-room : (b : Bool) → Within Low (layerRecordAnswer (cond b (Written (layerAnswer bytes .count)) NoRoom))

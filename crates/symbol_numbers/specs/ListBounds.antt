@@ -76,4 +76,5 @@ pub check-told : (text list other others : List ℕ)
     → checkedOf text list ≡ checkedOf other others
 check-told text list other others e =
     checked-once (checkedOf text list) (checkedOf other others)
-    (loses-nothing saids (checkedAnswer (checkedOf text list)) (checkedAnswer (checkedOf other others)) (checked-within text list) (checked-within other others) e)
+    (loses-nothing saids (checkedAnswer (checkedOf text list)) (checkedAnswer (checkedOf other others)) (checked-within text list)
+    (checked-within other others) e)

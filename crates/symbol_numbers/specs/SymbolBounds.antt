@@ -1,4 +1,5 @@
--- What is answered for a symbol's text can be packed: orders are at most 48, operations have entries in −1..1 and coordinates below 12, and places are at most 80.
+-- What is answered for a symbol's text can be packed: orders are at most 48, operations have entries in −1..1 and coordinates below 12, and places
+-- are at most 80.
 use mathlib.Core.Path.{_≡_, refl}
 use mathlib.Core.Bool.{Bool, true, false, cond}
 use mathlib.Core.List.{List, List·Memᴰ as Mem}
@@ -84,13 +85,16 @@ module _ (c : Centering) (gens : List Operation) (small : SmallGenerators gens) 
       record { digits = digits-entries (o .rotation) .1 (A .small (matrixOf (o .rotation)) turn); x = below .0; y = below .1; z = below .2 }
 
   -- So do the slots in use,
-  outcome-reduced : (n : ℕ) (o : Outcome) → outcomeOf c gens ≡ o → (i : ℕ) → i < outcomeAnswer c n o .count → Reduced (getD (outcomeAnswer c n o .operations) i identityOperation)
+  outcome-reduced : (n : ℕ) (o : Outcome) → outcomeOf c gens ≡ o → (i : ℕ) → i < outcomeAnswer c n o .count
+      → Reduced (getD (outcomeAnswer c n o .operations) i identityOperation)
   outcome-reduced n (group operations steps) e i h =
-      rw (List·getD-append operations (replicate (48 - length operations) identityOperation) identityOperation i h) (listed-reduced operations steps e (getD operations i identityOperation) (member-at operations i identityOperation h))
+      rw (List·getD-append operations (replicate (48 - length operations) identityOperation) identityOperation i h)
+      (listed-reduced operations steps e (getD operations i identityOperation) (member-at operations i identityOperation h))
   outcome-reduced n (refused r) e i h = absurd (omega arith)
 
 -- whatever the text was read as.
-reading-reduced : (bytes : List ℕ) (s : Reading) → readSymbol bytes ≡ s → (i : ℕ) → i < readingAnswer s .count → Reduced (getD (readingAnswer s .operations) i identityOperation)
+reading-reduced : (bytes : List ℕ) (s : Reading) → readSymbol bytes ≡ s → (i : ℕ) → i < readingAnswer s .count
+    → Reduced (getD (readingAnswer s .operations) i identityOperation)
 reading-reduced bytes (symbol c gens) e i h =
     outcome-reduced c gens (symbol-small bytes c gens (symbol-exactly bytes c gens .0 e)) (length gens) (outcomeOf c gens) refl i h
 reading-reduced bytes (refusal r) e i h = absurd (omega arith)
@@ -105,10 +109,12 @@ past-end : Told 28 0
 past-end = near (omega arith) (omega arith) (omega arith)
 
 -- By the answer of the symbol's group, and by the index.
-operation-by : (bytes : List ℕ) (i : ℕ) (a : Answer) → symbolAnswer bytes .answer ≡ a → Within Reduced (operationAnswer (operationBy a (symbolAnswer bytes .count) (symbolAnswer bytes .operations) i))
+operation-by : (bytes : List ℕ) (i : ℕ) (a : Answer) → symbolAnswer bytes .answer ≡ a
+    → Within Reduced (operationAnswer (operationBy a (symbolAnswer bytes .count) (symbolAnswer bytes .operations) i))
 operation-by bytes i Group e = by-test (ltb i (symbolAnswer bytes .count)) refl
   where
-    by-test : (b : Bool) → ltb i (symbolAnswer bytes .count) ≡ b → Within Reduced (operationAnswer (cond b (Found (getD (symbolAnswer bytes .operations) i identityOperation)) PastEnd))
+    by-test : (b : Bool) → ltb i (symbolAnswer bytes .count) ≡ b
+        → Within Reduced (operationAnswer (cond b (Found (getD (symbolAnswer bytes .operations) i identityOperation)) PastEnd))
     by-test true t = symbol-reduced bytes i (ltb-true i (symbolAnswer bytes .count) t)
     by-test false t = past-end
 operation-by bytes i (Refused r) e = symbol-told bytes r e
@@ -130,7 +136,8 @@ letter-within bytes = letter-by bytes (symbolAnswer bytes .answer) refl
 
 -- ---- the record
 -- By the answer of the symbol's group, and by the room for the record.
-record-by : (bytes : List ℕ) (start size : ℕ) (a : Answer) → symbolAnswer bytes .answer ≡ a → Within Low (symbolRecordAnswer (writtenBy a (symbolAnswer bytes .count) start size))
+record-by : (bytes : List ℕ) (start size : ℕ) (a : Answer) → symbolAnswer bytes .answer ≡ a
+    → Within Low (symbolRecordAnswer (writtenBy a (symbolAnswer bytes .count) start size))
 record-by bytes start size Group e = by-room (roomFor start (symbolAnswer bytes .count) size)
   where
     by-room : (b : Bool) → Within Low (symbolRecordAnswer (cond b (Written (symbolAnswer bytes .count)) NoRoom))

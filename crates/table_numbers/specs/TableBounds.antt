@@ -1,6 +1,6 @@
 -- What is answered on the bytes of a table can be packed: elements and orders are at most 48, sets are below 2⁴⁸, and a list of
 -- different sets is no longer than that.
-use mathlib.Core.Path.{_≡_, refl, _∙_, ap}
+use mathlib.Core.Path.{_≡_, refl, ap}
 use mathlib.Core.Bool.{Bool, true, false, cond}
 use mathlib.Core.List.{List, [], _∷_}
 use Prim.Native.Nat.{ℕ, zero, suc, _/_, _^_, _<_, _≤_}
@@ -31,15 +31,11 @@ use Rattle.table_check.specs.declared.Answer.{Answer}
 use Rattle.table_check.specs.declared.Answer.the-variants.{Value, Refused}
 use Rattle.table_check.specs.declared.Refusal.{Refusal}
 use Rattle.table_check.specs.declared.Refusal.the-variants.{Order, Cells, Identity, Inverse, Associativity, Slots, Subgroup, Element, Normalizer}
-use Rattle.answer_numbers.specs.Packing.{packed, Told, near, Within, Low}
+use Rattle.answer_numbers.specs.Packing.{Told, near, Within, Low}
 
 -- An answer that can be packed.
 abbrev pub Packable : Answer → Type 0
 Packable a = Within Low (tableAnswer a)
-
--- One of two equal answers is packed as the other.
-pub packed-as : {r : ℕ} {a b : Answer} → r ≡ packed (tableAnswer a) → a ≡ b → r ≡ packed (tableAnswer b)
-packed-as p e = p ∙ ap (λ (a : Answer). packed (tableAnswer a)) e
 
 -- ---- refusals
 -- 21 to 29, at 0.

@@ -48,15 +48,20 @@ loop-again : tie.Need-loop-again Inv-loop μ-loop
 loop-again c =
     let l = c .before .loop in
     let a = c .before .before .before .args in
-    let places : length (a .catalogue .bytes) ≡ 80 = search needs in
-    (omega arith, l .inv .1, put-more (set (a .state .now) 0 (a .catalogue .status)) (a .catalogue .bytes) (l .state) (l .i) (l .inv .1) places (omega arith) (l .inv .2))
+    let places : length (a .catalogue .bytes) ≡ 80 = search needs in (
+      omega arith,
+      l .inv .1,
+      put-more (set (a .state .now) 0 (a .catalogue .status)) (a .catalogue .bytes) (l .state) (l .i) (l .inv .1) places (omega arith)
+          (l .inv .2),
+    )
 
 same-length : tie.Need-same-length Inv-loop μ-loop
 same-length c =
     let l = c .before .loop in
     let a = c .before .before .before .args in
     let places : length (a .catalogue .bytes) ≡ 80 = search needs in
-    put-length (set (a .state .now) 0 (a .catalogue .status)) (a .catalogue .bytes) (l .state) (l .i) (l .inv .1) places (l .inv .0) (l .inv .2) ∙ simp length-set
+    put-length (set (a .state .now) 0 (a .catalogue .status)) (a .catalogue .bytes) (l .state) (l .i) (l .inv .1) places (l .inv .0) (l .inv .2)
+    ∙ simp length-set
 
 returns : tie.Need-returns Inv-loop μ-loop
 returns c =

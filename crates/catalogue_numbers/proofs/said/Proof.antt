@@ -39,12 +39,14 @@ place-requires c κs = search needs
 
 add-result-2 : tie.Need-add-result-2
 add-result-2 c =
-    let close = subst (λ (w : SymbolRecord). Short (line (symbolRecordAnswer w))) (c .before .before .before .written2 .given .1) (c .before .before .before .before .before .pre) in
+    let close = subst (λ (w : SymbolRecord). Short (line (symbolRecordAnswer w))) (c .before .before .before .written2 .given .1)
+    (c .before .before .before .before .before .pre) in
     omega (arith, c .before .number .ensures, c .place .ensures, close .one-byte, close .at-most)
 
 add-result-3 : tie.Need-add-result-3
 add-result-3 c =
-    let close = subst (λ (w : SymbolRecord). Short (line (symbolRecordAnswer w))) (c .before .before .before .written2 .given .1) (c .before .before .before .before .before .pre) in
+    let close = subst (λ (w : SymbolRecord). Short (line (symbolRecordAnswer w))) (c .before .before .before .written2 .given .1)
+    (c .before .before .before .before .before .pre) in
     omega (arith, c .before .number .ensures, c .place .ensures, close .one-byte, close .at-most)
 
 returns : tie.Need-returns

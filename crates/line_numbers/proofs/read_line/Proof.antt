@@ -39,7 +39,8 @@ refused-requires-3 c κs = search needs
 returns : tie.Need-returns
 returns c =
     c .operation-number .ensures
-    ∙ ap (λ (a : ReadLine). packed (mapped operationNumber (answerOf a))) (sym (c .before .before .o .given .1) ∙ c .before .before .before .before .read-line .ensures)
+    ∙ ap (λ (a : ReadLine). packed (mapped operationNumber (answerOf a)))
+    (sym (c .before .before .o .given .1) ∙ c .before .before .before .before .read-line .ensures)
 
 returns-2 : tie.Need-returns-2
 returns-2 c =
@@ -50,12 +51,14 @@ returns-3 : tie.Need-returns-3
 returns-3 c =
     let misspelt = sym (c .before .before .before .before .read-line .ensures) ∙ c .before .before .place .given .1 in
     c .refused2 .ensures ∙ told-whole (subst (λ (a : ReadLine). Within Reduced (answerOf a)) misspelt (read-within _))
-    ∙ ap (λ (a : ReadLine). packed (mapped operationNumber (answerOf a))) (sym (c .before .before .place .given .1) ∙ c .before .before .before .before .read-line .ensures)
+    ∙ ap (λ (a : ReadLine). packed (mapped operationNumber (answerOf a)))
+    (sym (c .before .before .place .given .1) ∙ c .before .before .before .before .read-line .ensures)
 
 returns-4 : tie.Need-returns-4
 returns-4 c =
     c .refused3 .ensures
-    ∙ ap (λ (a : ReadLine). packed (mapped operationNumber (answerOf a))) (sym (c .before .enum-told2 .given .1) ∙ c .before .before .before .read-line .ensures)
+    ∙ ap (λ (a : ReadLine). packed (mapped operationNumber (answerOf a)))
+    (sym (c .before .enum-told2 .given .1) ∙ c .before .before .before .read-line .ensures)
 
 pub read-line-spec : {M : Type 1} → statement M
 read-line-spec =

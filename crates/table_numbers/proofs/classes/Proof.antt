@@ -1,5 +1,6 @@
 -- The answer on the table, packed, and the lent list as it was left.
-use Rattle.table_numbers.specs.TableBounds.{packed-as}
+use Rattle.answer_numbers.specs.Packing.{packed-as}
+use Rattle.finite_group.specs.Answers.{tableAnswer}
 use borrow.Author.Needs.{needs}
 use Rattle.table_numbers.proofs.classes.Statement.{statement}
 use Rattle.table_numbers.proofs.classes.Tie as tie
@@ -16,7 +17,7 @@ same-length c = search needs
 returns : tie.Need-returns
 returns c =
     let listed = c .before .before .before .conjugacy-classes .ensures in
-    (packed-as (c .answered .ensures) (listed .0), listed .1)
+    (packed-as tableAnswer (c .answered .ensures) (listed .0), listed .1)
 
 pub classes-spec : {M : Type 1} → statement M
 classes-spec =

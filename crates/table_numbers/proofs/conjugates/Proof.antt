@@ -1,5 +1,6 @@
 -- The answer on the table, packed, and the lent lists as they were left.
-use Rattle.table_numbers.specs.TableBounds.{packed-as}
+use Rattle.answer_numbers.specs.Packing.{packed-as}
+use Rattle.finite_group.specs.Answers.{tableAnswer}
 use borrow.Author.Needs.{needs}
 use Rattle.table_numbers.proofs.conjugates.Statement.{statement}
 use Rattle.table_numbers.proofs.conjugates.Tie as tie
@@ -19,7 +20,7 @@ same-length-2 c = search needs
 returns : tie.Need-returns
 returns c =
     let listed = c .before .before .before .before .before .conjugates .ensures in
-    (packed-as (c .answered .ensures) (listed .0), listed .1, listed .2)
+    (packed-as tableAnswer (c .answered .ensures) (listed .0), listed .1, listed .2)
 
 pub conjugates-spec : {M : Type 1} → statement M
 conjugates-spec =

@@ -3,7 +3,9 @@ use mathlib.Core.List.{List}
 use Prim.Native.Nat.{ℕ}
 use borrow.Author.Needs.{needs}
 use Rattle.finite_group.specs.Answers.{identityAnswer}
-use Rattle.group_numbers.specs.MotionBounds.{tellable-as, told-as, on-symbol}
+use Rattle.answer_numbers.specs.Packing.{packed-as}
+use Rattle.motion_tables.specs.Answers.{motionAnswer}
+use Rattle.group_numbers.specs.MotionBounds.{tellable-as, on-symbol}
 use Rattle.table_numbers.specs.TableBounds.{table-identity}
 use Rattle.group_numbers.proofs.symbol.identity.Statement.{statement}
 use Rattle.group_numbers.proofs.symbol.identity.Tie as tie
@@ -17,7 +19,7 @@ answered-requires c κs =
     tellable-as (called .identity .ensures) (on-symbol _ (λ (n : ℕ) (t : List ℕ). identityAnswer n t) (λ n t. table-identity n t))
 
 returns : tie.Need-returns
-returns c = told-as (c .answered .ensures) (c .before .identity .ensures)
+returns c = packed-as motionAnswer (c .answered .ensures) (c .before .identity .ensures)
 
 pub identity-spec : {M : Type 1} → statement M
 identity-spec =

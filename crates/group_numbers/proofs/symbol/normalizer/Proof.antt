@@ -3,7 +3,9 @@ use mathlib.Core.List.{List}
 use Prim.Native.Nat.{ℕ}
 use borrow.Author.Needs.{needs}
 use Rattle.finite_group.specs.Answers.{normalizerEntry}
-use Rattle.group_numbers.specs.MotionBounds.{tellable-as, told-as, on-symbol}
+use Rattle.answer_numbers.specs.Packing.{packed-as}
+use Rattle.motion_tables.specs.Answers.{motionAnswer}
+use Rattle.group_numbers.specs.MotionBounds.{tellable-as, on-symbol}
 use Rattle.table_numbers.specs.TableBounds.{table-normalizer}
 use Rattle.group_numbers.proofs.symbol.normalizer.Statement.{statement}
 use Rattle.group_numbers.proofs.symbol.normalizer.Tie as tie
@@ -18,7 +20,7 @@ answered-requires c κs =
     tellable-as (called .normalizer .ensures) (on-symbol _ (λ (n : ℕ) (t : List ℕ). normalizerEntry n t (asks .set)) (λ n t. table-normalizer n t (asks .set)))
 
 returns : tie.Need-returns
-returns c = told-as (c .answered .ensures) (c .before .normalizer .ensures)
+returns c = packed-as motionAnswer (c .answered .ensures) (c .before .normalizer .ensures)
 
 pub normalizer-spec : {M : Type 1} → statement M
 normalizer-spec =

@@ -20,7 +20,8 @@ enum-known-i c = search needs
 
 add-result : tie.Need-add-result
 add-result c =
-    let few = subst (λ (a : Checked). Within Sayable (checkedAnswer a)) (sym (c .before .before .before .check-list .ensures) ∙ c .before .i .given .1) (checked-within _ _) in
+    let few = subst (λ (a : Checked). Within Sayable (checkedAnswer a)) (sym (c .before .before .before .check-list .ensures) ∙ c .before .i .given .1)
+    (checked-within _ _) in
     omega arith
 
 enum-known-code : tie.Need-enum-known-code
@@ -45,7 +46,8 @@ returns-2 : tie.Need-returns-2
 returns-2 c = ap (λ (a : Checked). packed (mapped saidNumber (checkedAnswer a))) (sym (c .before .i .given .1) ∙ c .before .before .before .check-list .ensures)
 
 returns-3 : tie.Need-returns-3
-returns-3 c = ap (λ (a : Checked). packed (mapped saidNumber (checkedAnswer a))) (sym (c .before .code .given .1) ∙ c .before .before .before .check-list .ensures)
+returns-3 c =
+    ap (λ (a : Checked). packed (mapped saidNumber (checkedAnswer a))) (sym (c .before .code .given .1) ∙ c .before .before .before .check-list .ensures)
 
 returns-4 : tie.Need-returns-4
 returns-4 c =
