@@ -18,7 +18,7 @@ use Rattle.operation_line.specs.declared.ReadLine as read-line
 use Rattle.operation_line.specs.declared.ReadLine.the-variants as read
 use Rattle.operation_line.specs.Placed.{line-short}
 use Rattle.operation_line.specs.Writing.{writtenLine, writable, fittedAnswer, writtenAnswer, writtenBy, writeOf}
-use Rattle.operation_line.specs.declared.writer.WrittenLine.the-variants.{Length, Determinant, NoRoom}
+use Rattle.operation_line.specs.declared.WrittenLine.the-variants.{Length, Determinant, NoRoom}
 use Rattle.answer_numbers.specs.Packing.{near, Within, Low}
 
 -- ---- read

@@ -8,7 +8,7 @@ ghost use Rattle.answer_numbers.specs.Packing.{packed, mapped, operationNumber}
 use answer_numbers::operation_number;
 use answer_numbers::refused;
 use operation_line::ReadLine;
-use operation_line::writer::WrittenLine;
+use operation_line::WrittenLine;
 
 pub fn read_line(line: &[u8]) -> u64
     ensures { λ r. ⌜ r ≡ packed (mapped operationNumber (answerOf (readLine (now (line .entry))))) ⌝ }
@@ -25,7 +25,7 @@ pub fn write_line(operation: &[u8], out: &mut [u8]) -> u64
     ensures { λ r. ⌜ (r ≡ packed (writtenAnswer (writeOf (now (operation .entry)) (length (now (out .entry))))))
         × (now (out .exit) ≡ bufferOf (now (operation .entry)) (now (out .entry))) ⌝ }
 {
-    match operation_line::writer::write_line(operation, out) {
+    match line_writing::write_line(operation, out) {
         WrittenLine::Length(n) => n as u64,
         WrittenLine::NoOperation => refused(34, 0),
         WrittenLine::Determinant => refused(42, 0),

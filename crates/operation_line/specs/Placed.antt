@@ -13,8 +13,8 @@ use Rattle.five_bytes.specs.declared.FiveBytes.the-variants.{Is, Wrong}
 use Rattle.placed_text.specs.Placing.{Put, put-front}
 use Rattle.operation_line.specs.Writing.{lineOf, plainLine, writtenLine, fittedAnswer, fitted, writable, writeOf, bufferOf}
 use Rattle.operation_line.specs.Building.{part-short}
-use Rattle.operation_line.specs.declared.writer.WrittenLine.{WrittenLine}
-use Rattle.operation_line.specs.declared.writer.WrittenLine.the-variants.{Length, NoOperation, Determinant, NoRoom}
+use Rattle.operation_line.specs.declared.WrittenLine.{WrittenLine}
+use Rattle.operation_line.specs.declared.WrittenLine.the-variants.{Length, NoOperation, Determinant, NoRoom}
 
 -- Three parts and two commas have at most 38 bytes.
 pub line-short : (f : Operation) → length (writtenLine f) ≤ 38

@@ -12,7 +12,7 @@ use Rattle.operation.specs.declared.Operation as operation
 use Rattle.five_bytes.specs.FiveBytes.{Sayable}
 use Rattle.five_bytes.specs.OneForm.{Bytes}
 use Rattle.operation_line.specs.declared.ReadLine.the-variants.{Operation}
-use Rattle.operation_line.specs.declared.writer.WrittenLine.the-variants.{Length}
+use Rattle.operation_line.specs.declared.WrittenLine.the-variants.{Length}
 use Rattle.operation_line.specs.Spelling.{Line, Spells}
 use Rattle.operation_line.specs.Denoted.{translationOfLine, operationOfLine}
 use Rattle.operation_line.specs.Reading.{readLine}

@@ -15,8 +15,8 @@ use Rattle.five_bytes.specs.declared.FiveBytes.the-variants.{Is, Wrong}
 use Rattle.operation_line.specs.declared.Letter.{Letter}
 use Rattle.operation_line.specs.declared.Letter.the-variants.{X, Y, Z}
 use Rattle.operation_line.specs.Spelling.{Body, letter, fraction, Term, signed, bodyBytes, Line}
-use Rattle.operation_line.specs.declared.writer.WrittenLine.{WrittenLine}
-use Rattle.operation_line.specs.declared.writer.WrittenLine.the-variants.{Length, NoOperation, Determinant, NoRoom}
+use Rattle.operation_line.specs.declared.WrittenLine.{WrittenLine}
+use Rattle.operation_line.specs.declared.WrittenLine.the-variants.{Length, NoOperation, Determinant, NoRoom}
 
 -- ---- the terms, the last of a part first, as the spelling rules list them
 

@@ -18,8 +18,8 @@ use Rattle.five_bytes.specs.declared.FiveBytes.{FiveBytes}
 use Rattle.five_bytes.specs.declared.FiveBytes.the-variants.{Is, Wrong}
 use Rattle.operation_line.specs.Writing.{writtenLine, writable, fittedAnswer, fitted, writtenAnswer, writtenBy, bufferBy, writeOf, bufferOf}
 use Rattle.operation_line.specs.WrittenLines.{writable-exactly}
-use Rattle.operation_line.specs.declared.writer.WrittenLine.{WrittenLine}
-use Rattle.operation_line.specs.declared.writer.WrittenLine.the-variants.{Length, NoOperation, Determinant, NoRoom}
+use Rattle.operation_line.specs.declared.WrittenLine.{WrittenLine}
+use Rattle.operation_line.specs.declared.WrittenLine.the-variants.{Length, NoOperation, Determinant, NoRoom}
 
 -- The bytes are those of an operation with entries in −1..1 and coordinates below 12.
 pub record BytesOf (bytes : List ℕ) (f : Operation) : Type 0 where

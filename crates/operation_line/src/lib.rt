@@ -1,9 +1,8 @@
-// Operation lines, as `-x,-y+1/2,z`: read into operations and written. New in the port: the Rust has no such lines.
+// Operation lines, as `-x,-y+1/2,z`: what is answered of them, and reading one into an operation. New in the port: the Rust has no such lines.
 ghost use mathlib.Core.Path.{_≡_};
 ghost use Rattle.operation_line.specs.Answers.{numberOf, placeOf};
 
 pub mod reader;
-pub mod writer;
 
 use operation::Operation;
 
@@ -20,6 +19,14 @@ pub enum ReadLine {
     TooLong,
     Misspelt(usize),
     Determinant,
+}
+
+// The length of the line that was written; `NoOperation` is refusal 34, `Determinant` 42, `NoRoom` 20, each at place 0.
+pub enum WrittenLine {
+    Length(usize),
+    NoOperation,
+    Determinant,
+    NoRoom,
 }
 
 impl ReadLine {

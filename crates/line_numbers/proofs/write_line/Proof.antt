@@ -1,7 +1,7 @@
 -- Each case of the answer, packed, and the lent buffer as it was left.
 use mathlib.Core.Path.{sym, _∙_, ap}
 use Rattle.operation_line.specs.Writing.{writtenAnswer}
-use Rattle.operation_line.specs.declared.writer.WrittenLine.{WrittenLine}
+use Rattle.operation_line.specs.declared.WrittenLine.{WrittenLine}
 use Rattle.answer_numbers.specs.Packing.{packed}
 use borrow.Author.Needs.{needs}
 use Rattle.line_numbers.proofs.write_line.Statement.{statement}

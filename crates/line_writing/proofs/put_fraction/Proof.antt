@@ -4,11 +4,11 @@ use mathlib.Core.Bool.{false}
 use lib.ListN.{getD, length-set}
 use native.Mathlib.Omega.{arith}
 use Rattle.placed_text.specs.Placing.{put-byte, put-nothing, put-then, put-named}
 use Rattle.operation_line.specs.Writing.{numerators}
 use Rattle.operation_line.specs.Building.{fractionBytes, fraction-signed, sign-short, numeral-short, numerator-small, divisor-small}
 use borrow.Author.Needs.{needs}
-use Rattle.operation_line.proofs.writer.put_fraction.Statement.{statement}
-use Rattle.operation_line.proofs.writer.put_fraction.Tie as tie
+use Rattle.line_writing.proofs.put_fraction.Statement.{statement}
+use Rattle.line_writing.proofs.put_fraction.Tie as tie
 
 returns : tie.Need-returns
 returns c = let a = c .before .before .args in put-named (sym (ap (fractionBytes (a .first)) (c .if1 .taken))) (put-nothing (a .out .now) (a .at))

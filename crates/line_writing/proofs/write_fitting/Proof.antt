@@ -1,9 +1,9 @@
 -- The line is made in 64 bytes of its own; its length decides.
 use native.Mathlib.Omega.{arith}
 use Rattle.operation_line.specs.Placed.{line-short, no-room, with-room}
 use borrow.Author.Needs.{needs}
-use Rattle.operation_line.proofs.writer.write_fitting.Statement.{statement}
-use Rattle.operation_line.proofs.writer.write_fitting.Tie as tie
+use Rattle.line_writing.proofs.write_fitting.Statement.{statement}
+use Rattle.line_writing.proofs.write_fitting.Tie as tie
 
 slice-aggregate-put-line : tie.Need-slice-aggregate-put-line
 slice-aggregate-put-line c = search needs

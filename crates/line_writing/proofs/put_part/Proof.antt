@@ -3,12 +3,12 @@ use mathlib.Core.Bool.{true}
 use native.Mathlib.Omega.{arith}
 use lib.Dec.{eqb}
 use Rattle.placed_text.specs.Placing.{put-named}
 use Rattle.operation_line.specs.declared.Letter.the-variants.{X, Y, Z}
 use Rattle.operation_line.specs.Writing.{letterTerm, lettersOf, rowTerms}
 use Rattle.operation_line.specs.Building.{letter-short, first-letter, put-letter-more, put-fraction-more}
 use borrow.Author.Needs.{needs}
-use Rattle.operation_line.proofs.writer.put_part.Statement.{statement}
-use Rattle.operation_line.proofs.writer.put_part.Tie as tie
+use Rattle.line_writing.proofs.put_part.Statement.{statement}
+use Rattle.line_writing.proofs.put_part.Tie as tie
 
 put-letter-requires : tie.Need-put-letter-requires
 put-letter-requires c κs = search needs

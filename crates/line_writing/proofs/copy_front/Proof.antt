@@ -4,9 +4,9 @@ use mathlib.Core.List.{_++_}
 use Prim.Native.Nat.{_-_, _≤_}
 use native.Mathlib.Omega.{arith}
 use lib.ListN.{length, getD, take, drop, set, length-set}
 use Rattle.operation_line.specs.Building.{copy-next}
-use Rattle.operation_line.proofs.writer.copy_front.Statement.{statement}
-use Rattle.operation_line.proofs.writer.copy_front.Tie as tie
+use Rattle.line_writing.proofs.copy_front.Statement.{statement}
+use Rattle.line_writing.proofs.copy_front.Tie as tie
 
 abbrev Inv-loop : tie.InvT-loop
 Inv-loop out₀ line size i₀ out i = (i ≤ size) × (length out ≡ length out₀) × (out ≡ take i line ++ drop i out₀)

@@ -5,22 +5,15 @@ ghost use Prim.Native.Nat.{_+_, _≤_, _<_};
 ghost use lib.ListN.{length, take, drop};
 ghost use Rattle.five_bytes.specs.FiveBytes.{Sayable};
 ghost use Rattle.placed_text.specs.Placing.{Put};
 ghost use Rattle.operation_line.specs.Spelling.{numeral};
 ghost use Rattle.operation_line.specs.Writing.{signBytes, plainBytes, rowTerms, writtenLine, fittedAnswer, fitted, writable, writeOf, bufferOf};
 ghost use Rattle.operation_line.specs.Building.{letterBytes, fractionBytes};
 use five_bytes::FiveBytes;
 use five_bytes::operation_in;
 use operation::Operation;
 use operation::rotation_type::Handedness;
 use operation::rotation_type::identify_handedness;
-
-// The length of the line that was written; `NoOperation` is refusal 34, `Determinant` 42, `NoRoom` 20, each at place 0.
-pub enum WrittenLine {
-    Length(usize),
-    NoOperation,
-    Determinant,
-    NoRoom,
-}
+use operation_line::WrittenLine;
 
 // k twelfths are NUMERATORS[k] over DENOMINATORS[k] in lowest terms.
 const NUMERATORS: [u8; 12] = [0, 1, 1, 1, 1, 5, 1, 7, 2, 3, 5, 11];

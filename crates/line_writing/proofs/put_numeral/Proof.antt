@@ -2,10 +2,10 @@
 use native.Mathlib.Omega.{arith}
 use lib.ListN.{length-set}
 use Rattle.placed_text.specs.Placing.{put-byte, put-two, put-named}
 use Rattle.operation_line.specs.Building.{one-digit, two-digits}
 use borrow.Author.Needs.{needs}
-use Rattle.operation_line.proofs.writer.put_numeral.Statement.{statement}
-use Rattle.operation_line.proofs.writer.put_numeral.Tie as tie
+use Rattle.line_writing.proofs.put_numeral.Statement.{statement}
+use Rattle.line_writing.proofs.put_numeral.Tie as tie
 
 add-out : tie.Need-add-out
 add-out c = search needs

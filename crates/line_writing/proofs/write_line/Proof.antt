@@ -3,10 +3,10 @@ use mathlib.Core.Path.{sym, _∙_}
 use native.Mathlib.Omega.{arith}
 use borrow.Author.Tests.{not-true, not-false}
 use Rattle.five_bytes.specs.OneForm.{bytes-again}
 use Rattle.operation_line.specs.Placed.{no-operation, no-determinant, by-room}
 use borrow.Author.Needs.{needs}
-use Rattle.operation_line.proofs.writer.write_line.Statement.{statement}
-use Rattle.operation_line.proofs.writer.write_line.Tie as tie
+use Rattle.line_writing.proofs.write_line.Statement.{statement}
+use Rattle.line_writing.proofs.write_line.Tie as tie
 
 operation-in-requires : tie.Need-operation-in-requires
 operation-in-requires c κs = search needs

@@ -1,11 +1,11 @@
 -- By the sign, and by whether the term is the first.
 use mathlib.Core.Path.{sym, _∙_, ap}
 use mathlib.Core.Bool.{false}
 use Rattle.operation_line.specs.Writing.{signBytes}
 use Rattle.placed_text.specs.Placing.{put-byte, put-nothing, put-named}
 use borrow.Author.Needs.{needs}
-use Rattle.operation_line.proofs.writer.put_sign.Statement.{statement}
-use Rattle.operation_line.proofs.writer.put_sign.Tie as tie
+use Rattle.line_writing.proofs.put_sign.Statement.{statement}
+use Rattle.line_writing.proofs.put_sign.Tie as tie
 
 slice-write-out : tie.Need-slice-write-out
 slice-write-out c = search needs

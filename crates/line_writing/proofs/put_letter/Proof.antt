@@ -3,10 +3,10 @@ use mathlib.Core.Path.{sym, ap}
 use native.Mathlib.Omega.{arith}
 use lib.Dec.{eqb}
 use Rattle.placed_text.specs.Placing.{put-byte, put-nothing, put-then, put-named}
 use Rattle.operation_line.specs.Building.{letterBytes, letter-signed, sign-short}
 use borrow.Author.Needs.{needs}
-use Rattle.operation_line.proofs.writer.put_letter.Statement.{statement}
-use Rattle.operation_line.proofs.writer.put_letter.Tie as tie
+use Rattle.line_writing.proofs.put_letter.Statement.{statement}
+use Rattle.line_writing.proofs.put_letter.Tie as tie
 
 returns : tie.Need-returns
 returns c = let a = c .before .before .args in put-named (sym (ap (letterBytes (a .first) (a .letter)) (c .if1 .taken))) (put-nothing (a .out .now) (a .at))

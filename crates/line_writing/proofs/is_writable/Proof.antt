@@ -1,10 +1,10 @@
 -- By cases of the handedness.
 use mathlib.Core.Path.{sym, _∙_, ap}
 use Rattle.operation_line.specs.Writing.{writable}
 use Rattle.operation.specs.RotationType.{isTurn}
 use borrow.Author.Needs.{needs}
-use Rattle.operation_line.proofs.writer.is_writable.Statement.{statement}
-use Rattle.operation_line.proofs.writer.is_writable.Tie as tie
+use Rattle.line_writing.proofs.is_writable.Statement.{statement}
+use Rattle.line_writing.proofs.is_writable.Tie as tie
 
 identify-handedness-requires : tie.Need-identify-handedness-requires
 identify-handedness-requires c κs = search needs

@@ -2,11 +2,11 @@
 use native.Mathlib.Omega.{arith}
 use lib.ListN.{length-set}
 use Rattle.placed_text.specs.Placing.{put-byte, put-then}
 use Rattle.operation_line.specs.Writing.{lineOf, plainLine, writtenLine}
 use Rattle.operation_line.specs.Building.{part-short}
 use borrow.Author.Needs.{needs}
-use Rattle.operation_line.proofs.writer.put_line.Statement.{statement}
-use Rattle.operation_line.proofs.writer.put_line.Tie as tie
+use Rattle.line_writing.proofs.put_line.Statement.{statement}
+use Rattle.line_writing.proofs.put_line.Tie as tie
 
 put-part-requires : tie.Need-put-part-requires
 put-part-requires c κs = search needs
