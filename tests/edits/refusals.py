@@ -11,10 +11,16 @@ import sys
 
 UNFIT = re.compile(r"has no `Need-|is not in scope|no such (?:module|name)|unknown name|cannot find")
 
+# A function that has no file is proved by the prover's own search: it says which fact that does not reach.
+NOT_REACHED = re.compile(r"^fn (\S+): no proof: .*`search` does not close `([^`]+)`", re.M)
+
 
 def judged(log):
     """Whether what the prover said of a crate that it did not prove shows a fact that fails, and that in words."""
     first = next((line.strip() for line in log.split("\n") if ": error" in line), "")
+    left = NOT_REACHED.search(log)
+    if not first and left:
+        return True, f"refused, {left.group(2)} of {left.group(1)} does not hold"
     if not first or UNFIT.search(first):
         return False, f"refused, but not by a fact: {first[:300]}"
     place = re.search(r"((?:src|specs|proofs)/[^ ]*?\.(?:antt|rt)):(\d+)", first)
