@@ -16,8 +16,9 @@ import sys
 TOKEN = re.compile(r"""[^\s(){}.;,@"«»\[\]|:`*/]+""")
 DECLARED = re.compile(r"(?m)^(?:(?:pattern|unfoldable|abbrev|axiom|pub|data|record) )*([^\s(){}.;,@\"«»]+)(?: \{[^{}\n]*\})* :")
 INNER = re.compile(r"(?m)^ +(?:pub )?([a-z][^\s(){}.;,@\"«»:]*) :")
+NESTED = re.compile(r"(?m)^ +(?:(?:unfoldable|abbrev|pub) )*([a-z][^\s(){}.;,@\"«»:]*)(?: \{[^{}\n]*\})* :(?= )")
 BLOCK = re.compile(r"(?m)^(?:(?:pub|abbrev) )*(?:data|record)\b[^\n]*\n((?: +[^\n]*\n|\n)+)")
-CAMEL = re.compile(r"(?<=[a-z0-9])([A-Z])")
+CAMEL = re.compile(r"(?<=[a-z0-9])([A-Z])|(?<=[A-Z])([A-Z])(?=[a-z])")
 LOWER_CAMEL = re.compile(r"^[a-z].*[a-z0-9][A-Z]|-[a-z]+[A-Z]")
 
 # Lemmas that have the name of their definition once that is in snake case: the module that declares one, and its name.
@@ -36,9 +37,11 @@ LEMMAS = {
     "space_group.specs.OperationGrowth": "same_turn",
     "hall_symbol.specs.Parts": "two_digits",
     "operation.specs.Composed": "product_inside",
+    "catalogue.specs.Calls": "in_a_row",
+    "space_group_theorems.specs.Acceptance": "first_off",
 }
 # A constructor and a field, which no file has beside the definition.
-APART = {"noRoom", "sameBytes"}
+APART = {"noRoom", "sameBytes", "tooShort"}
 
 
 def snake(name):
@@ -47,7 +50,7 @@ def snake(name):
     turned = []
     for part in parts:
         if re.match(r"[a-z]", part):
-            part = CAMEL.sub(lambda m: "_" + m[1].lower(), part)
+            part = CAMEL.sub(lambda m: "_" + m[0].lower(), part)
         turned.append(part)
     return "".join(turned)
 
@@ -84,7 +87,7 @@ def main():
     declared, where = set(), collections.defaultdict(set)
     for path in files("crates", (".antt",)):
         text = read(path)
-        names = set(DECLARED.findall(text))
+        names = set(DECLARED.findall(text)) | set(NESTED.findall(text))
         for block in BLOCK.findall(text):
             names.update(INNER.findall(block))
         declared |= names

@@ -29,17 +29,17 @@ part-operation bytes i f e = e ∙ ap operation_in (tail-part bytes (item_width 
 
 module _ (n : ℕ) (bytes : List ℕ) where
   -- The lines of the first i operations.
-  unfoldable pub linesTo : ℕ → List ℕ
-  linesTo i = bytes_of operation_line (take i (operations_in n bytes))
+  unfoldable pub lines_to : ℕ → List ℕ
+  lines_to i = bytes_of operation_line (take i (operations_in n bytes))
 
   -- Nothing is written before the first.
-  pub lines_start : (out : List ℕ) (at : ℕ) → Put out at (linesTo 0) out at
-  unfolding linesTo bytes_of
+  pub lines_start : (out : List ℕ) (at : ℕ) → Put out at (lines_to 0) out at
+  unfolding lines_to bytes_of
   lines_start out at = put-nothing out at
 
   -- One line more.
-  lines_more : (i : ℕ) → i < n → linesTo i ++ operation_line (operation_in (drop (item_width * i) bytes)) ≡ linesTo (i + 1)
-  unfolding linesTo bytes_of
+  lines_more : (i : ℕ) → i < n → lines_to i ++ operation_line (operation_in (drop (item_width * i) bytes)) ≡ lines_to (i + 1)
+  unfolding lines_to bytes_of
   lines_more i h =
       let count = items-length item_width operation_in n bytes in
       let more : take (i + 1) (operations_in n bytes) ≡ take i (operations_in n bytes) ++ (operation_in (drop (item_width * i) bytes) ∷ []) =
@@ -49,12 +49,12 @@ module _ (n : ℕ) (bytes : List ℕ) where
       ∙ ap (λ (r : List ℕ). bytes_of operation_line (take i (operations_in n bytes)) ++ r) (append-nil (operation_line (operation_in (drop (item_width * i) bytes)))))
 
   -- One operation more is written.
-  pub lines_next : (i : ℕ) → i < n → {out now after : List ℕ} {at mid end : ℕ} (f : Operation) → f ≡ operation_in (drop (item_width * i) bytes) → Put out at (linesTo i) now mid → Put now mid (operation_line f) after end → Put out at (linesTo (i + 1)) after end
+  pub lines_next : (i : ℕ) → i < n → {out now after : List ℕ} {at mid end : ℕ} (f : Operation) → f ≡ operation_in (drop (item_width * i) bytes) → Put out at (lines_to i) now mid → Put now mid (operation_line f) after end → Put out at (lines_to (i + 1)) after end
   lines_next i h f e p q = put-named (lines_more i h) (put_then p (put-named (ap operation_line e) q))
 
   -- All of them.
-  pub lines_end : (i : ℕ) → i ≡ n → {out now : List ℕ} {at end : ℕ} → Put out at (linesTo i) now end → Put out at (bytes_of operation_line (operations_in n bytes)) now end
-  unfolding linesTo
+  pub lines_end : (i : ℕ) → i ≡ n → {out now : List ℕ} {at end : ℕ} → Put out at (lines_to i) now end → Put out at (bytes_of operation_line (operations_in n bytes)) now end
+  unfolding lines_to
   lines_end i e p =
       let whole : take i (operations_in n bytes) ≡ operations_in n bytes = ap (λ (k : ℕ). take k (operations_in n bytes)) (e ∙ sym (items-length item_width operation_in n bytes)) ∙ take-length (operations_in n bytes) in
       put-named (ap (bytes_of operation_line) whole) p

@@ -9,7 +9,7 @@ use Rattle.symbol_group.specs.declared.refusal.Refusal.TheVariants.{Text}
 use Rattle.record_writing.specs.SymbolRecords.{symbol_record_of, symbol_buffer_of}
 use Rattle.record_writing.specs.declared.SymbolRecord.{SymbolRecord}
 use Rattle.record_writing.specs.declared.SymbolRecord.TheVariants.{Refused as NotWritten}
-use Rattle.lines.specs.Lines.{last_line, lines_of, in_aRow, last-once}
+use Rattle.lines.specs.Lines.{last_line, lines_of, in_a_row, last-once}
 use Rattle.lines.specs.Feeding.{shortened, kept_behind, handed_over, all_handed_over, taken_of, short-whole, long-shortened, long-length, all-parts, handed-lines}
 use Rattle.lines.specs.Keeping.{held, stored}
 use Rattle.lines.specs.Storing.{Handy, handy-length, stored-whole, held-stored, held-handy}
@@ -53,9 +53,9 @@ module _ (rooms : ℕ → List ℕ) where
     handing : (c : Catalogue) (i : ℕ) (piece : List ℕ) (pieces : List (List ℕ)) (later : List (SymbolRecord × List ℕ)) → Calls (piece_step c piece (rooms i)).catalogue (i + length (heard (piece_step c piece (rooms i)).answer (piece_room c piece (rooms i)))) (still_to_come (taken_by (piece_step c piece (rooms i)).answer) piece pieces) later → Calls c i (piece ∷ pieces) (heard (piece_step c piece (rooms i)).answer (piece_room c piece (rooms i)) ++ later)
 
   -- The answers for lines, from number i on: of each, what the writing of its record answers, and what it leaves in the room.
-  abbrev pub answersFrom : ℕ → List (List ℕ) → List (SymbolRecord × List ℕ)
-  answersFrom i [] = []
-  answersFrom i (line ∷ lines) = (symbol_record_of line (rooms i) 0, symbol_buffer_of line (rooms i) 0) ∷ answersFrom (suc i) lines
+  abbrev pub answers_from : ℕ → List (List ℕ) → List (SymbolRecord × List ℕ)
+  answers_from i [] = []
+  answers_from i (line ∷ lines) = (symbol_record_of line (rooms i) 0, symbol_buffer_of line (rooms i) 0) ∷ answers_from (suc i) lines
 
 -- ---- lines that are shortened are answered alike
 
@@ -111,14 +111,14 @@ module _ (c : Catalogue) (O : Open c) where
 
 -- ---- answers in order
 module _ (rooms : ℕ → List ℕ) where
-  answers-parts : (i : ℕ) (lines more : List (List ℕ)) → answersFrom rooms i lines ++ answersFrom rooms (i + length lines) more ≡ answersFrom rooms i (lines ++ more)
-  answers-parts i [] more = ap (λ (n : ℕ). answersFrom rooms n more) (omega arith)
+  answers-parts : (i : ℕ) (lines more : List (List ℕ)) → answers_from rooms i lines ++ answers_from rooms (i + length lines) more ≡ answers_from rooms i (lines ++ more)
+  answers-parts i [] more = ap (λ (n : ℕ). answers_from rooms n more) (omega arith)
   answers-parts i (line ∷ lines) more =
       ap (λ (l : List (SymbolRecord × List ℕ)). (symbol_record_of line (rooms i) 0, symbol_buffer_of line (rooms i) 0) ∷ l)
-      (ap (λ (n : ℕ). answersFrom rooms (suc i) lines ++ answersFrom rooms n more) (omega arith) ∙ answers-parts (suc i) lines more)
+      (ap (λ (n : ℕ). answers_from rooms (suc i) lines ++ answers_from rooms n more) (omega arith) ∙ answers-parts (suc i) lines more)
 
   -- What is heard of at most one line.
-  heard-lines : (i taken : ℕ) (lines : List (List ℕ)) → length lines ≤ 1 → heard (told_by taken lines (rooms i)) (room_by lines (rooms i)) ≡ answersFrom rooms i lines
+  heard-lines : (i taken : ℕ) (lines : List (List ℕ)) → length lines ≤ 1 → heard (told_by taken lines (rooms i)) (room_by lines (rooms i)) ≡ answers_from rooms i lines
   heard-lines i taken [] h = refl
   heard-lines i taken (line ∷ []) h = refl
   heard-lines i taken (line ∷ other ∷ lines) h = absurd (omega arith)
@@ -129,7 +129,7 @@ module _ (rooms : ℕ → List ℕ) where
   heard-count i taken (line ∷ other ∷ lines) h = absurd (omega arith)
 
   -- Shortened lines are answered alike.
-  answers-shortened : (i : ℕ) (lines : List (List ℕ)) → answersFrom rooms i (map shortened lines) ≡ answersFrom rooms i lines
+  answers-shortened : (i : ℕ) (lines : List (List ℕ)) → answers_from rooms i (map shortened lines) ≡ answers_from rooms i lines
   answers-shortened i [] = refl
   answers-shortened i (line ∷ lines) =
       let alike = shortened-answer line (rooms i) in
@@ -141,13 +141,13 @@ taken-told taken (line ∷ lines) room = refl
 
 -- ---- however it is cut
 -- What is left of a piece and the pieces behind it, in a row.
-still-in-a-row : (taken : ℕ) (piece : List ℕ) (pieces : List (List ℕ)) → in_aRow (still_to_come taken piece pieces) ≡ drop taken piece ++ in_aRow pieces
-unfolding in_aRow
+still-in-a-row : (taken : ℕ) (piece : List ℕ) (pieces : List (List ℕ)) → in_a_row (still_to_come taken piece pieces) ≡ drop taken piece ++ in_a_row pieces
+unfolding in_a_row
 still-in-a-row taken piece pieces = by-test (ltb taken (length piece)) refl
   where
-    by-test : (t : Bool) → ltb taken (length piece) ≡ t → in_aRow (cond t (drop taken piece ∷ pieces) pieces) ≡ drop taken piece ++ in_aRow pieces
+    by-test : (t : Bool) → ltb taken (length piece) ≡ t → in_a_row (cond t (drop taken piece ∷ pieces) pieces) ≡ drop taken piece ++ in_a_row pieces
     by-test true e = refl
-    by-test false e = sym (ap (λ (l : List ℕ). l ++ in_aRow pieces) (drop_of_length-le piece {i = taken} (ltb-false taken (length piece) e)))
+    by-test false e = sym (ap (λ (l : List ℕ). l ++ in_a_row pieces) (drop_of_length-le piece {i = taken} (ltb-false taken (length piece) e)))
 
 -- They may be handed in.
 pub still-fit : (taken : ℕ) (piece : List ℕ) (pieces : List (List ℕ)) → AllFit (piece ∷ pieces) → AllFit (still_to_come taken piece pieces)
@@ -158,17 +158,17 @@ still-fit taken piece pieces (fits, others) = by-test (ltb taken (length piece))
     by-test false = others
 
 -- Of no pieces the last line is left.
-none_left : (line : List ℕ) → last_line line ≡ all_handed_over line (in_aRow [])
-unfolding all_handed_over handed_over kept_behind in_aRow
+none_left : (line : List ℕ) → last_line line ≡ all_handed_over line (in_a_row [])
+unfolding all_handed_over handed_over kept_behind in_a_row
 none_left line = refl
 
-in_a_row : (line piece : List ℕ) (pieces : List (List ℕ)) → all_handed_over line (piece ++ in_aRow pieces) ≡ all_handed_over line (in_aRow (piece ∷ pieces))
-unfolding in_aRow
-in_a_row line piece pieces = refl
+in_a_row_lem : (line piece : List ℕ) (pieces : List (List ℕ)) → all_handed_over line (piece ++ in_a_row pieces) ≡ all_handed_over line (in_a_row (piece ∷ pieces))
+unfolding in_a_row
+in_a_row_lem line piece pieces = refl
 
 module _ (rooms : ℕ → List ℕ) where
   -- What is heard of the end,
-  end-heard : (c : Catalogue) → Open c → (i : ℕ) → heard (end_step c (rooms i)).answer (end_room c (rooms i)) ≡ answersFrom rooms i (last_line (line_so_far c))
+  end-heard : (c : Catalogue) → Open c → (i : ℕ) → heard (end_step c (rooms i)).answer (end_room c (rooms i)) ≡ answers_from rooms i (last_line (line_so_far c))
   end-heard c O i =
       let (step, room) = end-open c (rooms i) O.going in
       ap₂ (λ (s : Step) (r : List ℕ). heard s.answer r) (sym step) (sym room) ∙ heard-lines rooms i 0 (last_line (line_so_far c)) (last-once (line_so_far c))
@@ -178,7 +178,7 @@ module _ (rooms : ℕ → List ℕ) where
     abbrev finished-lines : List (List ℕ)
     finished-lines = handed_over (line_so_far c) (part_of piece)
 
-    piece-heard : heard (piece_step c piece (rooms i)).answer (piece_room c piece (rooms i)) ≡ answersFrom rooms i finished-lines
+    piece-heard : heard (piece_step c piece (rooms i)).answer (piece_room c piece (rooms i)) ≡ answers_from rooms i finished-lines
     piece-heard =
         let (step, room) = piece-open c piece (rooms i) fits O.going in
         ap₂ (λ (s : Step) (r : List ℕ). heard s.answer r) (sym step) (sym room) ∙ heard-lines rooms i (taken_of piece) finished-lines (handed-once (line_so_far c) piece)
@@ -197,23 +197,23 @@ module _ (rooms : ℕ → List ℕ) where
     piece-next = ap (λ (s : Step). s.catalogue) (sym (piece-open c piece (rooms i) fits O.going).0)
 
   -- From any state of a catalogue on.
-  from-calls : {c : Catalogue} {i : ℕ} {pieces : List (List ℕ)} {answers : List (SymbolRecord × List ℕ)} → Calls rooms c i pieces answers → Open c → AllFit pieces → answers ≡ answersFrom rooms i (all_handed_over (line_so_far c) (in_aRow pieces))
-  from-calls (ending c i) O fit = end-heard c O i ∙ ap (answersFrom rooms i) (none_left (line_so_far c))
+  from-calls : {c : Catalogue} {i : ℕ} {pieces : List (List ℕ)} {answers : List (SymbolRecord × List ℕ)} → Calls rooms c i pieces answers → Open c → AllFit pieces → answers ≡ answers_from rooms i (all_handed_over (line_so_far c) (in_a_row pieces))
+  from-calls (ending c i) O fit = end-heard c O i ∙ ap (answers_from rooms i) (none_left (line_so_far c))
   from-calls (handing c i piece pieces later calls) O fit =
       let lines = finished-lines c O i piece fit.0 in
-      let behind-it = in_aRow pieces in
+      let behind-it = in_a_row pieces in
       let taken = taken_of piece in
       let left = still_to_come (taken_by (piece_step c piece (rooms i)).answer) piece pieces in
       let goes_on = piece-next c O i piece fit.0 in
-      let row : in_aRow left ≡ drop taken piece ++ behind-it = still-in-a-row (taken_by (piece_step c piece (rooms i)).answer) piece pieces ∙ ap (λ (n : ℕ). drop n piece ++ behind-it) (piece-takes c O i piece fit.0) in
+      let row : in_a_row left ≡ drop taken piece ++ behind-it = still-in-a-row (taken_by (piece_step c piece (rooms i)).answer) piece pieces ∙ ap (λ (n : ℕ). drop n piece ++ behind-it) (piece-takes c O i piece fit.0) in
       let line-then : line_so_far (piece_step c piece (rooms i)).catalogue ≡ behind c O piece = ap line_so_far goes_on ∙ next-line c O piece in
       let rest = from-calls calls (subst Open (sym goes_on) (next-open c O piece)) (still-fit (taken_by (piece_step c piece (rooms i)).answer) piece pieces fit) in
       ap₂ ◌++◌ (piece-heard c O i piece fit.0)
-      (rest ∙ ap₂ (λ (n : ℕ) (l : List (List ℕ)). answersFrom rooms n l) (ap (λ (n : ℕ). i + n) (piece-count c O i piece fit.0)) (ap₂ all_handed_over line-then row))
+      (rest ∙ ap₂ (λ (n : ℕ) (l : List (List ℕ)). answers_from rooms n l) (ap (λ (n : ℕ). i + n) (piece-count c O i piece fit.0)) (ap₂ all_handed_over line-then row))
       ∙ answers-parts rooms i lines (all_handed_over (behind c O piece) (drop taken piece ++ behind-it))
-      ∙ ap (answersFrom rooms i)
+      ∙ ap (answers_from rooms i)
       (all-parts (line_so_far c) (part_of piece) (drop taken piece ++ behind-it)
-      ∙ ap (all_handed_over (line_so_far c)) (sym (append_assoc (part_of piece) (drop taken piece) behind-it) ∙ ap (λ (l : List ℕ). l ++ behind-it) (take-append-drop taken piece)) ∙ in_a_row (line_so_far c) piece pieces)
+      ∙ ap (all_handed_over (line_so_far c)) (sym (append_assoc (part_of piece) (drop taken piece) behind-it) ∙ ap (λ (l : List ℕ). l ++ behind-it) (take-append-drop taken piece)) ∙ in_a_row_lem (line_so_far c) piece pieces)
 
   -- A fresh catalogue holds no byte.
   fresh-line : (bytes : List ℕ) → line_so_far (fresh bytes) ≡ []
@@ -221,8 +221,8 @@ module _ (rooms : ℕ → List ℕ) where
   fresh-line bytes = refl
 
   -- However a text is cut into pieces, the answers, each with what is left in its room, are in order those for the lines of the uncut text.
-  pub cut-anywhere : (bytes : List ℕ) → length bytes ≡ 80 → (pieces : List (List ℕ)) → AllFit pieces → (answers : List (SymbolRecord × List ℕ)) → Calls rooms (fresh bytes) 0 pieces answers → answers ≡ answersFrom rooms 0 (lines_of (in_aRow pieces))
+  pub cut-anywhere : (bytes : List ℕ) → length bytes ≡ 80 → (pieces : List (List ℕ)) → AllFit pieces → (answers : List (SymbolRecord × List ℕ)) → Calls rooms (fresh bytes) 0 pieces answers → answers ≡ answers_from rooms 0 (lines_of (in_a_row pieces))
   cut-anywhere bytes places pieces fit answers calls =
       from-calls calls (record { going = omega arith; places = places }) fit
-      ∙ ap (answersFrom rooms 0) (ap (λ (l : List ℕ). all_handed_over l (in_aRow pieces)) (fresh-line bytes) ∙ handed-lines (in_aRow pieces))
-      ∙ answers-shortened rooms 0 (lines_of (in_aRow pieces))
+      ∙ ap (answers_from rooms 0) (ap (λ (l : List ℕ). all_handed_over l (in_a_row pieces)) (fresh-line bytes) ∙ handed-lines (in_a_row pieces))
+      ∙ answers-shortened rooms 0 (lines_of (in_a_row pieces))

@@ -11,11 +11,11 @@ use Rattle.record_writing.specs.Places.{room-there}
 use Rattle.record_writing.specs.SymbolRecords.{symbol_record_of}
 use Rattle.record_writing.specs.declared.SymbolRecord.{SymbolRecord}
 use Rattle.record_writing.specs.declared.SymbolRecord.TheVariants.{NoRoom, Refused as NotWritten}
-use Rattle.lines.specs.Lines.{lines_of, in_aRow, Unended, next, lines-spelled, spelled-lines}
+use Rattle.lines.specs.Lines.{lines_of, in_a_row, Unended, next, lines-spelled, spelled-lines}
 use Rattle.lines.specs.Feeding.{taken_of, handed_over, taken-some}
 use Rattle.catalogue.specs.Answers.{most_at_once, ended_status, line_so_far, fresh, told_by, refusing, part_of, piece_step, piece_room, end_step, end_room}
 use Rattle.catalogue.specs.Steps.{long-piece, piece-after, piece-open, end_after, end-open}
-use Rattle.catalogue.specs.Calls.{taken_by, heard, still_to_come, AllFit, Calls, ending, handing, answersFrom, long-answer, Open, next-open, taken-told, still-fit, piece-next, cut-anywhere}
+use Rattle.catalogue.specs.Calls.{taken_by, heard, still_to_come, AllFit, Calls, ending, handing, answers_from, long-answer, Open, next-open, taken-told, still-fit, piece-next, cut-anywhere}
 use Rattle.catalogue.specs.declared.Catalogue.{Catalogue}
 use Rattle.catalogue.specs.declared.Step.{Step}
 use Rattle.catalogue.specs.declared.Answer.{Answer}
@@ -89,11 +89,11 @@ module _ (c : Catalogue) (out : List ℕ) where
 -- ---- a caller's calls come to an end
 -- How much there is to hand in.
 abbrev size : List (List ℕ) → ℕ
-size pieces = length pieces + length (in_aRow pieces)
+size pieces = length pieces + length (in_a_row pieces)
 
-row-length : (piece : List ℕ) (pieces : List (List ℕ)) → length (in_aRow (piece ∷ pieces)) ≡ length piece + length (in_aRow pieces)
-unfolding in_aRow
-row-length piece pieces = length-append piece (in_aRow pieces)
+row-length : (piece : List ℕ) (pieces : List (List ℕ)) → length (in_a_row (piece ∷ pieces)) ≡ length piece + length (in_a_row pieces)
+unfolding in_a_row
+row-length piece pieces = length-append piece (in_a_row pieces)
 
 -- It is less behind each call.
 size_less : (taken : ℕ) (piece : List ℕ) (pieces : List (List ℕ)) → (0 < length piece → 0 < taken) → size (still_to_come taken piece pieces) < size (piece ∷ pieces)
@@ -137,13 +137,13 @@ module _ (rooms : ℕ → List ℕ) where
 
   -- ---- a line over 80 bytes
   -- It is answered 1 once, at its end, the room untouched, and reading resumes behind its byte 10.
-  pub too-long-once : (bytes : List ℕ) → length bytes ≡ 80 → (pieces : List (List ℕ)) → AllFit pieces → (answers : List (SymbolRecord × List ℕ)) → Calls rooms (fresh bytes) 0 pieces answers → (line text : List ℕ) → Unended line → 80 < length line → in_aRow pieces ≡ line ++ (10 ∷ text) → answers ≡ (NotWritten (Text TooLong), rooms 0) ∷ answersFrom rooms 1 (lines_of text)
+  pub too-long-once : (bytes : List ℕ) → length bytes ≡ 80 → (pieces : List (List ℕ)) → AllFit pieces → (answers : List (SymbolRecord × List ℕ)) → Calls rooms (fresh bytes) 0 pieces answers → (line text : List ℕ) → Unended line → 80 < length line → in_a_row pieces ≡ line ++ (10 ∷ text) → answers ≡ (NotWritten (Text TooLong), rooms 0) ∷ answers_from rooms 1 (lines_of text)
   too-long-once bytes places pieces fit answers calls line text u long e =
       let alike = long-answer line (rooms 0) long in
       cut-anywhere rooms bytes places pieces fit answers calls
-      ∙ ap (λ (t : List ℕ). answersFrom rooms 0 (lines_of t)) e
-      ∙ ap (answersFrom rooms 0) (spelled-lines (next line u (lines-spelled text)))
-      ∙ ap (λ (a : SymbolRecord × List ℕ). a ∷ answersFrom rooms 1 (lines_of text)) (λ j. (alike.0 j, alike.1 j))
+      ∙ ap (λ (t : List ℕ). answers_from rooms 0 (lines_of t)) e
+      ∙ ap (answers_from rooms 0) (spelled-lines (next line u (lines-spelled text)))
+      ∙ ap (λ (a : SymbolRecord × List ℕ). a ∷ answers_from rooms 1 (lines_of text)) (λ j. (alike.0 j, alike.1 j))
 
 -- ---- the room for one answer
 -- 245 bytes always suffice.

@@ -1,12 +1,12 @@
 -- What is answered on a subgroup of a table's group: its conjugates, its normalizer, and the permutations of its members.
 use Rattle.std.specs.Prelude.{cond, List, ◌++◌, ℕ, eqb, ltb, length, drop, replicate}
 use Rattle.std.specs.Int.Count.{ones}
-use Rattle.subgroup_laws.specs.Conjugates.{conjugatesOf, conjugatorsOf}
-use Rattle.subgroup_laws.specs.Permutations.{permutationOf}
+use Rattle.subgroup_laws.specs.Conjugates.{conjugates_of, conjugators_of}
+use Rattle.subgroup_laws.specs.Permutations.{permutation_of}
 use Rattle.subgroup_laws.specs.Slots.{written, cleared}
-use Rattle.subgroup_laws.specs.Subsets.{isSubgroup, conjugateOf, normalizerOf}
+use Rattle.subgroup_laws.specs.Subsets.{is_subgroup, conjugate_of, normalizer_of}
 use Rattle.subgroup_laws.specs.Table.{product}
-use Rattle.conjugation.specs.LentConjugates.{tooShort}
+use Rattle.conjugation.specs.LentConjugates.{too_short}
 use Rattle.table_check.specs.OnGroup.{on_group, on_bytes}
 use Rattle.table_check.specs.CheckAnswers.{check_of}
 use Rattle.table_check.specs.declared.Answer.{Answer}
@@ -17,16 +17,16 @@ use Rattle.table_check.specs.declared.Refusal.TheVariants.{Slots, Subgroup, Elem
 -- the conjugate of a subgroup: 27 goes before 28
 unfoldable pub conjugate_answer : ℕ → (ℕ → ℕ → ℕ) → ℕ → ℕ → ℕ → Answer
 conjugate_answer n times e s g =
-    cond (isSubgroup n times e s) (cond (ltb g n) (Value (conjugateOf n times e s g)) (Refused Element)) (Refused Subgroup)
+    cond (is_subgroup n times e s) (cond (ltb g n) (Value (conjugate_of n times e s g)) (Refused Element)) (Refused Subgroup)
 
 -- the normalizer of a subgroup
 unfoldable pub normalizer_answer : ℕ → (ℕ → ℕ → ℕ) → ℕ → ℕ → Answer
-normalizer_answer n times e s = cond (isSubgroup n times e s) (Value (normalizerOf n times e s)) (Refused Subgroup)
+normalizer_answer n times e s = cond (is_subgroup n times e s) (Value (normalizer_of n times e s)) (Refused Subgroup)
 
 -- one of three for each way that a permutation is not asked for rightly, or what follows
 abbrev pub of_normalizer : {A : Type 0} → ℕ → (ℕ → ℕ → ℕ) → ℕ → ℕ → ℕ → (Refusal → A) → A → A
 of_normalizer n times e s g refuse answer =
-    cond (isSubgroup n times e s) (cond (ltb g n) (cond (eqb (conjugateOf n times e s g) s) answer (refuse Normalizer)) (refuse Element)) (refuse Subgroup)
+    cond (is_subgroup n times e s) (cond (ltb g n) (cond (eqb (conjugate_of n times e s g) s) answer (refuse Normalizer)) (refuse Element)) (refuse Subgroup)
 
 -- the permutation by an element of the normalizer: 27 to 29 go before 26
 unfoldable pub permutation_answer : ℕ → (ℕ → ℕ → ℕ) → ℕ → ℕ → ℕ → List ℕ → Answer
@@ -35,7 +35,7 @@ permutation_answer n times e s g b = of_normalizer n times e s g Refused (cond (
 -- what the lent list holds then: the positions, or zeros
 unfoldable pub permutation_bytes : ℕ → (ℕ → ℕ → ℕ) → ℕ → ℕ → ℕ → List ℕ → List ℕ
 permutation_bytes n times e s g b =
-    of_normalizer n times e s g (λ r. b) (cond (ltb (length b) (ones s)) (replicate (length b) 0) (permutationOf n times e s g ++ drop (ones s) b))
+    of_normalizer n times e s g (λ r. b) (cond (ltb (length b) (ones s)) (replicate (length b) 0) (permutation_of n times e s g ++ drop (ones s) b))
 
 -- the same on the group of a table
 abbrev pub conjugate_entry : ℕ → List ℕ → ℕ → ℕ → Answer
@@ -56,18 +56,18 @@ permutation_list n t s g b = on_bytes (check_of n t) b (λ e. permutation_bytes 
 -- the conjugates of a subgroup: 27 goes before 26
 unfoldable pub conjugates_answer : ℕ → (ℕ → ℕ → ℕ) → ℕ → ℕ → List ℕ → List ℕ → Answer
 conjugates_answer n times e s b c =
-    cond (isSubgroup n times e s) (cond (tooShort n times e s b c) (Refused Slots) (Value (length (conjugatesOf n times e s)))) (Refused Subgroup)
+    cond (is_subgroup n times e s) (cond (too_short n times e s b c) (Refused Slots) (Value (length (conjugates_of n times e s)))) (Refused Subgroup)
 
 -- what the list of sets holds then
 unfoldable pub conjugates_bytes : ℕ → (ℕ → ℕ → ℕ) → ℕ → ℕ → List ℕ → List ℕ → List ℕ
 conjugates_bytes n times e s b c =
-    cond (isSubgroup n times e s) (cond (tooShort n times e s b c) (cleared b) (written (conjugatesOf n times e s) b)) b
+    cond (is_subgroup n times e s) (cond (too_short n times e s b c) (cleared b) (written (conjugates_of n times e s) b)) b
 
 -- and the list of conjugators
 unfoldable pub conjugators_bytes : ℕ → (ℕ → ℕ → ℕ) → ℕ → ℕ → List ℕ → List ℕ → List ℕ
 conjugators_bytes n times e s b c =
-    cond (isSubgroup n times e s)
-    (cond (tooShort n times e s b c) (replicate (length c) 0) (conjugatorsOf n times e s ++ drop (length (conjugatesOf n times e s)) c))
+    cond (is_subgroup n times e s)
+    (cond (too_short n times e s b c) (replicate (length c) 0) (conjugators_of n times e s ++ drop (length (conjugates_of n times e s)) c))
     c
 
 -- the same on the group of a table

@@ -2,7 +2,7 @@
 // Ported from subgroup/finite_group.rs of moyo 0.21.0 (`normalizer_action`), and changed: one element at a time, into a lent list of bytes.
 ghost use Rattle.std.specs.Prelude.{◌≡◌, ◌++◌, ◌<◌, ◌≤◌, ◌^◌, length, drop};
 ghost use Rattle.std.specs.Int.Count.{ones, ones_in};
-ghost use Rattle.subgroup_laws.specs.Permutations.{permutationOf};
+ghost use Rattle.subgroup_laws.specs.Permutations.{permutation_of};
 ghost use Rattle.subgroup_laws.specs.Table.{product, GroupTable};
 ghost use Rattle.conjugation.specs.Answers.{permutation_answer, permutation_bytes};
 
@@ -23,7 +23,7 @@ fn position(s: u64, y: usize) -> u8
 // The positions of the g⁻¹ x g, for the members x of s in ascending order.
 fn permute(list: &mut [u8], t: &[u8], n: usize, e: usize, s: u64, g: usize)
     requires { (GroupTable n t.now e) × (s < 2 ^ n) × (g < n) × (ones s ≤ length list.old) }
-    ensures { list.new ≡ permutationOf n (product n t.now) e s g ++ drop (ones s) list.old }
+    ensures { list.new ≡ permutation_of n (product n t.now) e s g ++ drop (ones s) list.old }
 {
     let back = inverse(t, n, e, g);
     let mut i = 0usize;

@@ -2,7 +2,7 @@
 // Ported from subgroup/finite_group.rs of moyo 0.21.0 (`conjugate`, `normalizer_action`), and changed: sets as numbers, any number may be given.
 ghost use Rattle.std.specs.Prelude.{◌≡◌, true, cond, ◌<◌, ◌^◌};
 ghost use Rattle.laws.specs.Sets.{member};
-ghost use Rattle.subgroup_laws.specs.Subsets.{holdsRow, isSubgroup, normalizerOf};
+ghost use Rattle.subgroup_laws.specs.Subsets.{holds_row, is_subgroup, normalizer_of};
 ghost use Rattle.subgroup_laws.specs.Table.{product, Cells, GroupTable};
 ghost use Rattle.conjugation.specs.Answers.{conjugate_answer, normalizer_answer};
 
@@ -32,7 +32,7 @@ fn holds_product(t: &[u8], n: usize, s: u64, x: usize, y: usize) -> bool
 // Whether s holds the products of x and its members.
 fn holds_row(t: &[u8], n: usize, s: u64, x: usize) -> bool
     requires { (Cells n t.now) × (x < n) }
-    ensures { result ≡ holdsRow n (product n t.now) s x }
+    ensures { result ≡ holds_row n (product n t.now) s x }
 {
     let mut y = 0usize;
     while y < n {
@@ -47,7 +47,7 @@ fn holds_row(t: &[u8], n: usize, s: u64, x: usize) -> bool
 // The same, if x is a member.
 fn holds_products(t: &[u8], n: usize, s: u64, x: usize) -> bool
     requires { (Cells n t.now) × (x < n) }
-    ensures { result ≡ cond (member s x) (holdsRow n (product n t.now) s x) true }
+    ensures { result ≡ cond (member s x) (holds_row n (product n t.now) s x) true }
 {
     if !contains(s, x) {
         return true;
@@ -57,7 +57,7 @@ fn holds_products(t: &[u8], n: usize, s: u64, x: usize) -> bool
 
 pub(crate) fn is_subgroup(t: &[u8], n: usize, e: usize, s: u64) -> bool
     requires { (Cells n t.now) × (e < n) }
-    ensures { result ≡ isSubgroup n (product n t.now) e s }
+    ensures { result ≡ is_subgroup n (product n t.now) e s }
 {
     if (1u64 << n) <= s {
         return false;
@@ -78,7 +78,7 @@ pub(crate) fn is_subgroup(t: &[u8], n: usize, e: usize, s: u64) -> bool
 // The elements that conjugate s to itself.
 fn normalizer_set(t: &[u8], n: usize, e: usize, s: u64) -> u64
     requires { (GroupTable n t.now e) × (s < 2 ^ n) }
-    ensures { result ≡ normalizerOf n (product n t.now) e s }
+    ensures { result ≡ normalizer_of n (product n t.now) e s }
 {
     let mut found = 0u64;
     let mut g = 0usize;

@@ -11,9 +11,9 @@ use Rattle.symbol_group.specs.declared.SymbolOrder.TheVariants as symbol-order
 use Rattle.group_record.specs.Acceptance.{Bytes}
 use Rattle.subgroup_laws.specs.Conjugation.{inverse-below, conjugate-subgroup, conjugate-set-twice, conjugate-set-by-identity, conjugate-set-back}
 use Rattle.subgroup_laws.specs.Conjugation as conjugation
-use Rattle.subgroup_laws.specs.Groups.{Group, inverseOf}
+use Rattle.subgroup_laws.specs.Groups.{Group, inverse_of}
 use Rattle.subgroup_laws.specs.SubgroupLaws.{test-subgroup, subgroup-test}
-use Rattle.subgroup_laws.specs.Subsets.{Subgroup, isSubgroup, conjugateOf}
+use Rattle.subgroup_laws.specs.Subsets.{Subgroup, is_subgroup, conjugate_of}
 use Rattle.subgroup_laws.specs.Table.{product}
 use Rattle.group_table.specs.Tables.{symbol_cells, order_of_record, record_cells}
 use Rattle.group_table.specs.declared.RecordOrder.TheVariants as record-order
@@ -37,31 +37,31 @@ module _ (n : ℕ) (t : List ℕ) (e : ℕ) (accepted : Accepts n t e) where
 
   -- the inverse of a product
   pub inverse-of-product : (a b : ℕ) → a < n → b < n
-      → inverseOf n (product n t) e (product n t a b) ≡ product n t (inverseOf n (product n t) e b) (inverseOf n (product n t) e a)
+      → inverse_of n (product n t) e (product n t a b) ≡ product n t (inverse_of n (product n t) e b) (inverse_of n (product n t) e a)
   inverse-of-product a b h k = conjugation.inverse-of-product n (product n t) e the-group a b h k
 
   -- by a and then by b is by a b
   pub by-one-then-other : (h a b : ℕ) → Subgroup n (product n t) e h → a < n → b < n
-      → conjugateOf n (product n t) e (conjugateOf n (product n t) e h a) b ≡ conjugateOf n (product n t) e h (product n t a b)
+      → conjugate_of n (product n t) e (conjugate_of n (product n t) e h a) b ≡ conjugate_of n (product n t) e h (product n t a b)
   by-one-then-other h a b H k l = conjugate-set-twice n (product n t) e the-group h a b H.small k l
 
   -- by the identity nothing changes
-  pub by-identity : (h : ℕ) → Subgroup n (product n t) e h → conjugateOf n (product n t) e h e ≡ h
+  pub by-identity : (h : ℕ) → Subgroup n (product n t) e h → conjugate_of n (product n t) e h e ≡ h
   by-identity h H = conjugate-set-by-identity n (product n t) e the-group h H.small
 
   -- by g and then by its inverse the subgroup comes back
   pub there_and_back : (h g : ℕ) → Subgroup n (product n t) e h → g < n
-      → conjugateOf n (product n t) e (conjugateOf n (product n t) e h g) (inverseOf n (product n t) e g) ≡ h
+      → conjugate_of n (product n t) e (conjugate_of n (product n t) e h g) (inverse_of n (product n t) e g) ≡ h
   there_and_back h g H l = conjugate-set-back n (product n t) e the-group h g H.small l
 
   -- ---- the answers
 
   -- a value is the conjugate of a subgroup by an element
   value-conjugate : (h g k : ℕ) → conjugate_entry n t h g ≡ table-answers.Value k
-      → Subgroup n (product n t) e h × (g < n) × (conjugateOf n (product n t) e h g ≡ k)
+      → Subgroup n (product n t) e h × (g < n) × (conjugate_of n (product n t) e h g ≡ k)
   unfolding conjugate_answer
   value-conjugate h g k p =
-      let (a, b, q) = read (isSubgroup n (product n t) e h) (ltb g n) (conjugateOf n (product n t) e h g) (rw accepted at p) in
+      let (a, b, q) = read (is_subgroup n (product n t) e h) (ltb g n) (conjugate_of n (product n t) e h g) (rw accepted at p) in
       (test-subgroup n (product n t) e the-group h a, ltb-true g n b, q)
     where
       read : (a b : Bool) (v : ℕ)
@@ -73,7 +73,7 @@ module _ (n : ℕ) (t : List ℕ) (e : ℕ) (accepted : Accepts n t e) where
       read false b v q = let z : ◌≡◌ {A = ℕ} 0 1 = cc in absurd (omega arith)
 
   -- and such a conjugate is the value
-  conjugate-value : (h g : ℕ) → Subgroup n (product n t) e h → g < n → conjugate_entry n t h g ≡ table-answers.Value (conjugateOf n (product n t) e h g)
+  conjugate-value : (h g : ℕ) → Subgroup n (product n t) e h → g < n → conjugate_entry n t h g ≡ table-answers.Value (conjugate_of n (product n t) e h g)
   unfolding conjugate_answer
   conjugate-value h g H l = rw (accepted, subgroup-test n (product n t) e the-group h H, lt-ltb g n l) refl
 
@@ -83,7 +83,7 @@ module _ (n : ℕ) (t : List ℕ) (e : ℕ) (accepted : Accepts n t e) where
   conjugate-composes h a b k l p =
       let (H, m, q) = value-conjugate h a k p in
       ap (λ (s : ℕ). conjugate_entry n t s b) (sym q)
-      ∙ conjugate-value (conjugateOf n (product n t) e h a) b (conjugate-subgroup n (product n t) e the-group h a m H) l
+      ∙ conjugate-value (conjugate_of n (product n t) e h a) b (conjugate-subgroup n (product n t) e the-group h a m H) l
       ∙ ap table-answers.Value (by-one-then-other h a b H m l)
       ∙ sym (conjugate-value h (product n t a b) H (the-group.product-below a b m l))
 
@@ -93,11 +93,11 @@ module _ (n : ℕ) (t : List ℕ) (e : ℕ) (accepted : Accepts n t e) where
 
   -- what is answered for g is asked again with g's inverse: the answer is the subgroup
   pub conjugate-returns : (h g k : ℕ) → conjugate_entry n t h g ≡ table-answers.Value k
-      → conjugate_entry n t k (inverseOf n (product n t) e g) ≡ table-answers.Value h
+      → conjugate_entry n t k (inverse_of n (product n t) e g) ≡ table-answers.Value h
   conjugate-returns h g k p =
       let (H, l, q) = value-conjugate h g k p in
-      ap (λ (s : ℕ). conjugate_entry n t s (inverseOf n (product n t) e g)) (sym q)
-      ∙ conjugate-value (conjugateOf n (product n t) e h g) (inverseOf n (product n t) e g) (conjugate-subgroup n (product n t) e the-group h g l H)
+      ap (λ (s : ℕ). conjugate_entry n t s (inverse_of n (product n t) e g)) (sym q)
+      ∙ conjugate-value (conjugate_of n (product n t) e h g) (inverse_of n (product n t) e g) (conjugate-subgroup n (product n t) e the-group h g l H)
       (inverse-below n (product n t) e the-group g l)
       ∙ ap table-answers.Value (there_and_back h g H l)
 
@@ -122,11 +122,11 @@ module _ (on : (ℕ → List ℕ → TableAnswer) → Answer) (t : List ℕ) (Or
 
   -- there and back
   asked-returns : (e h g k : ℕ) → on identity_answer ≡ Value e → on (λ n t. conjugate_entry n t h g) ≡ Value k
-      → on (λ n t. conjugate_entry n t k (inverseOf n (product n t) e g)) ≡ Value h
+      → on (λ n t. conjugate_entry n t k (inverse_of n (product n t) e g)) ≡ Value h
   asked-returns e h g k p q =
       let (n, o, v) = A.value (λ n t. conjugate_entry n t h g) k q in
       let (f, accepted) = A.accepted n o in
-      A.told n o (λ n t. conjugate_entry n t k (inverseOf n (product n t) e g))
+      A.told n o (λ n t. conjugate_entry n t k (inverse_of n (product n t) e g))
       ∙ ap of_table (conjugate-returns n t e (identity-told n t e f accepted (told-value _ e (sym (A.told n o identity_answer) ∙ p))) h g k v)
 
 -- the group of an accepted symbol: by a and then by b
@@ -141,7 +141,7 @@ symbol-identity text = asked-identity _ _ _ (symbol-asked text)
 
 -- by g and then by its inverse
 pub symbol-returns : (text : List ℕ) (e h g k : ℕ) → on_symbol text identity_answer ≡ Value e → on_symbol text (λ n t. conjugate_entry n t h g) ≡ Value k
-    → on_symbol text (λ n t. conjugate_entry n t k (inverseOf n (product n t) e g)) ≡ Value h
+    → on_symbol text (λ n t. conjugate_entry n t k (inverse_of n (product n t) e g)) ≡ Value h
 symbol-returns text = asked-returns _ _ _ (symbol-asked text)
 
 -- the group of a record that is read: by a and then by b
@@ -157,5 +157,5 @@ record-identity bytes b = asked-identity _ _ _ (record-asked bytes b)
 
 -- by g and then by its inverse
 pub record-returns : (bytes : List ℕ) → Bytes bytes → (e h g k : ℕ) → on_record bytes identity_answer ≡ Value e
-    → on_record bytes (λ n t. conjugate_entry n t h g) ≡ Value k → on_record bytes (λ n t. conjugate_entry n t k (inverseOf n (product n t) e g)) ≡ Value h
+    → on_record bytes (λ n t. conjugate_entry n t h g) ≡ Value k → on_record bytes (λ n t. conjugate_entry n t k (inverse_of n (product n t) e g)) ≡ Value h
 record-returns bytes b = asked-returns _ _ _ (record-asked bytes b)

@@ -16,19 +16,19 @@ use Rattle.symbol_group.specs.Answers.{order_of}
 use Rattle.symbol_group.specs.declared.SymbolOrder.TheVariants as symbol-order
 use Rattle.group_record.specs.Acceptance.{Bytes}
 use Rattle.subgroup_laws.specs.ClassCounts as classes
-use Rattle.subgroup_laws.specs.Conjugates.{conjugatesOf}
+use Rattle.subgroup_laws.specs.Conjugates.{conjugates_of}
 use Rattle.subgroup_laws.specs.CosetCounts as cosets
 use Rattle.subgroup_laws.specs.Groups.{Group}
-use Rattle.subgroup_laws.specs.Lists.{subgroupsOf, representativesOf}
+use Rattle.subgroup_laws.specs.Lists.{subgroups_of, representatives_of}
 use Rattle.subgroup_laws.specs.PermutationProducts as permutations
-use Rattle.subgroup_laws.specs.Permutations.{permutationOf, permutation-length}
+use Rattle.subgroup_laws.specs.Permutations.{permutation_of, permutation-length}
 use Rattle.subgroup_laws.specs.SubgroupLaws.{test-subgroup}
-use Rattle.subgroup_laws.specs.Subsets.{Subgroup, isSubgroup, conjugateOf, normalizerOf}
+use Rattle.subgroup_laws.specs.Subsets.{Subgroup, is_subgroup, conjugate_of, normalizer_of}
 use Rattle.subgroup_laws.specs.Table.{product}
 use Rattle.group_table.specs.Tables.{order_of_record}
 use Rattle.group_table.specs.declared.RecordOrder.TheVariants as record-order
 use Rattle.finite_group.specs.Answers.{list_answer, subgroups_answer, conjugates_answer, conjugates_entry, normalizer_answer, normalizer_entry, permutation_answer, permutation_bytes, permutation_entry, permutation_list}
-use Rattle.conjugation.specs.LentConjugates.{tooShort}
+use Rattle.conjugation.specs.LentConjugates.{too_short}
 use Rattle.table_check.specs.CheckAnswers.{Accepts}
 use Rattle.table_check.specs.TableVerdict.{checked-table}
 use Rattle.table_check.specs.declared.Answer.{Answer as TableAnswer}
@@ -57,7 +57,7 @@ module _ (n : ℕ) (t : List ℕ) (e : ℕ) (accepted : Accepts n t e) where
 
   -- a subgroup's conjugates times the order of its normalizer
   pub conjugates-times-normalizer : (h : ℕ) → Subgroup n (product n t) e h
-      → length (conjugatesOf n (product n t) e h) * ones (normalizerOf n (product n t) e h) ≡ n
+      → length (conjugates_of n (product n t) e h) * ones (normalizer_of n (product n t) e h) ≡ n
   conjugates-times-normalizer h H = cosets.conjugates-times-normalizer n (product n t) e the-group h H
 
   -- each subgroup's order divides the group's
@@ -65,27 +65,27 @@ module _ (n : ℕ) (t : List ℕ) (e : ℕ) (accepted : Accepts n t e) where
   order-divides h H = cosets.order-divides n (product n t) e the-group h H
 
   -- two different classes share no subgroup
-  pub classes-apart : (r q s : ℕ) → Mem r (representativesOf n (product n t) e) → Mem q (representativesOf n (product n t) e)
-      → Mem s (conjugatesOf n (product n t) e r) → Mem s (conjugatesOf n (product n t) e q) → r ≡ q
+  pub classes-apart : (r q s : ℕ) → Mem r (representatives_of n (product n t) e) → Mem q (representatives_of n (product n t) e)
+      → Mem s (conjugates_of n (product n t) e r) → Mem s (conjugates_of n (product n t) e q) → r ≡ q
   classes-apart = classes.classes-apart n (product n t) e the-group
 
   -- the classes together hold all subgroups
-  pub classes-cover : (s : ℕ) → Mem s (subgroupsOf n (product n t) e)
-      → (r : ℕ) × Mem r (representativesOf n (product n t) e) × Mem s (conjugatesOf n (product n t) e r)
+  pub classes-cover : (s : ℕ) → Mem s (subgroups_of n (product n t) e)
+      → (r : ℕ) × Mem r (representatives_of n (product n t) e) × Mem s (conjugates_of n (product n t) e r)
   classes-cover = classes.classes-cover n (product n t) e the-group
 
   -- and are as many
-  pub classes-count : total (λ r. length (conjugatesOf n (product n t) e r)) (representativesOf n (product n t) e) ≡ length (subgroupsOf n (product n t) e)
+  pub classes-count : total (λ r. length (conjugates_of n (product n t) e r)) (representatives_of n (product n t) e) ≡ length (subgroups_of n (product n t) e)
   classes-count = classes.classes-count n (product n t) e the-group
 
   -- ---- the answers
 
   -- a value of conjugates is the number of a subgroup's
   counted : (h k : ℕ) (b c : List ℕ) → conjugates_entry n t h b c ≡ table-answers.Value k
-      → Subgroup n (product n t) e h × (length (conjugatesOf n (product n t) e h) ≡ k)
+      → Subgroup n (product n t) e h × (length (conjugates_of n (product n t) e h) ≡ k)
   unfolding conjugates_answer
   counted h k b c p =
-      let (a, q) = read (isSubgroup n (product n t) e h) (tooShort n (product n t) e h b c) (length (conjugatesOf n (product n t) e h)) (rw accepted at p) in
+      let (a, q) = read (is_subgroup n (product n t) e h) (too_short n (product n t) e h b c) (length (conjugates_of n (product n t) e h)) (rw accepted at p) in
       (test-subgroup n (product n t) e the-group h a, q)
     where
       read : (a d : Bool) (v : ℕ)
@@ -97,10 +97,10 @@ module _ (n : ℕ) (t : List ℕ) (e : ℕ) (accepted : Accepts n t e) where
       read false d v q = let z : ◌≡◌ {A = ℕ} 0 1 = cc in absurd (omega arith)
 
   -- a value of the normalizer is that of a subgroup
-  normalized : (h s : ℕ) → normalizer_entry n t h ≡ table-answers.Value s → Subgroup n (product n t) e h × (normalizerOf n (product n t) e h ≡ s)
+  normalized : (h s : ℕ) → normalizer_entry n t h ≡ table-answers.Value s → Subgroup n (product n t) e h × (normalizer_of n (product n t) e h ≡ s)
   unfolding normalizer_answer
   normalized h s p =
-      let (a, q) = read (isSubgroup n (product n t) e h) (normalizerOf n (product n t) e h) (rw accepted at p) in
+      let (a, q) = read (is_subgroup n (product n t) e h) (normalizer_of n (product n t) e h) (rw accepted at p) in
       (test-subgroup n (product n t) e the-group h a, q)
     where
       read : (a : Bool) (v : ℕ) → cond a (table-answers.Value v) (table-answers.Refused table-refusals.Subgroup) ≡ table-answers.Value s → (a ≡ true) × (v ≡ s)
@@ -108,9 +108,9 @@ module _ (n : ℕ) (t : List ℕ) (e : ℕ) (accepted : Accepts n t e) where
       read false v q = let z : ◌≡◌ {A = ℕ} 0 1 = cc in absurd (omega arith)
 
   -- a value of the list of subgroups is their number
-  subgroups-counted : (k : ℕ) (b : List ℕ) → subgroups_answer n t b ≡ table-answers.Value k → length (subgroupsOf n (product n t) e) ≡ k
+  subgroups-counted : (k : ℕ) (b : List ℕ) → subgroups_answer n t b ≡ table-answers.Value k → length (subgroups_of n (product n t) e) ≡ k
   unfolding list_answer
-  subgroups-counted k b p = read (ltb (length b / 8) (length (subgroupsOf n (product n t) e))) (length (subgroupsOf n (product n t) e)) (rw accepted at p)
+  subgroups-counted k b p = read (ltb (length b / 8) (length (subgroups_of n (product n t) e))) (length (subgroups_of n (product n t) e)) (rw accepted at p)
     where
       read : (d : Bool) (v : ℕ) → cond d (table-answers.Refused table-refusals.Slots) (table-answers.Value v) ≡ table-answers.Value k → v ≡ k
       read false v q = cc
@@ -130,10 +130,10 @@ module _ (n : ℕ) (t : List ℕ) (e : ℕ) (accepted : Accepts n t e) where
 
   -- the numbers of conjugates that are answered for the representatives add up to the number of subgroups that is answered
   pub answers-add-up : (count : ℕ → ℕ) (k : ℕ) (b : List ℕ)
-      → ((r : ℕ) → Mem r (representativesOf n (product n t) e) → (c d : List ℕ) × (conjugates_entry n t r c d ≡ table-answers.Value (count r)))
-      → subgroups_answer n t b ≡ table-answers.Value k → total count (representativesOf n (product n t) e) ≡ k
+      → ((r : ℕ) → Mem r (representatives_of n (product n t) e) → (c d : List ℕ) × (conjugates_entry n t r c d ≡ table-answers.Value (count r)))
+      → subgroups_answer n t b ≡ table-answers.Value k → total count (representatives_of n (product n t) e) ≡ k
   answers-add-up count k b each p =
-      total-same count (λ r. length (conjugatesOf n (product n t) e r)) (representativesOf n (product n t) e)
+      total-same count (λ r. length (conjugates_of n (product n t) e r)) (representatives_of n (product n t) e)
       (λ r m. let (c, d, q) = each r m in sym (counted r (count r) c d q).1)
       ∙ classes-count ∙ subgroups-counted k b p
 
@@ -141,12 +141,12 @@ module _ (n : ℕ) (t : List ℕ) (e : ℕ) (accepted : Accepts n t e) where
 
   -- a permutation that is answered is that of a subgroup by an element of its normalizer, at the front of the lent list
   permuted : (h g k : ℕ) (b : List ℕ) → permutation_entry n t h g b ≡ table-answers.Value k
-      → Subgroup n (product n t) e h × (g < n) × (conjugateOf n (product n t) e h g ≡ h) × (ones h ≡ k)
-      × (permutation_list n t h g b ≡ permutationOf n (product n t) e h g ++ drop (ones h) b)
+      → Subgroup n (product n t) e h × (g < n) × (conjugate_of n (product n t) e h g ≡ h) × (ones h ≡ k)
+      × (permutation_list n t h g b ≡ permutation_of n (product n t) e h g ++ drop (ones h) b)
   unfolding permutation_answer permutation_bytes
   permuted h g k b p =
-      let keeps = eqb (conjugateOf n (product n t) e h g) h in
-      let (a, c, d, f, q) = read (isSubgroup n (product n t) e h) (ltb g n) keeps (ltb (length b) (ones h)) (ones h) (rw accepted at p) in
+      let keeps = eqb (conjugate_of n (product n t) e h g) h in
+      let (a, c, d, f, q) = read (is_subgroup n (product n t) e h) (ltb g n) keeps (ltb (length b) (ones h)) (ones h) (rw accepted at p) in
       (test-subgroup n (product n t) e the-group h a, ltb-true g n c, eqb-true _ _ d, q, rw (accepted, a, c, d, f) refl)
     where
       read : (a c d f : Bool) (v : ℕ)
@@ -173,8 +173,8 @@ module _ (n : ℕ) (t : List ℕ) (e : ℕ) (accepted : Accepts n t e) where
             (subst (λ (m : List ℕ). Permutes n t h (ones h) m) (sym holds) (permutes H l keeps)),
       )
     where
-      permutes : Subgroup n (product n t) e h → g < n → conjugateOf n (product n t) e h g ≡ h
-          → Permutes n t h (ones h) (permutationOf n (product n t) e h g ++ drop (ones h) b)
+      permutes : Subgroup n (product n t) e h → g < n → conjugate_of n (product n t) e h g ≡ h
+          → Permutes n t h (ones h) (permutation_of n (product n t) e h g ++ drop (ones h) b)
       permutes H l keeps = record {
         below = λ i m. subst (λ (x : ℕ). x < ones h) (sym (entry i m)) (permutations.permutation-below n (product n t) e the-group h g H l keeps i m);
         once = λ i j m o q. permutations.permutation-once n (product n t) e the-group h g H l keeps i j m o (sym (entry i m) ∙ q ∙ entry j o);
@@ -185,8 +185,8 @@ module _ (n : ℕ) (t : List ℕ) (e : ℕ) (accepted : Accepts n t e) where
             ∙ ap (λ (x : ℕ). get_or (members n h) x 0) (sym (entry d u));
       }
         where
-          entry : (i : ℕ) → i < ones h → get_or (permutationOf n (product n t) e h g ++ drop (ones h) b) i 0 ≡ get_or (permutationOf n (product n t) e h g) i 0
-          entry i m = get_or-append (permutationOf n (product n t) e h g) (drop (ones h) b) 0 i
+          entry : (i : ℕ) → i < ones h → get_or (permutation_of n (product n t) e h g ++ drop (ones h) b) i 0 ≡ get_or (permutation_of n (product n t) e h g) i 0
+          entry i m = get_or-append (permutation_of n (product n t) e h g) (drop (ones h) b) 0 i
               (let q = permutation-length n (product n t) e h g H.small in omega arith)
 
 -- ---- symbols and records

@@ -9,7 +9,7 @@ use Rattle.laws.specs.Distinct.{has-member, distinct-equal}
 use Rattle.laws.specs.Closure.{step, closure-length, closure-limit, closure-unique, closure-bounded, closure-lists, closure-ends, closure-fails, ListsReached, Congruence}
 use Rattle.laws.specs.Keyed.{Steady, key-congruence, steady-each-key, steady-unit-key}
 use Rattle.laws.specs.Growth.{place}
-use Rattle.laws.specs.GrowthClosure.{place-lt, place_same, agrees, steadyFrom}
+use Rattle.laws.specs.GrowthClosure.{place-lt, place_same, agrees, steady_from}
 use Rattle.laws.specs.Truth.{all, all-member, member-all, T_true, true-T, all-fails}
 use Rattle.laws.specs.Indices.{member-at}
 use Rattle.group_growth.specs.Verdicts.{Verdict, listed, overgrown, torn, on_list, on_listing}
@@ -60,11 +60,11 @@ module _ (S : Growing) (gens : List S.Element) where
 
       -- The test of all steps.
       abbrev pub steady : Bool
-      steady = steadyFrom same alike fine product gens l l
+      steady = steady_from same alike fine product gens l l
 
       -- It passes exactly if every step from the list comes back to it.
       steady-steps : T steady ↔ Steady Alike product gens l
-      unfolding steadyFrom agrees
+      unfolding steady_from agrees
       steady-steps = (
         (λ t x g m k.
             let p = product x g in
@@ -88,7 +88,7 @@ module _ (S : Growing) (gens : List S.Element) where
 
       -- A step from the list comes back to an element that is not alike.
       fails-steady : steady ≡ false → TwoToKey S gens
-      unfolding steadyFrom agrees
+      unfolding steady_from agrees
       fails-steady h =
           let (x, m, p) = all-fails (λ x. all (λ g. alike (product x g) (listed_at (product x g))) gens) l h in
           let (g, k, q) = all-fails (λ g. alike (product x g) (listed_at (product x g))) gens p in
@@ -138,7 +138,7 @@ module _ (S : Growing) (gens : List S.Element) (limit : ℕ) where
 
   on-list-listed : (k : List Element) (l : List Element) (steps : List ℕ) → on_list same alike fine product gens k ≡ listed l steps
       → (k ≡ l) × (steps ≡ steps_of S gens l)
-  on-list-listed k l steps p = by_tests (all fine k) (steadyFrom same alike fine product gens k k) p
+  on-list-listed k l steps p = by_tests (all fine k) (steady_from same alike fine product gens k k) p
     where
       by_tests : (a b : Bool) → cond a (cond b (listed k (steps_of S gens k)) torn) overgrown ≡ listed l steps → (k ≡ l) × (steps ≡ steps_of S gens l)
       by_tests true true q =

@@ -83,8 +83,8 @@ module _ {A : Type 0} where
   held x = record { element = x; flag = false }
 
   -- The key of an element with its flag.
-  abbrev pub sameFlagged : (A → A → Bool) → Flagged A → Flagged A → Bool
-  sameFlagged same x y = same_flag x.flag y.flag && same x.element y.element
+  abbrev pub same_flagged : (A → A → Bool) → Flagged A → Flagged A → Bool
+  same_flagged same x y = same_flag x.flag y.flag && same x.element y.element
 
   abbrev pub AlikeFlagged : (A → A → Type 0) → Flagged A → Flagged A → Type 0
   AlikeFlagged Alike x y = (x.flag ≡ y.flag) × Alike x.element y.element
@@ -92,20 +92,20 @@ module _ {A : Type 0} where
   abbrev pub OkFlagged : (A → Type 0) → Flagged A → Type 0
   OkFlagged Ok x = Ok x.element
 
-  abbrev pub timesFlagged : (A → A → A) → Flagged A → Flagged A → Flagged A
-  timesFlagged product x y = record { element = product x.element y.element; flag = xor x.flag y.flag }
+  abbrev pub times_flagged : (A → A → A) → Flagged A → Flagged A → Flagged A
+  times_flagged product x y = record { element = product x.element y.element; flag = xor x.flag y.flag }
 
   module _ (same : A → A → Bool) where
     -- Elements of one key have one flag,
-    pub key-flag : (x y : Flagged A) → T (sameFlagged same x y) → x.flag ≡ y.flag
+    pub key-flag : (x y : Flagged A) → T (same_flagged same x y) → x.flag ≡ y.flag
     key-flag x y t = same_flag_lem x.flag y.flag (and_left (same_flag x.flag y.flag) _ t)
 
     -- and one key without it;
-    pub key-element : (x y : Flagged A) → T (sameFlagged same x y) → T (same x.element y.element)
+    pub key-element : (x y : Flagged A) → T (same_flagged same x y) → T (same x.element y.element)
     key-element x y t = and_right (same_flag x.flag y.flag) _ t
 
     -- and the other way round.
-    pub flagged-key : (x y : Flagged A) → x.flag ≡ y.flag → T (same x.element y.element) → T (sameFlagged same x y)
+    pub flagged-key : (x y : Flagged A) → x.flag ≡ y.flag → T (same x.element y.element) → T (same_flagged same x y)
     flagged-key x y p t = both (same_flag x.flag y.flag) _ (flag_same x.flag y.flag p) t
 
 module _ {A : Type 0} (same : A → A → Bool) (◌≈◌ : A → A → Type 0) (Ok : A → Type 0) (◌·◌ : A → A → A) (unit : A)
@@ -114,7 +114,7 @@ module _ {A : Type 0} (same : A → A → Bool) (◌≈◌ : A → A → Type 0)
   infixl 70 ◌·◌
   -- The product of flagged elements.
   abbrev times : Flagged A → Flagged A → Flagged A
-  times = timesFlagged ◌·◌
+  times = times_flagged ◌·◌
 
   flagged-monoid : Monoid (OkFlagged Ok) times (held unit)
   flagged-monoid = record {
@@ -128,7 +128,7 @@ module _ {A : Type 0} (same : A → A → Bool) (◌≈◌ : A → A → Type 0)
   }
 
   -- What is keyed stays keyed.
-  pub keyed-with-flag : KeyedMonoid (sameFlagged same) (AlikeFlagged ◌≈◌) (OkFlagged Ok) times (held unit)
+  pub keyed-with-flag : KeyedMonoid (same_flagged same) (AlikeFlagged ◌≈◌) (OkFlagged Ok) times (held unit)
   keyed-with-flag = record {
     monoid = flagged-monoid;
     key-equivalence = record {
@@ -153,6 +153,6 @@ module _ {A : Type 0} (same : A → A → Bool) (◌≈◌ : A → A → Type 0)
 
 -- The closure of elements that hold the flag at 0 is the closure of the elements.
 pub held-closure : {A : Type 0} (same : A → A → Bool) (product : A → A → A) (unit : A) (gens : List A) (n : ℕ)
-    → Option.map (map held) (closure same product unit gens n) ≡ closure (sameFlagged same) (timesFlagged product) (held unit) (map held gens) n
+    → Option.map (map held) (closure same product unit gens n) ≡ closure (same_flagged same) (times_flagged product) (held unit) (map held gens) n
 held-closure same product unit gens n =
-    closure-key same (sameFlagged same) held held product (timesFlagged product) (record { same_key = λ x y. refl; step-key = λ x g. refl }) unit gens n
+    closure-key same (same_flagged same) held held product (times_flagged product) (record { same_key = λ x y. refl; step-key = λ x g. refl }) unit gens n

@@ -12,23 +12,23 @@ use mathlib.Core.List.{List, [], ◌∷◌, ◌++◌, map}
 use Rattle.std.proofs.Math.ListN.{get_or-map}
 use Rattle.laws.specs.Closure.{start, step}
 use Rattle.laws.specs.Growth.{place}
-use Rattle.laws.specs.GrowthClosure.{allowed, agrees, stepsFrom, steadyFrom}
+use Rattle.laws.specs.GrowthClosure.{allowed, agrees, steps_from, steady_from}
 use Rattle.laws.specs.Truth.{all}
 use Rattle.group_growth.specs.Verdicts.{listed, overgrown, torn, image_verdict, image-listed, on_listing}
-use Rattle.group_growth.specs.Growing.{Growing, OkGenerators, listing, fineProduct, verdict, Generated}
+use Rattle.group_growth.specs.Growing.{Growing, OkGenerators, listing, fine_product, verdict, Generated}
 use Rattle.group_growth.specs.Acceptance.{key-kept, limit-raised, limit-lowered}
 use Rattle.group_growth.specs.Forms.{Forms}
 use Rattle.group_growth.specs.WholeSet.{Freedom}
-use Rattle.group_growth.specs.Flagged.{xor, xor-right, same_flag, Flagged, flagged≡, flagged_by, image_flagged, held, sameFlagged, AlikeFlagged, OkFlagged, timesFlagged, key-flag, key-element, keyed-with-flag, held-closure}
+use Rattle.group_growth.specs.Flagged.{xor, xor-right, same_flag, Flagged, flagged≡, flagged_by, image_flagged, held, same_flagged, AlikeFlagged, OkFlagged, times_flagged, key-flag, key-element, keyed-with-flag, held-closure}
 
 -- ---- the instance
 abbrev pub with_flag : Growing → Growing
 with_flag S = record {
   Element = Flagged S.Element;
-  same = sameFlagged S.same;
+  same = same_flagged S.same;
   alike = λ x y. S.alike x.element y.element;
   fine = λ x. S.fine x.element;
-  product = timesFlagged S.product;
+  product = times_flagged S.product;
   unit = held S.unit;
   Alike = AlikeFlagged S.Alike;
   Ok = OkFlagged S.Ok;
@@ -54,7 +54,7 @@ flagged_times times a b = Option.map (flagged_by (xor a.flag b.flag)) (times a.e
 
 pub flagged-times : (S : Growing) (F : Forms S) (x : Flagged S.Element) (b : Flagged F.Form) → T (S.fine x.element)
     → flagged_times F.times (image_flagged F.form x) b
-    ≡ Option.map (image_flagged F.form) (fineProduct (with_flag S) x (image_flagged F.meaning b))
+    ≡ Option.map (image_flagged F.form) (fine_product (with_flag S) x (image_flagged F.meaning b))
 unfolding allowed
 flagged-times S F x b t =
     let p = S.product x.element (F.meaning b.element) in
@@ -67,7 +67,7 @@ forms_with_flag S F = record {
   Form = Flagged F.Form;
   form = image_flagged F.form;
   meaning = image_flagged F.meaning;
-  same_form = sameFlagged F.same_form;
+  same_form = same_flagged F.same_form;
   alike_form = λ a b. F.alike_form a.element b.element;
   times = flagged_times F.times;
   form-alike = λ x t. (refl, F.form-alike x.element t);
@@ -82,7 +82,7 @@ module _ (S : Growing) where
   open with_flag S use {same as sameWith, alike as alikeWith, fine as fineWith, product as timesWith}
 
   -- The place of an element among others that hold the flag at 0.
-  place-held : (x : Element) (l : List Element) → place (sameFlagged same) (held x) (map held l) ≡ place same x l
+  place-held : (x : Element) (l : List Element) → place (same_flagged same) (held x) (map held l) ≡ place same x l
   unfolding place
   place-held x [] = refl
   place-held x (y ∷ l) = rw (place-held x l)
@@ -101,26 +101,26 @@ module _ (S : Growing) where
 
   module _ (l : List Element) where
     places-held : (x : Element) (gens : List Element)
-        → map (λ g. place (sameFlagged same) (timesFlagged product (held x) g) (map held l)) (map held gens) ≡ map (λ g. place same (product x g) l) gens
+        → map (λ g. place (same_flagged same) (times_flagged product (held x) g) (map held l)) (map held gens) ≡ map (λ g. place same (product x g) l) gens
     places-held x [] = refl
     places-held x (g ∷ gens) = ap₂ (λ a r. a ∷ r) (place-held (product x g) l) (places-held x gens)
 
-    steps-held : (gens xs : List Element) → stepsFrom sameWith alikeWith fineWith timesWith (map held gens) (map held l) (map held xs)
-        ≡ stepsFrom same alike fine product gens l xs
-    unfolding stepsFrom
+    steps-held : (gens xs : List Element) → steps_from sameWith alikeWith fineWith timesWith (map held gens) (map held l) (map held xs)
+        ≡ steps_from same alike fine product gens l xs
+    unfolding steps_from
     steps-held gens [] = refl
     steps-held gens (x ∷ xs) = ap₂ (λ a r. a ++ r) (places-held x gens) (steps-held gens xs)
 
     one-steady : (x : Element) (gens : List Element)
-        → all (λ g. agrees sameWith alikeWith fineWith timesWith (map held l) (timesFlagged product (held x) g)) (map held gens)
+        → all (λ g. agrees sameWith alikeWith fineWith timesWith (map held l) (times_flagged product (held x) g)) (map held gens)
         ≡ all (λ g. agrees same alike fine product l (product x g)) gens
     unfolding all
     one-steady x [] = refl
     one-steady x (g ∷ gens) = ap₂ ◌&&◌ (agrees-held l (product x g)) (one-steady x gens)
 
-    steady-held : (gens xs : List Element) → steadyFrom sameWith alikeWith fineWith timesWith (map held gens) (map held l) (map held xs)
-        ≡ steadyFrom same alike fine product gens l xs
-    unfolding steadyFrom all
+    steady-held : (gens xs : List Element) → steady_from sameWith alikeWith fineWith timesWith (map held gens) (map held l) (map held xs)
+        ≡ steady_from same alike fine product gens l xs
+    unfolding steady_from all
     steady-held gens [] = refl
     steady-held gens (x ∷ xs) = ap₂ ◌&&◌ (one-steady x gens) (steady-held gens xs)
 
@@ -135,7 +135,7 @@ module _ (S : Growing) where
   listing-held gens none = refl
   listing-held gens (some l) =
       rw (fine-held l, steady-held l gens l, steps-held l gens l)
-      (by_tests l (stepsFrom same alike fine product gens l l) (all fine l) (steadyFrom same alike fine product gens l l))
+      (by_tests l (steps_from same alike fine product gens l l) (all fine l) (steady_from same alike fine product gens l l))
 
   -- Under one limit, what is answered with the flag held at 0 is what is answered without it.
   pub held-verdict : (limit : ℕ) (gens : List Element) → image_verdict held (verdict S limit gens) ≡ verdict (with_flag S) limit (map held gens)
@@ -170,7 +170,7 @@ free-with-flag S Free D = record {
   free-alike = λ x t ok (p, f). (ap (xor x.flag) p ∙ xor-right x.flag, D.free-alike x.element t.element ok f);
   alike-free = λ x y ok (p, near).
       let (t, f, e) = D.alike-free x.element y.element ok near in
-      (held t, (refl, f), flagged≡ (timesFlagged S.product y (held t)) x e (xor-right y.flag ∙ sym p));
+      (held t, (refl, f), flagged≡ (times_flagged S.product y (held t)) x e (xor-right y.flag ∙ sym p));
 }
 
 -- ---- flags forgotten
@@ -192,4 +192,4 @@ module _ (S : Growing) (gens : List (Flagged S.Element)) where
   recalled (step r m) =
       let (x, t, p) = recalled r in
       let (g, k, q) = mem-of-map (λ g. g.element) gens m in
-      (timesFlagged product x g, step t k, ap₂ product p q)
+      (times_flagged product x g, step t k, ap₂ product p q)

@@ -12,10 +12,10 @@ use mathlib.Core.List.{List, [], ◌∷◌, map, Memᴰ as Mem}
 use Rattle.std.proofs.Math.Dec.{T}
 use Rattle.laws.specs.Distinct.{has, Distinct, nil, cons}
 use Rattle.laws.specs.Growth.{Growth, grown, image_growth, Image, grown-image}
-use Rattle.laws.specs.GrowthClosure.{allowed, described, stepsFrom, steadyFrom, grown-closure}
+use Rattle.laws.specs.GrowthClosure.{allowed, described, steps_from, steady_from, grown-closure}
 use Rattle.laws.specs.Truth.{all, T_true, true-T}
 use Rattle.group_growth.specs.Verdicts.{listed, overgrown, torn, image_verdict, on_listing, on_growth}
-use Rattle.group_growth.specs.Growing.{Growing, listing, fineProduct, verdict}
+use Rattle.group_growth.specs.Growing.{Growing, listing, fine_product, verdict}
 use Rattle.group_growth.specs.Acceptance.{KeyKept}
 
 -- An element that passes the test is alike to what its form means; tests of forms, and products of forms where they are allowed, are those of the elements.
@@ -30,7 +30,7 @@ pub record Forms (S : Growing) : Type 1 where
   pub same-form : (x y : S.Element) → T (S.fine x) → T (S.fine y) → S.same x y ≡ same_form (form x) (form y)
   pub alike-form : (x y : S.Element) → T (S.fine x) → T (S.fine y) → S.alike x y ≡ alike_form (form x) (form y)
   pub times-form : (x : S.Element) (b : Form) → T (S.fine x)
-      → times (form x) b ≡ Option.map form (fineProduct S x (meaning b))
+      → times (form x) b ≡ Option.map form (fine_product S x (meaning b))
 
 module _ (S : Growing) (F : Forms S) where
   open S use {Element, same, alike, fine, product, unit, keyed, alike-decided, fine-key, fine-unit}
@@ -53,7 +53,7 @@ module _ (S : Growing) (F : Forms S) where
 
   -- ---- growth
   -- A product that is allowed passes the test.
-  product-fine : (x p g : Element) → T (fine x) → fineProduct S x g ≡ some p → T (fine p)
+  product-fine : (x p g : Element) → T (fine x) → fine_product S x g ≡ some p → T (fine p)
   unfolding allowed
   product-fine x p g t e = by-test (fine (product x g)) refl e
     where
@@ -62,12 +62,12 @@ module _ (S : Growing) (F : Forms S) where
       by-test false q r = let z : ◌≡◌ {A = ℕ} 0 1 = cc in absurd (omega arith)
 
   -- Tests and products go over to forms.
-  forms-image : Image same alike same_form alike_form (fineProduct S) times form meaning (λ x. T (fine x))
+  forms-image : Image same alike same_form alike_form (fine_product S) times form meaning (λ x. T (fine x))
   forms-image = record { same-image = same-form; alike-image = alike-form; product-image = times-form; product-fine = product-fine }
 
   -- The growth that ends with the list, if its members pass the test.
-  abbrev pub grownFrom : List Element → Option (List Element) → Option (Growth Element)
-  grownFrom gens o = bind o (λ l. cond (all fine l) (some (described same alike fine product gens l)) none)
+  abbrev pub grown_from : List Element → Option (List Element) → Option (Growth Element)
+  grown_from gens o = bind o (λ l. cond (all fine l) (some (described same alike fine product gens l)) none)
 
   -- An element is alike to itself by the test.
   alike_self : (x : Element) → alike x x ≡ true
@@ -81,18 +81,18 @@ module _ (S : Growing) (F : Forms S) where
   by_tests l steps false b = refl
 
   listing-growth : (gens : List Element) (o : Option (List Element))
-      → image_verdict form (on_listing same alike fine product gens o) ≡ on_growth (Option.map (image_growth form) (grownFrom gens o))
+      → image_verdict form (on_listing same alike fine product gens o) ≡ on_growth (Option.map (image_growth form) (grown_from gens o))
   unfolding bind
   listing-growth gens none = refl
   listing-growth gens (some l) =
-      by_tests l (stepsFrom same alike fine product gens l l) (all fine l) (steadyFrom same alike fine product gens l l)
+      by_tests l (steps_from same alike fine product gens l l) (all fine l) (steady_from same alike fine product gens l l)
 
   module _ (limit : ℕ) (positive : 1 ≤ limit) (gens : List Form) (kept : KeyKept S (map meaning gens)) where
     -- The growth of the forms is the list of the elements, if its members pass the test, by their forms.
     pub growth-listing : grown same_form alike_form times limit (form unit) gens
-        ≡ Option.map (image_growth form) (grownFrom (map meaning gens) (listing S limit (map meaning gens)))
+        ≡ Option.map (image_growth form) (grown_from (map meaning gens) (listing S limit (map meaning gens)))
     growth-listing =
-        grown-image same alike same_form alike_form (fineProduct S) times form meaning (λ x. T (fine x)) forms-image limit unit gens (true-T fine-unit)
+        grown-image same alike same_form alike_form (fine_product S) times form meaning (λ x. T (fine x)) forms-image limit unit gens (true-T fine-unit)
         ∙ ap (Option.map (image_growth form))
         (grown-closure same alike fine product limit keyed.key-equivalence alike_self unit (map meaning gens) fine-unit fine-key kept positive)
 

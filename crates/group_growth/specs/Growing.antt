@@ -5,7 +5,7 @@ use mathlib.Core.List.{List, Memᴰ as Mem}
 use Rattle.laws.specs.Distinct.{Distinct}
 use Rattle.laws.specs.Closure.{Reached, closure}
 use Rattle.laws.specs.Keyed.{KeyedMonoid}
-use Rattle.laws.specs.GrowthClosure.{allowed, stepsFrom}
+use Rattle.laws.specs.GrowthClosure.{allowed, steps_from}
 use Rattle.group_growth.specs.Verdicts as verdicts
 use Rattle.group_growth.specs.Verdicts.{Verdict}
 
@@ -42,12 +42,12 @@ module _ (S : Growing) where
   listing limit gens = closure same product unit gens limit
 
   -- A product, where it passes the test.
-  abbrev pub fineProduct : Element → Element → Option Element
-  fineProduct = allowed same alike fine product
+  abbrev pub fine_product : Element → Element → Option Element
+  fine_product = allowed same alike fine product
 
   -- The index of each product of a listed element with a generator.
   abbrev pub steps_of : List Element → List Element → List ℕ
-  steps_of gens l = stepsFrom same alike fine product gens l l
+  steps_of gens l = steps_from same alike fine product gens l l
 
   abbrev pub verdict : ℕ → List Element → Verdict Element
   verdict limit gens = verdicts.verdict same alike fine product unit limit gens

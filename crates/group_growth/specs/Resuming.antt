@@ -9,7 +9,7 @@ use native.Mathlib.Omega.{arith}
 use Rattle.std.proofs.Math.ListN.{length-append, get_or-append}
 use Rattle.std.proofs.Math.Seq.{drop-cons, drop-length}
 use borrow.Author.Tests.{lt-ltb, le-ltb}
-use Rattle.laws.specs.Growth.{Growth, place, recurring, lengthened, takenUp, turns, grow, grown}
+use Rattle.laws.specs.Growth.{Growth, place, recurring, lengthened, taken_up, turns, grow, grown}
 
 -- Where a growth starts.
 abbrev pub seed : {A : Type 0} → A → Growth A
@@ -62,24 +62,24 @@ module _ {A G : Type 0} (same alike : A → A → Bool) (◌·◌ : A → G → 
         module _ (p : A) (e : get_or s.found i unit · get_or gens j d ≡ some p) where
           -- The product is to be taken up.
           taking : resume i j s
-              ≡ bind (bind (takenUp same alike limit p s) (turns same alike ◌·◌ limit (get_or s.found i unit) (drop (j + 1) gens)))
+              ≡ bind (bind (taken_up same alike limit p s) (turns same alike ◌·◌ limit (get_or s.found i unit) (drop (j + 1) gens)))
               (grow same alike ◌·◌ limit unit gens (limit - suc i) (suc i))
           unfolding resume turns bind
           taking = rw (lt-ltb i (length s.found) h, drop-cons gens j d k, e, add-one j)
 
           -- Its key is listed.
           pub resume-again : place same p s.found < length s.found → resume i j s ≡ resume i (j + 1) (recurring same alike p s)
-          unfolding resume takenUp bind
+          unfolding resume taken_up bind
           resume-again in_List = taking ∙ rw (lt-ltb (place same p s.found) (length s.found) in_List, lt-ltb i (length s.found) h)
 
           -- It is not, and there is no room for it.
           pub resume-full : length s.found ≤ place same p s.found → limit ≤ length s.found → resume i j s ≡ none
-          unfolding takenUp bind
+          unfolding taken_up bind
           resume-full new full = taking ∙ rw (le-ltb (place same p s.found) (length s.found) new, le-ltb (length s.found) limit full)
 
           -- It is not, and there is room.
           pub resume-new : length s.found ≤ place same p s.found → length s.found < limit → resume i j s ≡ resume i (j + 1) (lengthened same alike p s)
-          unfolding resume takenUp bind
+          unfolding resume taken_up bind
           resume-new new free =
               taking ∙
               rw (

@@ -5,7 +5,7 @@ use Rattle.std.proofs.Common.{sym, ap, arith}
 use Rattle.std.proofs.Math.Option.{Option, some, none}
 use Rattle.laws.specs.Closure.{closure}
 use Rattle.laws.specs.Growth.{Growth}
-use Rattle.laws.specs.GrowthClosure.{stepsFrom, steadyFrom}
+use Rattle.laws.specs.GrowthClosure.{steps_from, steady_from}
 use Rattle.laws.specs.Truth.{all}
 
 -- The elements in list order and the index of each product with a generator; or that the list passes the limit or an element fails the test; or that
@@ -36,8 +36,8 @@ module _ {A : Type 0} (same alike : A → A → Bool) (fine : A → Bool) (◌·
   -- Of the list: that an element fails the test goes before that a step from the list does not come back to it.
   abbrev pub on_list : List A → List A → Verdict A
   on_list gens l =
-      let steps = stepsFrom same alike fine ◌·◌ gens l l in
-      let steady = steadyFrom same alike fine ◌·◌ gens l l in
+      let steps = steps_from same alike fine ◌·◌ gens l l in
+      let steady = steady_from same alike fine ◌·◌ gens l l in
       let answer = cond steady (listed l steps) torn in
       cond (all fine l) answer overgrown
 

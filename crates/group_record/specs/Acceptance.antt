@@ -80,8 +80,8 @@ module _ {Sign Kind : Type 0} (G : GroupReading Sign Kind) where
           allowed-test (G.lattice c) (map operation_of_item items) form
           (rw (length-map items operation_of_item) one) (rw (length-map items operation_of_item) few)
 
-  pub meaningOf : Meaning (rules_of G)
-  meaningOf =
+  pub meaning_of : Meaning (rules_of G)
+  meaning_of =
       record {
         IsItem = IsItem;
         item-test = λ c i. item-test (G.lattice c) i;
@@ -106,9 +106,9 @@ module _ {Sign Kind : Type 0} (G : GroupReading Sign Kind) where
   Tells bytes k c l = (items : List Item) × (told_by (rules_of G) bytes ≡ holds k c items) × (map operation_of_item items ≡ l)
 
   -- What is held are the operations of the items that are held.
-  from-held : (bytes : List ℕ) (k : Kind) (c : Sign) (items : List Item) → Held (rules_of G) meaningOf bytes k c items
+  from-held : (bytes : List ℕ) (k : Kind) (c : Sign) (items : List Item) → Held (rules_of G) meaning_of bytes k c items
       → Holds bytes k c (map operation_of_item items)
-  unfolding meaningOf
+  unfolding meaning_of
   from-held bytes k c items h =
       let good = good-items k c items h.good in
       let again : map item_of (map operation_of_item items) ≡ items = items-of-operations items good.code in
@@ -123,8 +123,8 @@ module _ {Sign Kind : Type 0} (G : GroupReading Sign Kind) where
         further = h.allowed.1;
       }
 
-  to_held : (bytes : List ℕ) (k : Kind) (c : Sign) (l : List Operation) → Holds bytes k c l → Held (rules_of G) meaningOf bytes k c (map item_of l)
-  unfolding meaningOf
+  to_held : (bytes : List ℕ) (k : Kind) (c : Sign) (l : List Operation) → Holds bytes k c l → Held (rules_of G) meaning_of bytes k c (map item_of l)
+  unfolding meaning_of
   to_held bytes k c l h =
       let there : map operation_of_item (map item_of l) ≡ l = operations-of-items l h.form.entries in
       let count : (1 ≤ length l) × (length l ≤ 48) = rw (length-map l motion_of) at h.allowed.count in
@@ -139,21 +139,21 @@ module _ {Sign Kind : Type 0} (G : GroupReading Sign Kind) where
 
   -- A buffer that ends with a record is read as the record's operations.
   pub holds-told : (bytes : List ℕ) (k : Kind) (c : Sign) (l : List Operation) → Holds bytes k c l → told_by (rules_of G) bytes ≡ holds k c (map item_of l)
-  holds-told bytes k c l h = held-told (rules_of G) meaningOf bytes k c (map item_of l) (to_held bytes k c l h)
+  holds-told bytes k c l h = held-told (rules_of G) meaning_of bytes k c (map item_of l) (to_held bytes k c l h)
 
   -- Operations are told exactly if the buffer ends with their record.
   pub tells-exactly : (bytes : List ℕ) → Bytes bytes → (k : Kind) (c : Sign) (l : List Operation) → Tells bytes k c l ↔ Holds bytes k c l
   tells-exactly bytes g k c l = (
-    (λ (items, e, q). subst (Holds bytes k c) q (from-held bytes k c items ((held-exactly (rules_of G) meaningOf bytes g k c items).0 e))),
+    (λ (items, e, q). subst (Holds bytes k c) q (from-held bytes k c items ((held-exactly (rules_of G) meaning_of bytes g k c items).0 e))),
     λ h. (map item_of l, holds-told bytes k c l h, operations-of-items l h.form.entries),
   )
 
 -- ---- editions 1 and 3, and edition 1 alone
 abbrev pub both_meaning : Meaning both_rules
-both_meaning = meaningOf both_reading
+both_meaning = meaning_of both_reading
 
 abbrev pub first_meaning : Meaning first_rules
-first_meaning = meaningOf first_reading
+first_meaning = meaning_of first_reading
 
 -- The reading is the rules: each refusal is given, and each record read, exactly when they say so.
 pub read-exactly : (bytes : List ℕ) → Bytes bytes → (t : Told Item Sign Known) → (told_by both_rules bytes ≡ t) ↔ Outcome both_rules both_meaning bytes t

@@ -14,7 +14,7 @@ use Rattle.laws.specs.Sorted.{Sorted, key-strict, key-decides, ascending, ascend
 use Rattle.laws.specs.Truth.{all, both_true, all_true, fails, failed}
 use Rattle.group_record.specs.Items.{Bytes, bytes_left, items_in, items-length, bytes_of, bytes-length, written_read}
 use Rattle.group_record.specs.Editions.{total_length, last_five, trailer_bytes, from_end_lem, framed, framed-items}
-use Rattle.group_record.specs.Rules.{Spelled, Rules, Told, refused, holds, length_fits, key_before, areGood, itemsTold, lastItems, countedTold, letteredTold, editionTold, told_by}
+use Rattle.group_record.specs.Rules.{Spelled, Rules, Told, refused, holds, length_fits, key_before, are_good, items_told, last_items, counted_told, lettered_told, edition_told, told_by}
 use Rattle.group_record.specs.declared.Refusal.TheVariants.{Short, WrongEdition, WrongLetter, WrongLength, WrongItem, NotAllowed}
 
 -- ---- bytes that spell
@@ -100,16 +100,16 @@ module _ {Item Letter Kind : Type 0} (R : Rules Item Letter Kind) (W : Meaning R
   width_of k = (R.edition k).width
 
   -- The items that bytes start with.
-  abbrev pub firstItems : Kind → ℕ → List ℕ → List Item
-  firstItems k n bytes = items_in (width_of k) (R.edition k).read n bytes
+  abbrev pub first_items : Kind → ℕ → List ℕ → List Item
+  first_items k n bytes = items_in (width_of k) (R.edition k).read n bytes
 
   -- The last five bytes under an edition and a letter.
   abbrev pub five : Kind → ℕ → ℕ → ℕ → ℕ → List ℕ
   five k letter n high low = last_five letter (R.edition k).number n high low
 
   -- The trailer of n items.
-  abbrev pub trailerOf : Kind → Letter → ℕ → List ℕ
-  trailerOf k c n = trailer_bytes (width_of k) (R.edition k).number (R.byte c) n
+  abbrev pub trailer_of : Kind → Letter → ℕ → List ℕ
+  trailer_of k c n = trailer_bytes (width_of k) (R.edition k).number (R.byte c) n
 
   pub data Outcome (bytes : List ℕ) : Told Item Letter Kind → Type 0 where
     -- 30: too few bytes
@@ -126,7 +126,7 @@ module _ {Item Letter Kind : Type 0} (R : Rules Item Letter Kind) (W : Meaning R
         → Outcome bytes (refused WrongLength)
     -- 34: an item wrong, or keys that do not ascend
     wrong-item : (k : Kind) (c : Letter) (front body : List ℕ) (n : ℕ) → 1 ≤ n → n ≤ R.limit → length body ≡ width_of k * n
-        → bytes ≡ front ++ (body ++ trailerOf k c n) → ¬ GoodBy k c (firstItems k n (body ++ trailerOf k c n)) → Outcome bytes (refused WrongItem)
+        → bytes ≡ front ++ (body ++ trailer_of k c n) → ¬ GoodBy k c (first_items k n (body ++ trailer_of k c n)) → Outcome bytes (refused WrongItem)
     -- 35: else not allowed
     not-allowed : (k : Kind) (c : Letter) (front : List ℕ) (items : List Item) → 1 ≤ length items → length items ≤ R.limit
         → bytes ≡ front ++ record-bytes k c items → GoodBy k c items → ¬ W.IsAllowed c items → Outcome bytes (refused NotAllowed)
@@ -135,8 +135,8 @@ module _ {Item Letter Kind : Type 0} (R : Rules Item Letter Kind) (W : Meaning R
         → bytes ≡ front ++ record-bytes k c items → GoodBy k c items → W.IsAllowed c items → Outcome bytes (holds k c items)
 
   -- ---- 34
-  pub good-test : (k : Kind) (c : Letter) (items : List Item) → (areGood R k c items ≡ true) ↔ GoodBy k c items
-  unfolding areGood
+  pub good-test : (k : Kind) (c : Letter) (items : List Item) → (are_good R k c items ≡ true) ↔ GoodBy k c items
+  unfolding are_good
   good-test k c items = (
     (λ e.
         let (p, q) = (both_true (all (R.is_item c) items) _).0 e in
@@ -164,21 +164,21 @@ module _ {Item Letter Kind : Type 0} (R : Rules Item Letter Kind) (W : Meaning R
     whole = front ++ last_five letter edition n high low
 
     -- The edition decides,
-    told-edition : R.least ≤ length front + 5 → told_by R whole ≡ editionTold R (R.editions.from edition) whole
+    told-edition : R.least ≤ length front + 5 → told_by R whole ≡ edition_told R (R.editions.from edition) whole
     unfolding told_by
     told-edition h =
         let long : R.least ≤ length whole = omega (arith, length-append front (last_five letter edition n high low)) in
         rw (le-ltb (length whole) R.least long, from_end_lem front (last_five letter edition n high low) 4 1 refl (omega arith))
 
     -- then the letter,
-    told-letter : (k : Kind) → editionTold R (some k) whole ≡ letteredTold R k (R.letters.from letter) whole
-    unfolding editionTold
+    told-letter : (k : Kind) → edition_told R (some k) whole ≡ lettered_told R k (R.letters.from letter) whole
+    unfolding edition_told
     told-letter k = rw (from_end_lem front (last_five letter edition n high low) 5 0 refl (omega arith))
 
     -- then count and length.
-    told-length : (k : Kind) (c : Letter) → letteredTold R k (some c) whole
-        ≡ cond (length_fits (width_of k) R.limit n (high * 256 + low) (length whole)) (itemsTold R k c (lastItems R k n whole)) (refused WrongLength)
-    unfolding letteredTold countedTold
+    told-length : (k : Kind) (c : Letter) → lettered_told R k (some c) whole
+        ≡ cond (length_fits (width_of k) R.limit n (high * 256 + low) (length whole)) (items_told R k c (last_items R k n whole)) (refused WrongLength)
+    unfolding lettered_told counted_told
     told-length k c =
         rw (
           from_end_lem front (last_five letter edition n high low) 3 2 refl (omega arith),
@@ -190,24 +190,24 @@ module _ {Item Letter Kind : Type 0} (R : Rules Item Letter Kind) (W : Meaning R
   told-counted : (k : Kind) (c : Letter) (front : List ℕ) (n high low : ℕ) → R.least ≤ length front + 5
       → told_by R (front ++ five k (R.byte c) n high low)
       ≡ cond (length_fits (width_of k) R.limit n (high * 256 + low) (length (front ++ five k (R.byte c) n high low)))
-      (itemsTold R k c (lastItems R k n (front ++ five k (R.byte c) n high low))) (refused WrongLength)
+      (items_told R k c (last_items R k n (front ++ five k (R.byte c) n high low))) (refused WrongLength)
   told-counted k c front n high low h =
       let bytes = front ++ five k (R.byte c) n high low in
       told-edition front (R.byte c) (R.edition k).number n high low h
-      ∙ ap (λ (o : Option Kind). editionTold R o bytes) (R.editions.there k)
+      ∙ ap (λ (o : Option Kind). edition_told R o bytes) (R.editions.there k)
       ∙ told-letter front (R.byte c) (R.edition k).number n high low k
-      ∙ ap (λ (o : Option Letter). letteredTold R k o bytes) (R.letters.there c)
+      ∙ ap (λ (o : Option Letter). lettered_told R k o bytes) (R.letters.there c)
       ∙ told-length front (R.byte c) (R.edition k).number n high low k c
 
   -- A buffer that ends with so many bytes and their trailer is read as the items that these bytes say.
   told-body : (k : Kind) (c : Letter) (front body : List ℕ) (n : ℕ) → 1 ≤ n → n ≤ R.limit → length body ≡ width_of k * n
-      → told_by R (front ++ (body ++ trailerOf k c n)) ≡ itemsTold R k c (firstItems k n (body ++ trailerOf k c n))
+      → told_by R (front ++ (body ++ trailer_of k c n)) ≡ items_told R k c (first_items k n (body ++ trailer_of k c n))
   told-body k c front body n one few wide =
       ap (told_by R) (sym (append_assoc front body rest)) ∙ told-counted k c (front ++ body) n _ _ enough
-      ∙ rw fits (ap (λ (b : List ℕ). itemsTold R k c (firstItems k n b)) behind)
+      ∙ rw fits (ap (λ (b : List ℕ). items_told R k c (first_items k n b)) behind)
     where
       rest : List ℕ
-      rest = trailerOf k c n
+      rest = trailer_of k c n
 
       size : length ((front ++ body) ++ rest) ≡ length front + total_length (width_of k) n
       size = length-append (front ++ body) rest ∙ omega (arith, length-append front body, wide)
@@ -227,23 +227,23 @@ module _ {Item Letter Kind : Type 0} (R : Rules Item Letter Kind) (W : Meaning R
   -- So the record of items that fit is read as these items.
   told-record : (k : Kind) (c : Letter) (front : List ℕ) (items : List Item) → 1 ≤ length items → length items ≤ R.limit
       → ((i : Item) → Mem i items → (R.edition k).Fits i)
-      → told_by R (front ++ record-bytes k c items) ≡ itemsTold R k c items
+      → told_by R (front ++ record-bytes k c items) ≡ items_told R k c items
   unfolding framed
   told-record k c front items one few fit =
       told-body k c front (bytes_of (R.edition k).write items) (length items) one few
       (bytes-length (width_of k) (R.edition k).write (R.edition k).wide items)
-      ∙ ap (itemsTold R k c) (framed-items (R.edition k) (R.byte c) items fit)
+      ∙ ap (items_told R k c) (framed-items (R.edition k) (R.byte c) items fit)
 
   -- ---- the rules give the reading
   -- What the rules say of a buffer is how it is read.
   pub outcome-told : (bytes : List ℕ) (t : Told Item Letter Kind) → Outcome bytes t → told_by R bytes ≡ t
-  unfolding told_by editionTold letteredTold itemsTold
+  unfolding told_by edition_told lettered_told items_told
   outcome-told bytes t (too_short h) = rw (lt-ltb (length bytes) R.least h)
   outcome-told bytes t (wrong-edition front letter edition n high low h e never) =
       ap (told_by R) e ∙ told-edition front letter edition n high low h ∙ rw (unspelled R.editions edition never)
   outcome-told bytes t (wrong-letter k front letter n high low h e never) =
       ap (told_by R) e ∙ told-edition front letter (R.edition k).number n high low h
-      ∙ ap (λ (o : Option Kind). editionTold R o (front ++ five k letter n high low)) (R.editions.there k)
+      ∙ ap (λ (o : Option Kind). edition_told R o (front ++ five k letter n high low)) (R.editions.there k)
       ∙ told-letter front letter (R.edition k).number n high low k ∙ rw (unspelled R.letters letter never)
   outcome-told bytes t (wrong-length k c front n high low h e wrong) =
       ap (told_by R) e ∙ told-counted k c front n high low h ∙ rw (fails _ (length-test (width_of k) R.limit n (high * 256 + low) _) (λ m. wrong (rw e m)))
@@ -269,7 +269,7 @@ module _ {Item Letter Kind : Type 0} (R : Rules Item Letter Kind) (W : Meaning R
     body = take (width_of k * n) (drop start buffer)
 
     abbrev items_there : List Item
-    items_there = firstItems k n (drop start buffer)
+    items_there = first_items k n (drop start buffer)
 
     items-count : length items_there ≡ n
     items-count = items-length (width_of k) (R.edition k).read n (drop start buffer)
@@ -285,16 +285,16 @@ module _ {Item Letter Kind : Type 0} (R : Rules Item Letter Kind) (W : Meaning R
     low_byte = subst (λ (b : ℕ). b < 256) (get_or-append-add front (five k (R.byte c) n high low) 4 0) (bytes (length front + 4))
 
     -- which are the trailer.
-    trailer-is : five k (R.byte c) n high low ≡ trailerOf k c n
+    trailer-is : five k (R.byte c) n high low ≡ trailer_of k c n
     trailer-is =
         let high_is : high ≡ total_length (width_of k) n / 256 = omega (arith, low_byte, counted) in
         let low-is : low ≡ total_length (width_of k) n % 256 = omega (arith, low_byte, counted) in
         ap₂ (λ (h w : ℕ). five k (R.byte c) n h w) high_is low-is
 
-    record_is : drop start buffer ≡ body ++ trailerOf k c n
+    record_is : drop start buffer ≡ body ++ trailer_of k c n
     record_is = sym (take-append-drop (width_of k * n) (drop start buffer)) ∙ ap (λ (b : List ℕ). body ++ b) (last-part ∙ trailer-is)
 
-    buffer-is : buffer ≡ take start buffer ++ (body ++ trailerOf k c n)
+    buffer-is : buffer ≡ take start buffer ++ (body ++ trailer_of k c n)
     buffer-is = sym (take-append-drop start buffer) ∙ ap (λ (b : List ℕ). take start buffer ++ b) record_is
 
     enough-bytes : width_of k * n ≤ length (drop start buffer)
@@ -305,15 +305,15 @@ module _ {Item Letter Kind : Type 0} (R : Rules Item Letter Kind) (W : Meaning R
     unfolding framed
     items-bytes g =
         buffer-is
-        ∙ ap₂ (λ (b : List ℕ) (m : ℕ). take start buffer ++ (b ++ trailerOf k c m))
+        ∙ ap₂ (λ (b : List ℕ) (m : ℕ). take start buffer ++ (b ++ trailer_of k c m))
         (sym (written_read (width_of k) (R.edition k).write (R.edition k).wide (R.edition k).read (R.edition k).Fits (R.edition k).back n
         (drop start buffer) (bytes_left start buffer bytes) enough-bytes (good-fit k c items_there g)))
         (sym items-count)
 
     -- What the items decide.
-    outcome-items : Outcome buffer (itemsTold R k c items_there)
-    unfolding itemsTold
-    outcome-items = by-items (areGood R k c items_there) refl
+    outcome-items : Outcome buffer (items_told R k c items_there)
+    unfolding items_told
+    outcome-items = by-items (are_good R k c items_there) refl
       where
         some-there : 1 ≤ length items_there
         some-there = rw items-count counted.0
@@ -328,25 +328,25 @@ module _ {Item Letter Kind : Type 0} (R : Rules Item Letter Kind) (W : Meaning R
             not-allowed k c (take start buffer) items_there some-there few-there (items-bytes g) g
             (failed _ (W.allowed-test k c items_there g some-there few-there) e)
 
-        by-items : (b : Bool) → areGood R k c items_there ≡ b
+        by-items : (b : Bool) → are_good R k c items_there ≡ b
             → Outcome buffer (cond b (cond (R.is_allowed c items_there) (holds k c items_there) (refused NotAllowed)) (refused WrongItem))
         by-items true e = by-group ((good-test k c items_there).0 e) (R.is_allowed c items_there) refl
         by-items false e =
             wrong-item k c (take start buffer) body n counted.0 counted.1 (length-take-le (width_of k * n) (drop start buffer) enough-bytes) buffer-is
-            (subst (λ (b : List ℕ). ¬ GoodBy k c (firstItems k n b)) record_is (failed _ (good-test k c items_there) e))
+            (subst (λ (b : List ℕ). ¬ GoodBy k c (first_items k n b)) record_is (failed _ (good-test k c items_there) e))
 
   -- What the trailer decides.
   outcome-trailer : (front : List ℕ) (letter edition n high low : ℕ) → R.least ≤ length front + 5 → Bytes (front ++ last_five letter edition n high low)
       → Outcome (front ++ last_five letter edition n high low) (told_by R (front ++ last_five letter edition n high low))
-  unfolding editionTold letteredTold
+  unfolding edition_told lettered_told
   outcome-trailer front letter edition n high low h bytes =
       subst (Outcome (front ++ last_five letter edition n high low)) (sym (told-edition front letter edition n high low h))
       (by-edition (R.editions.from edition) refl)
     where
       by_length : (k : Kind) (c : Letter) → letter ≡ R.byte c → edition ≡ (R.edition k).number
-          → Outcome (front ++ last_five letter edition n high low) (letteredTold R k (some c) (front ++ last_five letter edition n high low))
+          → Outcome (front ++ last_five letter edition n high low) (lettered_told R k (some c) (front ++ last_five letter edition n high low))
       by_length k c p q =
-          subst (λ (b : List ℕ). Outcome b (letteredTold R k (some c) b)) (ap₂ (λ (a e : ℕ). front ++ last_five a e n high low) (sym p) (sym q))
+          subst (λ (b : List ℕ). Outcome b (lettered_told R k (some c) b)) (ap₂ (λ (a e : ℕ). front ++ last_five a e n high low) (sym p) (sym q))
           (subst (Outcome (front ++ five k (R.byte c) n high low)) (sym (told-length front (R.byte c) (R.edition k).number n high low k c))
           (decide (subst Bytes (ap₂ (λ (a e : ℕ). front ++ last_five a e n high low) p q) bytes)
           (length_fits (width_of k) R.limit n (high * 256 + low) (length (front ++ five k (R.byte c) n high low))) refl))
@@ -354,17 +354,17 @@ module _ {Item Letter Kind : Type 0} (R : Rules Item Letter Kind) (W : Meaning R
           decide : Bytes (front ++ five k (R.byte c) n high low) → (b : Bool)
               → length_fits (width_of k) R.limit n (high * 256 + low) (length (front ++ five k (R.byte c) n high low)) ≡ b
               → Outcome (front ++ five k (R.byte c) n high low)
-              (cond b (itemsTold R k c (lastItems R k n (front ++ five k (R.byte c) n high low))) (refused WrongLength))
+              (cond b (items_told R k c (last_items R k n (front ++ five k (R.byte c) n high low))) (refused WrongLength))
           decide g true e = outcome-items k c front n high low g ((length-test _ _ n (high * 256 + low) _).0 e)
           decide g false e = wrong-length k c front n high low h refl (failed _ (length-test _ _ n (high * 256 + low) _) e)
 
       by-letter : (k : Kind) (o : Option Letter) → R.letters.from letter ≡ o → edition ≡ (R.edition k).number
-          → Outcome (front ++ last_five letter edition n high low) (letteredTold R k o (front ++ last_five letter edition n high low))
+          → Outcome (front ++ last_five letter edition n high low) (lettered_told R k o (front ++ last_five letter edition n high low))
       by-letter k (some c) p q = by_length k c (R.letters.back letter c p) q
       by-letter k none p q = wrong-letter k front letter n high low h (ap (λ (e : ℕ). front ++ last_five letter e n high low) q) (nobody R.letters letter p)
 
       by-edition : (o : Option Kind) → R.editions.from edition ≡ o
-          → Outcome (front ++ last_five letter edition n high low) (editionTold R o (front ++ last_five letter edition n high low))
+          → Outcome (front ++ last_five letter edition n high low) (edition_told R o (front ++ last_five letter edition n high low))
       by-edition (some k) e =
           subst (Outcome (front ++ last_five letter edition n high low)) (sym (told-letter front letter edition n high low k))
           (by-letter k (R.letters.from letter) refl (R.editions.back edition k e))

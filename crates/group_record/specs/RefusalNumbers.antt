@@ -10,7 +10,7 @@ use Rattle.group_record.specs.Editions.{last_five}
 use Rattle.group_record.specs.OperationItems.{Item, operation_of_item}
 use Rattle.group_record.specs.Rules.{Rules, Told, holds, told_by}
 use Rattle.group_record.specs.Rules.{refused as not-held}
-use Rattle.group_record.specs.Outcomes.{Meaning, GoodBy, record-bytes, firstItems, trailerOf, Outcome, too_short, wrong-edition, wrong-letter, wrong-length, wrong-item, not-allowed, accepted, outcome-told, told-outcome}
+use Rattle.group_record.specs.Outcomes.{Meaning, GoodBy, record-bytes, first_items, trailer_of, Outcome, too_short, wrong-edition, wrong-letter, wrong-length, wrong-item, not-allowed, accepted, outcome-told, told-outcome}
 use Rattle.group_record.specs.BothEditions.{edition_of, one-edition}
 use Rattle.group_record.specs.Reading.{refusal_number, slots, group_answer, record_edition, accepted_group, refused_group, both_rules, group_as, group_of, read_of}
 use Rattle.group_record.specs.Acceptance.{both_meaning}
@@ -44,7 +44,7 @@ module _ {Item Letter Kind : Type 0} (R : Rules Item Letter Kind) (W : Meaning R
         → ¬ ((1 ≤ n) × (n ≤ R.limit) × (high * 256 + low ≡ (R.edition k).width * n + 5) × ((R.edition k).width * n + 5 ≤ length bytes)) → Refuses bytes 33
     -- an item that is none under the letter, or keys that do not ascend
     item : (k : Kind) (c : Letter) (front body : List ℕ) (n : ℕ) → 1 ≤ n → n ≤ R.limit → length body ≡ (R.edition k).width * n
-        → bytes ≡ front ++ (body ++ trailerOf R W k c n) → ¬ GoodBy R W k c (firstItems R W k n (body ++ trailerOf R W k c n)) → Refuses bytes 34
+        → bytes ≡ front ++ (body ++ trailer_of R W k c n) → ¬ GoodBy R W k c (first_items R W k n (body ++ trailer_of R W k c n)) → Refuses bytes 34
     -- items that are else not allowed
     group : (k : Kind) (c : Letter) (front : List ℕ) (items : List Item) → 1 ≤ length items → length items ≤ R.limit
         → bytes ≡ front ++ record-bytes R W k c items → GoodBy R W k c items → ¬ W.IsAllowed c items → Refuses bytes 35

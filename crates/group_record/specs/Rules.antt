@@ -42,33 +42,33 @@ module _ {Item Letter Kind : Type 0} (R : Rules Item Letter Kind) where
   key_before k i j = ltb ((R.edition k).key i) ((R.edition k).key j)
 
   -- All of 34.
-  unfoldable pub areGood : Kind → Letter → List Item → Bool
-  areGood k c items = all (R.is_item c) items && ascending (key_before k) items
+  unfoldable pub are_good : Kind → Letter → List Item → Bool
+  are_good k c items = all (R.is_item c) items && ascending (key_before k) items
 
   -- 34, then 35.
-  unfoldable pub itemsTold : Kind → Letter → List Item → Told Item Letter Kind
-  itemsTold k c items = cond (areGood k c items) (cond (R.is_allowed c items) (holds k c items) (refused NotAllowed)) (refused WrongItem)
+  unfoldable pub items_told : Kind → Letter → List Item → Told Item Letter Kind
+  items_told k c items = cond (are_good k c items) (cond (R.is_allowed c items) (holds k c items) (refused NotAllowed)) (refused WrongItem)
 
   -- The n items that stand before the trailer.
-  abbrev pub lastItems : Kind → ℕ → List ℕ → List Item
-  lastItems k n bytes = items_in (R.edition k).width (R.edition k).read n (drop (length bytes - total_length (R.edition k).width n) bytes)
+  abbrev pub last_items : Kind → ℕ → List ℕ → List Item
+  last_items k n bytes = items_in (R.edition k).width (R.edition k).read n (drop (length bytes - total_length (R.edition k).width n) bytes)
 
   -- 33, then the items.
-  unfoldable pub countedTold : Kind → Letter → ℕ → List ℕ → Told Item Letter Kind
-  countedTold k c n bytes =
+  unfoldable pub counted_told : Kind → Letter → ℕ → List ℕ → Told Item Letter Kind
+  counted_told k c n bytes =
       cond (length_fits (R.edition k).width R.limit n (from_end bytes 2 * 256 + from_end bytes 1) (length bytes))
-      (itemsTold k c (lastItems k n bytes)) (refused WrongLength)
+      (items_told k c (last_items k n bytes)) (refused WrongLength)
 
   -- 32, then count and length.
-  unfoldable pub letteredTold : Kind → Option Letter → List ℕ → Told Item Letter Kind
-  letteredTold k (some c) bytes = countedTold k c (from_end bytes 3) bytes
-  letteredTold k none bytes = refused WrongLetter
+  unfoldable pub lettered_told : Kind → Option Letter → List ℕ → Told Item Letter Kind
+  lettered_told k (some c) bytes = counted_told k c (from_end bytes 3) bytes
+  lettered_told k none bytes = refused WrongLetter
 
   -- 31, then the letter.
-  unfoldable pub editionTold : Option Kind → List ℕ → Told Item Letter Kind
-  editionTold (some k) bytes = letteredTold k (R.letters.from (from_end bytes 5)) bytes
-  editionTold none bytes = refused WrongEdition
+  unfoldable pub edition_told : Option Kind → List ℕ → Told Item Letter Kind
+  edition_told (some k) bytes = lettered_told k (R.letters.from (from_end bytes 5)) bytes
+  edition_told none bytes = refused WrongEdition
 
   -- 30, then the edition.
   unfoldable pub told_by : List ℕ → Told Item Letter Kind
-  told_by bytes = cond (ltb (length bytes) R.least) (refused Short) (editionTold (R.editions.from (from_end bytes 4)) bytes)
+  told_by bytes = cond (ltb (length bytes) R.least) (refused Short) (edition_told (R.editions.from (from_end bytes 4)) bytes)

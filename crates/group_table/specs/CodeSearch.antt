@@ -24,7 +24,7 @@ use Rattle.space_group.specs.Resuming.{padded-set}
 use Rattle.group_record.specs.Groups.{Alike, Allowed, Listing, same_code}
 use Rattle.group_record.specs.ListedForm.{code-equivalence}
 use Rattle.group_table.specs.Tables.{table_of}
-use Rattle.group_table.specs.OperationTables.{distinct-place, motionAt, table-length, cell-alike}
+use Rattle.group_table.specs.OperationTables.{distinct-place, motion_at, table-length, cell-alike}
 
 -- Where the code of a product stands among codes; 48, which no index is, where an entry has left −1..1.
 abbrev pub product_place : Product → List ℕ → ℕ
@@ -40,7 +40,7 @@ module _ (c : Centering) {l : List Operation} (L : Listing l) where
       ∙ sym (place-key turn_of f l) ∙ distinct-place same_code code-equivalence L.distinct f identity_operation k h (eqb_refl (code_of f.rotation))
 
   -- A product that is operation k modulo L has its code there.
-  product-place : (f g : Operation) (k : ℕ) → k < length l → Alike c (compose (motion_of f) (motion_of g)) (motionAt c l k) → (rest : List ℕ)
+  product-place : (f g : Operation) (k : ℕ) → k < length l → Alike c (compose (motion_of f) (motion_of g)) (motion_at c l k) → (rest : List ℕ)
       → product_place (product_of f g) (map turn_of l ++ rest) ≡ k
   unfolding product_of operation_of motion_of
   product-place f g k h a rest =

@@ -86,8 +86,8 @@ module _ (c : Centering) (l : List SpaceMotion) where
 
 module _ (c : Centering) (l : List Operation) where
   -- The motion of the operation at an index.
-  abbrev pub motionAt : ℕ → SpaceMotion
-  motionAt i = motion_of (get_or l i identity_operation)
+  abbrev pub motion_at : ℕ → SpaceMotion
+  motion_at i = motion_of (get_or l i identity_operation)
 
   -- n² cells.
   pub table-length : length (table_of c l) ≡ length l * length l
@@ -95,7 +95,7 @@ module _ (c : Centering) (l : List Operation) where
 
   -- The cell of two factors is the index of their product.
   pub cell-at : (i j : ℕ) → i < length l → j < length l
-      → get_or (table_of c l) (i * length l + j) 0 ≡ index_of c (map motion_of l) (compose (motionAt i) (motionAt j))
+      → get_or (table_of c l) (i * length l + j) 0 ≡ index_of c (map motion_of l) (compose (motion_at i) (motion_at j))
   cell-at i j h k =
       let ms = map motion_of l in
       let cell = row_at c ms ms (motion_of identity_operation) i j (omega (arith, length-map l motion_of)) (omega (arith, length-map l motion_of)) in
@@ -103,7 +103,7 @@ module _ (c : Centering) (l : List Operation) where
 
   -- A motion of the set has an index, and is the listed operation of that index modulo L.
   pub index-alike : (f : SpaceMotion) → InSet c (map motion_of l) f
-      → (index_of c (map motion_of l) f < length l) × Alike c f (motionAt (index_of c (map motion_of l) f))
+      → (index_of c (map motion_of l) f < length l) × Alike c f (motion_at (index_of c (map motion_of l) f))
   index-alike f (g, m, a) =
       let ms = map motion_of l in
       let E = modulo-equivalence c in
@@ -113,7 +113,7 @@ module _ (c : Centering) (l : List Operation) where
 
 module _ (c : Centering) {l : List Operation} (L : Listing l) where
   -- One rotation stands once in a listing.
-  pub rotation-index : (i j : ℕ) → i < length l → j < length l → (motionAt c l i).rotation ≡ (motionAt c l j).rotation → i ≡ j
+  pub rotation-index : (i j : ℕ) → i < length l → j < length l → (motion_at c l i).rotation ≡ (motion_at c l j).rotation → i ≡ j
   unfolding motion_of
   rotation-index i j h k e =
       let f = get_or l i identity_operation in
@@ -124,25 +124,25 @@ module _ (c : Centering) {l : List Operation} (L : Listing l) where
       distinct-index same_code code-equivalence L.distinct identity_operation i j h k (rw rotations (eqb_refl (code_of g.rotation)))
 
   -- So a motion that is a listed operation modulo L has that operation's index.
-  pub index_is : (f : SpaceMotion) (k : ℕ) → k < length l → Alike c f (motionAt c l k) → index_of c (map motion_of l) f ≡ k
+  pub index_is : (f : SpaceMotion) (k : ℕ) → k < length l → Alike c f (motion_at c l k) → index_of c (map motion_of l) f ≡ k
   index_is f k h a =
-      let (below, near) = index-alike c l f (motionAt c l k, mem-map motion_of (member-at l k identity_operation h), a) in
+      let (below, near) = index-alike c l f (motion_at c l k, mem-map motion_of (member-at l k identity_operation h), a) in
       rotation-index (index_of c (map motion_of l) f) k below h (sym near.0 ∙ a.0)
 
   -- A product that is operation k modulo L has k in its cell.
-  pub cell-is : (i j k : ℕ) → i < length l → j < length l → k < length l → Alike c (compose (motionAt c l i) (motionAt c l j)) (motionAt c l k)
+  pub cell-is : (i j k : ℕ) → i < length l → j < length l → k < length l → Alike c (compose (motion_at c l i) (motion_at c l j)) (motion_at c l k)
       → get_or (table_of c l) (i * length l + j) 0 ≡ k
-  cell-is i j k h p q a = cell-at c l i j h p ∙ index_is (compose (motionAt c l i) (motionAt c l j)) k q a
+  cell-is i j k h p q a = cell-at c l i j h p ∙ index_is (compose (motion_at c l i) (motion_at c l j)) k q a
 
   module _ (A : Allowed c (map motion_of l)) where
     -- A product of listed motions is in the set.
-    product_inside : (i j : ℕ) → i < length l → j < length l → InSet c (map motion_of l) (compose (motionAt c l i) (motionAt c l j))
+    product_inside : (i j : ℕ) → i < length l → j < length l → InSet c (map motion_of l) (compose (motion_at c l i) (motion_at c l j))
     product_inside i j h k =
-        A.product (motionAt c l i) (motionAt c l j) (mem-map motion_of (member-at l i identity_operation h))
+        A.product (motion_at c l i) (motion_at c l j) (mem-map motion_of (member-at l i identity_operation h))
         (mem-map motion_of (member-at l j identity_operation k))
 
     -- Every cell is an index, and the product is the operation of that index modulo L.
     pub cell-alike : (i j : ℕ) → i < length l → j < length l
         → (get_or (table_of c l) (i * length l + j) 0 < length l)
-        × Alike c (compose (motionAt c l i) (motionAt c l j)) (motionAt c l (get_or (table_of c l) (i * length l + j) 0))
-    cell-alike i j h k = rw (cell-at c l i j h k) (index-alike c l (compose (motionAt c l i) (motionAt c l j)) (product_inside i j h k))
+        × Alike c (compose (motion_at c l i) (motion_at c l j)) (motion_at c l (get_or (table_of c l) (i * length l + j) 0))
+    cell-alike i j h k = rw (cell-at c l i j h k) (index-alike c l (compose (motion_at c l i) (motion_at c l j)) (product_inside i j h k))

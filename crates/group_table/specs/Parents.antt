@@ -25,7 +25,7 @@ use Rattle.space_group_theorems.specs.Acceptance.{Accepted, lists}
 use Rattle.space_group_theorems.specs.Members.{member-small}
 use Rattle.space_group_theorems.specs.Steps.{step_right}
 use Rattle.group_record.specs.Groups.{Listing}
-use Rattle.group_table.specs.OperationTables.{motionAt, rotation-index}
+use Rattle.group_table.specs.OperationTables.{motion_at, rotation-index}
 
 -- ---- in any closure
 module _ {A G : Type 0} (same : A → A → Bool) (◌·◌ : A → G → A) (unit : A) (gens : List G) where
@@ -68,7 +68,7 @@ module _ {A G : Type 0} (same : A → A → Bool) (◌·◌ : A → G → A) (un
 -- ---- in an accepted symbol's list
 module _ (c : Centering) (gens operations : List Operation) (steps : List ℕ) (A : Accepted c gens operations steps) (L : Listing operations) where
   -- An operation has the rotation of the motion that it is made of.
-  rotation-at : (i : ℕ) → i < length operations → (motionAt c operations i).rotation ≡ (get_or A.list i identity).rotation
+  rotation-at : (i : ℕ) → i < length operations → (motion_at c operations i).rotation ≡ (get_or A.list i identity).rotation
   unfolding motion_of
   rotation-at i h =
       let f = get_or A.list i identity in
@@ -80,14 +80,14 @@ module _ (c : Centering) (gens operations : List Operation) (steps : List ℕ) (
 
   -- A product of motions that is listed has its index noted at the step.
   step-to : (p j k : ℕ) → p < length operations → j < length operations → k < length gens
-      → compose (get_or A.list p identity) (motionAt c gens k) ≡ get_or A.list j identity → get_or steps (p * length gens + k) 0 ≡ j
+      → compose (get_or A.list p identity) (motion_at c gens k) ≡ get_or A.list j identity → get_or steps (p * length gens + k) 0 ≡ j
   step-to p j k h b w e =
       let (below, near) = step_right c gens operations steps A p k h w in
       let noted = get_or steps (p * length gens + k) 0 in
-      let right = motionAt c gens k in
+      let right = motion_at c gens k in
       rotation-index c L noted j below b
       (sym near.0
-      ∙ compose-rotation (motionAt c operations p) right
+      ∙ compose-rotation (motion_at c operations p) right
       ∙ ap (λ R. times R right.rotation) (rotation-at p h)
       ∙ sym (compose-rotation (get_or A.list p identity) right)
       ∙ ap (λ f. f.rotation) e
@@ -101,5 +101,5 @@ module _ (c : Centering) (gens operations : List Operation) (steps : List ℕ) (
       let (p, g, lt, m, e) = closure-descends same_rotation compose identity (motions gens) 48 A.list A.listed j a (omega arith) in
       let (k, h, q) = member-index (motion_of identity_operation) m in
       let w : k < length gens = omega (arith, length-map gens motion_of) in
-      let right : motionAt c gens k ≡ g = sym (get_or-map motion_of gens k identity_operation) ∙ q in
+      let right : motion_at c gens k ≡ g = sym (get_or-map motion_of gens k identity_operation) ∙ q in
       (p * length gens + k, omega (arith, suc-mul p (length gens), mul-le-mul_right (length gens) lt), step-to p j k (omega arith) b w (rw right e))

@@ -31,7 +31,7 @@ use Rattle.subgroup_laws.specs.Groups.{Group}
 use Rattle.subgroup_laws.specs.Table.{product}
 use Rattle.subgroup_laws.specs.TableCells.{square-limit}
 use Rattle.group_table.specs.Tables.{table_of, symbol_table_by, symbol_table, symbol_cells_by, symbol_cells, overlaid, laid}
-use Rattle.group_table.specs.OperationTables.{motionAt, table-length}
+use Rattle.group_table.specs.OperationTables.{motion_at, table-length}
 use Rattle.group_table.specs.TableMotions.{BelongsTo, listed-belongs, product_is}
 use Rattle.group_table.specs.TableGroups.{identity_index, identity-at, group-table}
 use Rattle.group_table.specs.Parents.{parent-step}
@@ -59,7 +59,7 @@ module _ (c : Centering) (gens operations : List Operation) (steps : List ℕ) (
 
   -- Operation p times generator k belongs to the index that the step leads to.
   step-belongs : (p k : ℕ) → p < length operations → k < length gens
-      → BelongsTo c operations (compose (motionAt c operations p) (motionAt c gens k)) (get_or noted (p * length gens + k) 0)
+      → BelongsTo c operations (compose (motion_at c operations p) (motion_at c gens k)) (get_or noted (p * length gens + k) 0)
   step-belongs p k h w =
       rw (noted-at (p * length gens + k) (place_inside p k (length operations) (length gens) h w)) (step_right c gens operations steps A p k h w)
 
@@ -91,16 +91,16 @@ module _ (c : Centering) (gens operations : List Operation) (steps : List ℕ) (
   identity-zero = let (rest, e) = identity-first c gens operations steps A in rw e (omega arith, refl)
 
   -- So a generator belongs to the index to which its step leads from there,
-  generator-belongs : (k : ℕ) → k < length gens → BelongsTo c operations (motionAt c gens k) (get_or noted (0 * length gens + k) 0)
+  generator-belongs : (k : ℕ) → k < length gens → BelongsTo c operations (motion_at c gens k) (get_or noted (0 * length gens + k) 0)
   generator-belongs k w =
       let (some, first) = identity-zero in
-      let same : motionAt c operations 0 ≡ identity = ap motion_of first ∙ identity-motion in
-      rw (same, identity-compose (motionAt c gens k)) at (step-belongs 0 k some w)
+      let same : motion_at c operations 0 ≡ identity = ap motion_of first ∙ identity-motion in
+      rw (same, identity-compose (motion_at c gens k)) at (step-belongs 0 k some w)
 
   -- and every step is the product with that index.
   step-product : (p k : ℕ) → p < length operations → k < length gens → p · get_or noted (0 * length gens + k) 0 ≡ get_or noted (p * length gens + k) 0
   step-product p k h w =
-      product_is c listed allowed (motionAt c operations p) (motionAt c gens k) p (get_or noted (0 * length gens + k) 0) (get_or noted (p * length gens + k) 0)
+      product_is c listed allowed (motion_at c operations p) (motion_at c gens k) p (get_or noted (0 * length gens + k) 0) (get_or noted (p * length gens + k) 0)
       (listed-belongs c operations p h) (generator-belongs k w) (step-belongs p k h w)
 
   -- So the table goes by the steps.

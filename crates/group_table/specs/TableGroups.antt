@@ -14,7 +14,7 @@ use Rattle.group_record.specs.ListedForm.{alike-reflexive}
 use Rattle.group_record.specs.GroupLaws.{identity-listed, allowed-group}
 use Rattle.subgroup_laws.specs.Table.{product, Cells, GroupTable}
 use Rattle.group_table.specs.Tables.{index_of, table_of}
-use Rattle.group_table.specs.OperationTables.{motionAt, table-length, cell-alike, index-alike, index_is}
+use Rattle.group_table.specs.OperationTables.{motion_at, table-length, cell-alike, index-alike, index_is}
 use Rattle.group_table.specs.TableMotions.{BelongsTo, belongs-inside, listed-belongs, one_index, product-belongs, product_is}
 
 -- The index of the identity.
@@ -25,7 +25,7 @@ module _ (c : Centering) {l : List Operation} (L : Listing l) where
   -- It is where the identity operation stands.
   pub identity-at : (k : ℕ) → k < length l → get_or l k identity_operation ≡ identity_operation → identity_index c l ≡ k
   identity-at k h e =
-      let same : motionAt c l k ≡ identity = ap motion_of e ∙ identity-motion in
+      let same : motion_at c l k ≡ identity = ap motion_of e ∙ identity-motion in
       index_is c L identity k h (rw same (alike-reflexive c identity))
 
   module _ (A : Allowed c (map motion_of l)) where
@@ -64,18 +64,18 @@ module _ (c : Centering) {l : List Operation} (L : Listing l) where
     -- The identity of the motions is the identity of the table, on both sides.
     left_identity : (x : ℕ) → x < length l → identity_index c l · x ≡ x
     left_identity x h =
-        product_is c L A identity (motionAt c l x) (identity_index c l) x x identity-belongs (listed-belongs c l x h)
-        (rw (identity-compose (motionAt c l x)) (listed-belongs c l x h))
+        product_is c L A identity (motion_at c l x) (identity_index c l) x x identity-belongs (listed-belongs c l x h)
+        (rw (identity-compose (motion_at c l x)) (listed-belongs c l x h))
 
     right_identity : (x : ℕ) → x < length l → x · identity_index c l ≡ x
     right_identity x h =
-        product_is c L A (motionAt c l x) identity x (identity_index c l) x (listed-belongs c l x h) identity-belongs
-        (rw (compose-identity (motionAt c l x)) (listed-belongs c l x h))
+        product_is c L A (motion_at c l x) identity x (identity_index c l) x (listed-belongs c l x h) identity-belongs
+        (rw (compose-identity (motion_at c l x)) (listed-belongs c l x h))
 
     -- The inverse of a motion has the inverse's index.
     inverse : (x : ℕ) → x < length l → (y : ℕ) × (y < length l) × (x · y ≡ identity_index c l) × (y · x ≡ identity_index c l)
     inverse x h =
-        let f = motionAt c l x in
+        let f = motion_at c l x in
         let at = listed-belongs c l x h in
         let (g, inside, right, left) = (allowed-group c L A).inverse f (belongs-inside c l f x at) in
         let (y, belongs, only) = one_index c L g inside in (
@@ -88,9 +88,9 @@ module _ (c : Centering) {l : List Operation} (L : Listing l) where
     -- Products of motions associate.
     associative : (x y z : ℕ) → x < length l → y < length l → z < length l → x · y · z ≡ x · (y · z)
     associative x y z h j k =
-        let f = motionAt c l x in
-        let g = motionAt c l y in
-        let m = motionAt c l z in
+        let f = motion_at c l x in
+        let g = motion_at c l y in
+        let m = motion_at c l z in
         let left = product-belongs c L A f g x y (listed-belongs c l x h) (listed-belongs c l y j) in
         let right = product-belongs c L A g m y z (listed-belongs c l y j) (listed-belongs c l z k) in
         let whole = product-belongs c L A f (compose g m) x (y · z) (listed-belongs c l x h) right in
@@ -103,7 +103,7 @@ module _ (c : Centering) {l : List Operation} (L : Listing l) where
           cells = table-cells;
           group =
               record {
-                product-below = λ x y h k. (product-belongs c L A (motionAt c l x) (motionAt c l y) x y (listed-belongs c l x h) (listed-belongs c l y k)).0;
+                product-below = λ x y h k. (product-belongs c L A (motion_at c l x) (motion_at c l y) x y (listed-belongs c l x h) (listed-belongs c l y k)).0;
                 identity-below = identity-belongs.0;
                 left_identity = left_identity;
                 right_identity = right_identity;

@@ -15,20 +15,20 @@ use Rattle.group_record.specs.ListedForm.{alike-reflexive, alike-transitive}
 use Rattle.group_record.specs.GroupLaws.{compose-alike}
 use Rattle.subgroup_laws.specs.Table.{product}
 use Rattle.group_table.specs.Tables.{index_of, table_of}
-use Rattle.group_table.specs.OperationTables.{motionAt, index-alike, index_is, cell-alike}
+use Rattle.group_table.specs.OperationTables.{motion_at, index-alike, index_is, cell-alike}
 
 -- A motion belongs to an index: it is the operation of that index modulo L.
 abbrev pub BelongsTo : Centering → List Operation → SpaceMotion → ℕ → Type 0
-BelongsTo c l f i = (i < length l) × Alike c f (motionAt c l i)
+BelongsTo c l f i = (i < length l) × Alike c f (motion_at c l i)
 
 module _ (c : Centering) (l : List Operation) where
   -- What belongs to an index is in the set.
   pub belongs-inside : (f : SpaceMotion) (i : ℕ) → BelongsTo c l f i → InSet c (map motion_of l) f
-  belongs-inside f i (h, a) = (motionAt c l i, mem-map motion_of (member-at l i identity_operation h), a)
+  belongs-inside f i (h, a) = (motion_at c l i, mem-map motion_of (member-at l i identity_operation h), a)
 
   -- A listed motion belongs to its index.
-  pub listed-belongs : (i : ℕ) → i < length l → BelongsTo c l (motionAt c l i) i
-  listed-belongs i h = (h, alike-reflexive c (motionAt c l i))
+  pub listed-belongs : (i : ℕ) → i < length l → BelongsTo c l (motion_at c l i) i
+  listed-belongs i h = (h, alike-reflexive c (motion_at c l i))
 
 module _ (c : Centering) {l : List Operation} (L : Listing l) where
   -- Each motion of the set belongs to exactly one index.
@@ -42,10 +42,10 @@ module _ (c : Centering) {l : List Operation} (L : Listing l) where
     unfolding product
     product-belongs f g i j (h, a) (k, b) =
         let (below, near) = cell-alike c L A i j h k in
-        let maps : MapsInto (points_of c) f.rotation = rw a.0 (A.keeps (motionAt c l i) (mem-map motion_of (member-at l i identity_operation h))).0 in (
+        let maps : MapsInto (points_of c) f.rotation = rw a.0 (A.keeps (motion_at c l i) (mem-map motion_of (member-at l i identity_operation h))).0 in (
           below,
-          alike-transitive c (compose f g) (compose (motionAt c l i) (motionAt c l j)) (motionAt c l _)
-              (compose-alike c f (motionAt c l i) g (motionAt c l j) maps a b) near,
+          alike-transitive c (compose f g) (compose (motion_at c l i) (motion_at c l j)) (motion_at c l _)
+              (compose-alike c f (motion_at c l i) g (motion_at c l j) maps a b) near,
         )
 
     -- So a product's index tells the product of the indices.

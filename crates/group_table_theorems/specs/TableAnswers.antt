@@ -21,7 +21,7 @@ use Rattle.group_record.specs.declared.Reading.{Reading}
 use Rattle.group_record.specs.declared.Reading.TheVariants.{Accepted, Refused as RecordRefused}
 use Rattle.subgroup_laws.specs.Table.{product, GroupTable}
 use Rattle.group_table.specs.Tables.{table_of, cells_of, symbol_table_by, symbol_table, symbol_cells_by, symbol_cells, record_table_by, record_table, order_of_record_by, order_of_record, record_cells_by, record_cells}
-use Rattle.group_table.specs.OperationTables.{motionAt, table-length}
+use Rattle.group_table.specs.OperationTables.{motion_at, table-length}
 use Rattle.group_table.specs.TableMotions.{BelongsTo, belongs-inside, listed-belongs, one_index, product-belongs}
 use Rattle.group_table.specs.TableGroups.{identity_index, identity-at, group-table}
 use Rattle.group_table.specs.ReadTables.{read-allowed, read-order}
@@ -50,7 +50,7 @@ motions-table Inside c l L A same =
       order = refl;
       group = group-table c L A;
       belongs = λ f m. one_index c L f ((same f).0 m);
-      holds = λ i h. (motionAt c l i, listed-belongs c l i h);
+      holds = λ i h. (motion_at c l i, listed-belongs c l i h);
       inside = λ f i b. (same f).1 (belongs-inside c l f i b);
       products = product-belongs c L A;
     })

@@ -7,7 +7,7 @@ use Rattle.std.proofs.Math.Seq.{drop-length}
 use Rattle.answer_text.specs.Text.{text_of, text_answer}
 use Rattle.answer_text.specs.Answering.{answer-size}
 use Rattle.answer_text.specs.declared.AnswerText.{AnswerText}
-use Rattle.lines.specs.Lines.{last_line, in_aRow, last-once}
+use Rattle.lines.specs.Lines.{last_line, in_a_row, last-once}
 use Rattle.lines.specs.Feeding.{kept_behind, handed_over, taken_of, kept-parts, taken-within, taken-some}
 use Rattle.lines.specs.Keeping.{held, stored, zeros, line_in, any_line, first_line, taken_from, last_of}
 use Rattle.lines.specs.Storing.{handy-length, stored-whole, held-stored, held-handy}
@@ -40,16 +40,16 @@ answered_from k piece =
 -- ---- by the lines that are handed over
 -- None.
 pub none-in-room : in_room [] ≡ texts_in_room []
-unfolding in_aRow
+unfolding in_a_row
 none-in-room = refl
 
 none_writable : Writable (texts_in_room [])
-unfolding in_room in_aRow
+unfolding in_room in_a_row
 none_writable = record { few = omega arith; places = length-replicate {A = ℕ} 1814 0 }
 
 -- One.
 pub one-in-room : (line : List ℕ) → text_answer line ≡ texts_in_room (line ∷ [])
-unfolding text_answer in_room in_aRow
+unfolding text_answer in_room in_a_row
 one-in-room line = rw (append-nil (text_of line))
 
 one-writable : (line : List ℕ) (answer : AnswerText) → answer ≡ text_answer line → Writable answer

@@ -3,12 +3,12 @@ use Rattle.std.specs.Prelude.{◌≡◌, refl, Bool, true, false, List, [], ◌�
 use Rattle.std.proofs.Common.{◌∙◌, ap, ap₂, arith, take_at, length-take-le, leb-true, leb-false}
 use Rattle.answer_text.specs.Text.{text_of}
 use Rattle.answer_text.specs.FirstBytes.{long-alike}
-use Rattle.lines.specs.Lines.{lines_of, in_aRow}
+use Rattle.lines.specs.Lines.{lines_of, in_a_row}
 use Rattle.lines.specs.Feeding.{shortened, over_pieces, short-whole, long-shortened, long-length, pieces-lines}
 
 -- The texts of lines.
 abbrev pub texts_of : List (List ℕ) → List ℕ
-texts_of lines = in_aRow (map text_of lines)
+texts_of lines = in_a_row (map text_of lines)
 
 -- What is to be written for a whole input.
 unfoldable pub output_of : List ℕ → List ℕ
@@ -27,11 +27,11 @@ shortened-text line = by_length (leb (length line) 80) refl
         long-alike (shortened line) line (omega arith) long (ap (take 80) (long-shortened line long) ∙ take_at (take 80 line) (0 ∷ []) 80 full)
 
 shortened-texts : (lines : List (List ℕ)) → texts_of (map shortened lines) ≡ texts_of lines
-unfolding in_aRow
+unfolding in_a_row
 shortened-texts [] = refl
 shortened-texts (line ∷ lines) = ap₂ ◌++◌ (shortened-text line) (shortened-texts lines)
 
 -- However a text is cut into pieces, the texts of what is handed over are its output.
-pub pieces-output : (pieces : List (List ℕ)) → texts_of (over_pieces [] pieces) ≡ output_of (in_aRow pieces)
+pub pieces-output : (pieces : List (List ℕ)) → texts_of (over_pieces [] pieces) ≡ output_of (in_a_row pieces)
 unfolding output_of
-pieces-output pieces = ap texts_of (pieces-lines pieces) ∙ shortened-texts (lines_of (in_aRow pieces))
+pieces-output pieces = ap texts_of (pieces-lines pieces) ∙ shortened-texts (lines_of (in_a_row pieces))

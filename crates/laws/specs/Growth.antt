@@ -51,8 +51,8 @@ module _ {A : Type 0} (same alike : A → A → Bool) where
   lengthened p s = record { found = s.found ++ p ∷ []; steps = s.steps ++ place same p s.found ∷ []; steady = s.steady }
 
   -- p is taken up, if the limit allows
-  unfoldable pub takenUp : ℕ → A → Growth A → Option (Growth A)
-  takenUp limit p s = cond (ltb (place same p s.found) (length s.found))
+  unfoldable pub taken_up : ℕ → A → Growth A → Option (Growth A)
+  taken_up limit p s = cond (ltb (place same p s.found) (length s.found))
       (some (recurring p s)) (cond (ltb (length s.found) limit) (some (lengthened p s)) none)
 
 module _ {A G : Type 0} (same alike : A → A → Bool) (◌·◌ : A → G → Option A) (limit : ℕ) where
@@ -60,7 +60,7 @@ module _ {A G : Type 0} (same alike : A → A → Bool) (◌·◌ : A → G → 
   -- x times each generator in turn
   unfoldable pub turns : A → List G → Growth A → Option (Growth A)
   turns x [] s = some s
-  turns x (g ∷ gens) s = bind (x · g) (λ p. bind (takenUp same alike limit p s) (turns x gens))
+  turns x (g ∷ gens) s = bind (x · g) (λ p. bind (taken_up same alike limit p s) (turns x gens))
 
   module _ (unit : A) (gens : List G) where
     -- the steps of the elements from index i on; the number says how many are left to the limit
@@ -122,8 +122,8 @@ module _ {A B G H : Type 0} (sameA alikeA : A → A → Bool) (sameB alikeB : B 
 
     -- taking up an element
     taken-image : (p : A) (s : Growth A) → Fine p → AllFine s
-        → takenUp sameB alikeB limit (f p) (image_growth f s) ≡ Option.map (image_growth f) (takenUp sameA alikeA limit p s)
-    unfolding takenUp
+        → taken_up sameB alikeB limit (f p) (image_growth f s) ≡ Option.map (image_growth f) (taken_up sameA alikeA limit p s)
+    unfolding taken_up
     taken-image p s k h =
         rw (
           place-image p s.found k h,
@@ -136,8 +136,8 @@ module _ {A B G H : Type 0} (sameA alikeA : A → A → Bool) (sameB alikeB : B 
         (recurring sameA alikeA p s) (lengthened sameA alikeA p s))
 
     -- what is taken up is fine
-    taken_fine : (p : A) (s t : Growth A) → Fine p → AllFine s → takenUp sameA alikeA limit p s ≡ some t → AllFine t
-    unfolding takenUp
+    taken_fine : (p : A) (s t : Growth A) → Fine p → AllFine s → taken_up sameA alikeA limit p s ≡ some t → AllFine t
+    unfolding taken_up
     taken_fine p s t k h e = chosen (ltb (place sameA p s.found) (length s.found)) (ltb (length s.found) limit) e
       where
         chosen : (a b : Bool) → cond a (some (recurring sameA alikeA p s)) (cond b (some (lengthened sameA alikeA p s)) none) ≡ some t → AllFine t
@@ -152,8 +152,8 @@ module _ {A B G H : Type 0} (sameA alikeA : A → A → Bool) (sameB alikeB : B 
     unfolding turns
     turns-fine x [] s t k h e = let z : s ≡ t = cc in rw (← z) h
     turns-fine x (g ∷ gens) s t k h e =
-        let (p, q, rest) = (bind-eq-some_iff (x · tag g) (λ p. bind (takenUp sameA alikeA limit p s) (turns sameA alikeA ◌·◌ limit x (map tag gens)))).0 e in
-        let (u, taken, later) = (bind-eq-some_iff (takenUp sameA alikeA limit p s) (turns sameA alikeA ◌·◌ limit x (map tag gens))).0 rest in
+        let (p, q, rest) = (bind-eq-some_iff (x · tag g) (λ p. bind (taken_up sameA alikeA limit p s) (turns sameA alikeA ◌·◌ limit x (map tag gens)))).0 e in
+        let (u, taken, later) = (bind-eq-some_iff (taken_up sameA alikeA limit p s) (turns sameA alikeA ◌·◌ limit x (map tag gens))).0 rest in
         turns-fine x gens u t k (taken_fine p s u (I.product-fine x p (tag g) k q) h taken) later
 
     -- and go over to the image
@@ -162,11 +162,11 @@ module _ {A B G H : Type 0} (sameA alikeA : A → A → Bool) (sameB alikeB : B 
     unfolding turns
     turns-image x [] s k h = refl
     turns-image x (g ∷ gens) s k h = bind-image f (image_growth f) (x · tag g)
-        (λ p. bind (takenUp sameA alikeA limit p s) (turns sameA alikeA ◌·◌ limit x (map tag gens)))
-        (λ p. bind (takenUp sameB alikeB limit p (image_growth f s)) (turns sameB alikeB ◌∗◌ limit (f x) gens))
+        (λ p. bind (taken_up sameA alikeA limit p s) (turns sameA alikeA ◌·◌ limit x (map tag gens)))
+        (λ p. bind (taken_up sameB alikeB limit p (image_growth f s)) (turns sameB alikeB ◌∗◌ limit (f x) gens))
         (I.product-image x g k)
         (λ p e. let fine = I.product-fine x p (tag g) k e in
-        bind-image (image_growth f) (image_growth f) (takenUp sameA alikeA limit p s)
+        bind-image (image_growth f) (image_growth f) (taken_up sameA alikeA limit p s)
         (turns sameA alikeA ◌·◌ limit x (map tag gens)) (turns sameB alikeB ◌∗◌ limit (f x) gens)
         (taken-image p s fine h)
         (λ t q. turns-image x gens t k (taken_fine p s t fine h q)))

@@ -22,7 +22,7 @@ use Rattle.std.proofs.Math.Seq.{append_snoc, get_or-append_seam}
 use borrow.Author.Tests.{lt-ltb, le-ltb, ltb-true, ltb-false}
 use Rattle.laws.specs.Distinct.{has, Equivalence, has-member}
 use Rattle.laws.specs.Closure.{fresh, Fresh, fresh_meets, fresh-candidate, done, old, new, run, closure, closure-length, closure-lists, Congruence, regroup, step}
-use Rattle.laws.specs.Growth.{Growth, place, recurring, lengthened, takenUp, turns, grow, grown}
+use Rattle.laws.specs.Growth.{Growth, place, recurring, lengthened, taken_up, turns, grow, grown}
 use Rattle.laws.specs.Truth.{all, all-member, member-all, T_true, true-T}
 
 -- ---- the place of an element
@@ -105,17 +105,17 @@ module _ {A G : Type 0} (same alike : A → A → Bool) (fine : A → Bool) (◌
 
   module _ (gens : List G) where
     -- the indices in l of the products of some elements and the generators
-    unfoldable pub stepsFrom : List A → List A → List ℕ
-    stepsFrom l [] = []
-    stepsFrom l (x ∷ xs) = map (λ g. place same (x ∗ g) l) gens ++ stepsFrom l xs
+    unfoldable pub steps_from : List A → List A → List ℕ
+    steps_from l [] = []
+    steps_from l (x ∷ xs) = map (λ g. place same (x ∗ g) l) gens ++ steps_from l xs
 
     -- whether each of these products is alike to the listed element of its class
-    unfoldable pub steadyFrom : List A → List A → Bool
-    steadyFrom l xs = all (λ x. all (λ g. agrees l (x ∗ g)) gens) xs
+    unfoldable pub steady_from : List A → List A → Bool
+    steady_from l xs = all (λ x. all (λ g. agrees l (x ∗ g)) gens) xs
 
     -- the growth that ends with the list l
     abbrev pub described : List A → Growth A
-    described l = record { found = l; steps = stepsFrom l l; steady = steadyFrom l l }
+    described l = record { found = l; steps = steps_from l l; steady = steady_from l l }
 
   module _ (limit : ℕ) where
     -- the cases of one element's steps
@@ -131,7 +131,7 @@ module _ {A G : Type 0} (same alike : A → A → Bool) (fine : A → Bool) (◌
 
     -- the steps meet one of them
     turned : (x : A) (gens : List G) (s : Growth A) → Turned x gens s (turns same alike allowed limit x gens s)
-    unfolding turns allowed takenUp bind
+    unfolding turns allowed taken_up bind
     turned x [] s = finished
     turned x (g ∷ gens) s = by-test (fine (x ∗ g)) refl (has same (x ∗ g) s.found) refl (ltb (length s.found) limit) refl (turned x gens)
       where
@@ -254,12 +254,12 @@ module _ {A G : Type 0} (same alike : A → A → Bool) (fine : A → Bool) (◌
           grows : t.found ≡ s.found ++ later
           runs : run same ◌∗◌ unit gens n taken waiting ≡ some t.found
           later-fine : (y : A) → Mem y later → fine y ≡ true
-          all-steps : t.steps ≡ s.steps ++ stepsFrom gens t.found (waiting ++ later)
-          all-steady : t.steady ≡ (s.steady && steadyFrom gens t.found (waiting ++ later))
+          all-steps : t.steps ≡ s.steps ++ steps_from gens t.found (waiting ++ later)
+          all-steady : t.steady ≡ (s.steady && steady_from gens t.found (waiting ++ later))
 
         -- nothing waits
         grew-done : (n : ℕ) (taken : List A) (s : Growth A) → s.found ≡ taken ++ [] → run same ◌∗◌ unit gens n taken [] ≡ some taken → Grew n taken [] s s
-        unfolding stepsFrom steadyFrom all
+        unfolding steps_from steady_from all
         grew-done n taken s e r = record {
           later = [];
           grows = sym (append-nil s.found);
@@ -272,7 +272,7 @@ module _ {A G : Type 0} (same alike : A → A → Bool) (fine : A → Bool) (◌
         -- the first that waits takes its steps, and the others go on
         grew-more : (n : ℕ) (taken waiting : List A) (x : A) (s u t : Growth A) → s.found ≡ taken ++ x ∷ waiting → (X : Extends x gens s u)
             → Grew n (taken ++ x ∷ []) (waiting ++ X.added) u t → Grew (suc n) taken (x ∷ waiting) s t
-        unfolding run stepsFrom steadyFrom all
+        unfolding run steps_from steady_from all
         grew-more n taken waiting x s u t e X W =
             let joined : t.found ≡ u.found ++ W.later = W.grows in
             let regrouped : (waiting ++ X.added) ++ W.later ≡ waiting ++ (X.added ++ W.later) = append_assoc waiting X.added W.later in
@@ -287,11 +287,11 @@ module _ {A G : Type 0} (same alike : A → A → Bool) (fine : A → Bool) (◌
                 | inr k ↦ W.later-fine y k
               ];
               all-steps = W.all-steps
-                  ∙ ap (λ l. l ++ stepsFrom gens t.found ((waiting ++ X.added) ++ W.later)) (X.each_step W.later)
+                  ∙ ap (λ l. l ++ steps_from gens t.found ((waiting ++ X.added) ++ W.later)) (X.each_step W.later)
                   ∙ append_assoc s.steps _ _
                   ∙ rw (← joined, regrouped);
               all-steady = W.all-steady
-                  ∙ ap (λ b. b && steadyFrom gens t.found ((waiting ++ X.added) ++ W.later)) (X.each-steady W.later)
+                  ∙ ap (λ b. b && steady_from gens t.found ((waiting ++ X.added) ++ W.later)) (X.each-steady W.later)
                   ∙ and_assoc s.steady _ _
                   ∙ rw (← joined, regrouped);
             }
@@ -374,8 +374,8 @@ module _ {A G : Type 0} (same alike : A → A → Bool) (fine : A → Bool) (◌
           grown→closure t q =
               let W = grow-sound limit [] (unit ∷ []) (record { found = unit ∷ []; steps = []; steady = true }) t refl (omega arith) (omega arith) q in
               let whole : t.found ≡ unit ∷ W.later = W.grows in
-              let steps : t.steps ≡ stepsFrom gens t.found t.found = W.all-steps ∙ ap (stepsFrom gens t.found) (sym whole) in
-              let steady : t.steady ≡ steadyFrom gens t.found t.found = W.all-steady ∙ ap (steadyFrom gens t.found) (sym whole) in (
+              let steps : t.steps ≡ steps_from gens t.found t.found = W.all-steps ∙ ap (steps_from gens t.found) (sym whole) in
+              let steady : t.steady ≡ steady_from gens t.found t.found = W.all-steady ∙ ap (steady_from gens t.found) (sym whole) in (
                 W.runs,
                 member-all fine t.found (λ y m. elim (cases (rw whole at m)) [ inl e ↦ rw e (true-T unit-fine) | inr k ↦ true-T (W.later-fine y k) ]),
                 λ i. record { found = t.found; steps = steps i; steady = steady i },

@@ -3,7 +3,7 @@ use Rattle.std.specs.Prelude.{◌≡◌, refl, Bool, true, false, cond, List, []
 use Rattle.std.proofs.Common.{sym, ◌∙◌, ap, ap₂, append_assoc, arith, length-append, take_all, take-take, length-take-le, leb-true, leb-false, le-leb}
 use Rattle.std.proofs.lemmas.List.{take-append-le}
 use Rattle.std.proofs.lemmas.Bool.{lt-leb}
-use Rattle.lines.specs.Lines.{last_line, lines_from, lines_of, in_aRow}
+use Rattle.lines.specs.Lines.{last_line, lines_from, lines_of, in_a_row}
 
 -- How many bytes of a line are kept: as many as a symbol may have.
 abbrev pub most : ℕ
@@ -166,15 +166,15 @@ unfolding all_handed_over handed_over kept_behind
 none_over kept = refl
 
 -- From any point of a line on.
-from_pieces : (kept : List ℕ) (pieces : List (List ℕ)) → over_pieces kept pieces ≡ all_handed_over kept (in_aRow pieces)
-unfolding over_pieces in_aRow
+from_pieces : (kept : List ℕ) (pieces : List (List ℕ)) → over_pieces kept pieces ≡ all_handed_over kept (in_a_row pieces)
+unfolding over_pieces in_a_row
 from_pieces kept [] = none_over kept
 from_pieces kept (piece ∷ pieces) =
-    ap (λ (l : List (List ℕ)). handed_over kept piece ++ l) (from_pieces (kept_behind kept piece) pieces) ∙ all-parts kept piece (in_aRow pieces)
+    ap (λ (l : List (List ℕ)). handed_over kept piece ++ l) (from_pieces (kept_behind kept piece) pieces) ∙ all-parts kept piece (in_a_row pieces)
 
 -- However a text is cut into pieces, what is handed over are its lines.
-pub pieces-lines : (pieces : List (List ℕ)) → over_pieces [] pieces ≡ map shortened (lines_of (in_aRow pieces))
-pieces-lines pieces = from_pieces [] pieces ∙ handed-lines (in_aRow pieces)
+pub pieces-lines : (pieces : List (List ℕ)) → over_pieces [] pieces ≡ map shortened (lines_of (in_a_row pieces))
+pieces-lines pieces = from_pieces [] pieces ∙ handed-lines (in_a_row pieces)
 
 -- ---- what is taken of a piece
 -- No more than there is,

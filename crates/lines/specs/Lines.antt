@@ -17,9 +17,9 @@ abbrev pub lines_of : List ℕ → List (List ℕ)
 lines_of text = lines_from [] text
 
 -- Texts, one behind the other.
-unfoldable pub in_aRow : List (List ℕ) → List ℕ
-in_aRow [] = []
-in_aRow (text ∷ texts) = text ++ in_aRow texts
+unfoldable pub in_a_row : List (List ℕ) → List ℕ
+in_a_row [] = []
+in_a_row (text ∷ texts) = text ++ in_a_row texts
 
 -- ---- said of the text alone
 -- No byte of a line is 10.

@@ -14,7 +14,7 @@ use Rattle.laws.specs.MotionsModulo.{alike-identity}
 use Rattle.group_growth.specs.Verdicts.{Verdict, listed, overgrown, torn}
 use Rattle.group_growth.specs.Growing.{OkGenerators, Few, AllFine, OneToUnit}
 use Rattle.group_growth.specs.Acceptance.{Whole, listed-exactly, listed-whole, overgrown-exactly, torn-exactly}
-use Rattle.group_growth.specs.Flagged.{Flagged, held, image_flagged, sameFlagged, key-flag, key-element, flagged-key}
+use Rattle.group_growth.specs.Flagged.{Flagged, held, image_flagged, same_flagged, key-flag, key-element, flagged-key}
 use Rattle.operation.specs.Meaning.{motion_of}
 use Rattle.operation.specs.Product.{operation_of}
 use Rattle.operation.specs.declared.Operation.{Operation}
@@ -25,7 +25,7 @@ use Rattle.space_group.specs.Generated.{AllKeep, first_off}
 use Rattle.space_group.specs.OperationGrowth.{small-test}
 use Rattle.space_group.specs.declared.refusal.Refusal.TheVariants.{Lattice, Rotations, Translations}
 use Rattle.space_group.specs.FlaggedOutcomes.{plain_of}
-use Rattle.space_group_theorems.specs.Acceptance.{SmallGenerators, FirstOff, none-off, first_off, motions-keep}
+use Rattle.space_group_theorems.specs.Acceptance.{SmallGenerators, FirstOff, none-off, first_off_lem, motions-keep}
 use Rattle.magnetic_group.specs.Generated.{FlaggedMotion, flagged_motions, Generated, pair_of, FewPairs, SmallPairs, OneTranslation, flagged_growth, verdict_of, MagneticOutcome, group, refused, answered, outcome_of}
 use Rattle.magnetic_group.specs.Keys.{few-by-keys}
 
@@ -39,7 +39,7 @@ module _ (c : Centering) (gens : List (Flagged Operation)) where
 
   -- Pairs of rotation and flag are the keys,
   pub few-pairs : Few (flagged_growth c) (flagged_motions gens) 96 ↔ FewPairs gens
-  few-pairs = few-by-keys (sameFlagged same_rotation) (sameFlagged same_matrix) pair_of (λ x y. refl) (Generated gens) 96
+  few-pairs = few-by-keys (same_flagged same_rotation) (same_flagged same_matrix) pair_of (λ x y. refl) (Generated gens) 96
 
   -- entries in −1..1 are the test,
   pub fine-pairs : AllFine (flagged_growth c) (flagged_motions gens) ↔ SmallPairs gens
@@ -106,7 +106,7 @@ module _ (c : Centering) (gens : List (Flagged Operation)) (small : SmallGenerat
   unfolding outcome_of
   course = elim (dec_lt (first_off c (plain_of gens)) (length (plain_of gens))) [
     | yes h ↦
-        rw (lt-ltb (first_off c (plain_of gens)) (length (plain_of gens)) h) (off ((first_off c (plain_of gens) small (first_off c (plain_of gens))).0 (refl, h)))
+        rw (lt-ltb (first_off c (plain_of gens)) (length (plain_of gens)) h) (off ((first_off_lem c (plain_of gens) small (first_off c (plain_of gens))).0 (refl, h)))
     | no h ↦
         let all : length (plain_of gens) ≤ first_off c (plain_of gens) = omega arith in
         rw (le-ltb (first_off c (plain_of gens)) (length (plain_of gens)) all) (kept ((none-off c (plain_of gens) small).0 all))
@@ -115,12 +115,12 @@ module _ (c : Centering) (gens : List (Flagged Operation)) (small : SmallGenerat
   -- A generator that is off is one that does not map L onto L, and there is one first.
   off-keep : (i : ℕ) → FirstOff c (plain_of gens) i → AllKeep c (plain_of gens) → ⊥
   off-keep i F keep =
-      let (e, h) = (first_off c (plain_of gens) small i).1 F in
+      let (e, h) = (first_off_lem c (plain_of gens) small i).1 F in
       let none = (none-off c (plain_of gens) small).1 keep in
       absurd (omega arith)
 
   off-once : (i j : ℕ) → FirstOff c (plain_of gens) i → FirstOff c (plain_of gens) j → i ≡ j
-  off-once i j F H = sym ((first_off c (plain_of gens) small i).1 F).0 ∙ ((first_off c (plain_of gens) small j).1 H).0
+  off-once i j F H = sym ((first_off_lem c (plain_of gens) small i).1 F).0 ∙ ((first_off_lem c (plain_of gens) small j).1 H).0
 
   course-group : {o : MagneticOutcome} → Course c gens o → (operations : List (Flagged Operation)) (steps : List ℕ) → o ≡ group operations steps
       → MagneticAccepted c gens operations steps

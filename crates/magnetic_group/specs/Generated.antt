@@ -10,7 +10,7 @@ use Rattle.laws.specs.Lattice.{InLattice}
 use Rattle.laws.specs.SameMatrix.{same_matrix}
 use Rattle.group_growth.specs.Verdicts.{Verdict, listed, overgrown, torn, image_verdict}
 use Rattle.group_growth.specs.Growing.{Growing, verdict}
-use Rattle.group_growth.specs.Flagged.{Flagged, held, image_flagged, sameFlagged, timesFlagged}
+use Rattle.group_growth.specs.Flagged.{Flagged, held, image_flagged, same_flagged, times_flagged}
 use Rattle.group_growth.specs.FlaggedGrowth.{with_flag}
 use Rattle.operation.specs.Meaning.{motion_of}
 use Rattle.operation.specs.Entries.{Entries}
@@ -29,7 +29,7 @@ abbrev pub FlaggedMotion : Type 0
 FlaggedMotion = Flagged SpaceMotion
 
 abbrev pub compose_flagged : FlaggedMotion → FlaggedMotion → FlaggedMotion
-compose_flagged = timesFlagged compose
+compose_flagged = times_flagged compose
 
 -- The generators as flagged motions of space.
 abbrev pub flagged_motions : List (Flagged Operation) → List FlaggedMotion
@@ -49,7 +49,7 @@ GeneratedPair gens A = (f : FlaggedMotion) × Generated gens f × (pair_of f ≡
 -- ---- when generators are accepted
 -- The generated pairs of a rotation and a flag number at most 96.
 abbrev pub FewPairs : List (Flagged Operation) → Type 0
-FewPairs gens = (l : List (Flagged Matrix)) → Distinct (sameFlagged same_matrix) l → ((A : Flagged Matrix) → Mem A l → GeneratedPair gens A) → length l ≤ 96
+FewPairs gens = (l : List (Flagged Matrix)) → Distinct (same_flagged same_matrix) l → ((A : Flagged Matrix) → Mem A l → GeneratedPair gens A) → length l ≤ 96
 
 -- All entries of generated rotations are in −1..1.
 abbrev pub SmallPairs : List (Flagged Operation) → Type 0

@@ -17,7 +17,7 @@ use Rattle.group_growth.specs.Growing.{OkGenerators}
 use Rattle.group_growth.specs.Forms.{Forms}
 use Rattle.group_growth.specs.Members as growing
 use Rattle.group_growth.specs.WordOrder as order
-use Rattle.group_growth.specs.Flagged.{Flagged, flagged≡, held, image_flagged, sameFlagged, AlikeFlagged, key-flag, key-element, flagged-key}
+use Rattle.group_growth.specs.Flagged.{Flagged, flagged≡, held, image_flagged, same_flagged, AlikeFlagged, key-flag, key-element, flagged-key}
 use Rattle.group_growth.specs.FlaggedGrowth.{forms_with_flag}
 use Rattle.operation.specs.Meaning.{matrix_of, motion_of}
 use Rattle.operation.specs.Product.{identity_operation, operation_of}
@@ -40,7 +40,7 @@ Near c = AlikeFlagged (Alike (points_of c))
 
 -- Flagged operations in the order of the least words over the generators that lead to their pairs of rotation and flag, each pair once.
 abbrev pub WordOrdered : List (Flagged Operation) → List (Flagged Operation) → Type 0
-WordOrdered gens = order.WordOrdered (sameFlagged same_rotation) compose_flagged (held identity) (flagged_motions gens) (image_flagged operation_of)
+WordOrdered gens = order.WordOrdered (same_flagged same_rotation) compose_flagged (held identity) (flagged_motions gens) (image_flagged operation_of)
 
 module _ (c : Centering) (gens operations : List (Flagged Operation)) (steps : List ℕ) (A : MagneticAccepted c gens operations steps) where
   -- The flagged motions that the operations are made of.
@@ -50,7 +50,7 @@ module _ (c : Centering) (gens operations : List (Flagged Operation)) (steps : L
   kept : OkGenerators (flagged_growth c) (flagged_motions gens)
   kept = flagged-keep c gens A.keep
 
-  reached : ListsReached (sameFlagged same_rotation) compose_flagged (held identity) (flagged_motions gens) list
+  reached : ListsReached (same_flagged same_rotation) compose_flagged (held identity) (flagged_motions gens) list
   reached = growing.reached (flagged_growth c) (flagged_motions gens) kept 96 list steps A.whole
 
   -- Generated motions have entries in −1..1.
@@ -79,11 +79,11 @@ module _ (c : Centering) (gens operations : List (Flagged Operation)) (steps : L
       omega (arith, ap length A.operations-are, length-map list (image_flagged operation_of), few)
 
   -- The pair of an operation.
-  abbrev pub ownPair : Flagged Operation → Flagged Matrix
-  ownPair = image_flagged (λ (o : Operation). matrix_of o.rotation)
+  abbrev pub own_pair : Flagged Operation → Flagged Matrix
+  own_pair = image_flagged (λ (o : Operation). matrix_of o.rotation)
 
   -- Every generated pair is there,
-  pub pair-there : (P : Flagged Matrix) → GeneratedPair gens P → (o : Flagged Operation) × Mem o operations × (ownPair o ≡ P)
+  pub pair-there : (P : Flagged Matrix) → GeneratedPair gens P → (o : Flagged Operation) × Mem o operations × (own_pair o ≡ P)
   pair-there P (f, r, p) =
       let (g, m, s) = growing.key-there (flagged_growth c) (flagged_motions gens) kept 96 list steps A.whole f r in
       let same = same-rotation f.element g.element (key-element same_rotation f g s) in
@@ -91,14 +91,14 @@ module _ (c : Centering) (gens operations : List (Flagged Operation)) (steps : L
       (image_flagged operation_of g, listed-member _ (mem-map (image_flagged operation_of) m), flagged≡ _ (pair_of f) turn (sym (key-flag same_rotation f g s)) ∙ p)
 
   -- nothing else is,
-  pub pair-generated : (o : Flagged Operation) → Mem o operations → GeneratedPair gens (ownPair o)
+  pub pair-generated : (o : Flagged Operation) → Mem o operations → GeneratedPair gens (own_pair o)
   pair-generated o m =
       let (f, k, p) = mem-of-map (image_flagged operation_of) list (member-listed o m) in
       let r = reached.sound f k in
-      (f, r, flagged≡ (pair_of f) (ownPair (image_flagged operation_of f)) (sym (operation-rotation f.element (small f r))) refl ∙ ap ownPair p)
+      (f, r, flagged≡ (pair_of f) (own_pair (image_flagged operation_of f)) (sym (operation-rotation f.element (small f r))) refl ∙ ap own_pair p)
 
   -- and none twice.
-  pub pairs-once : Distinct (sameFlagged same_turn) operations
+  pub pairs-once : Distinct (same_flagged same_turn) operations
   pairs-once = rw A.operations-are (growing.forms-once (flagged_growth c) (flagged_motions gens) kept 96 list steps A.whole (flagged_forms c))
 
   -- ---- the translations
@@ -108,7 +108,7 @@ module _ (c : Centering) (gens operations : List (Flagged Operation)) (steps : L
   translation-below o m = let (f, k, p) = mem-of-map (image_flagged operation_of) list (member-listed o m) in rw (← p) (reduced-lt f.element.translation)
 
   -- Each is right modulo L: any generated motion with the operation's rotation and flag differs from it by a vector of L.
-  pub translation-right : (o : Flagged Operation) → Mem o operations → (f : FlaggedMotion) → Generated gens f → pair_of f ≡ ownPair o
+  pub translation-right : (o : Flagged Operation) → Mem o operations → (f : FlaggedMotion) → Generated gens f → pair_of f ≡ own_pair o
       → Near c f (image_flagged motion_of o)
   translation-right o m f r p =
       let (g, k, q) = mem-of-map (image_flagged operation_of) list (member-listed o m) in
@@ -156,5 +156,5 @@ module _ (c : Centering) (gens operations : List (Flagged Operation)) (steps : L
 -- Only one list is.
 pub word-order-unique : (c : Centering) (gens o p : List (Flagged Operation)) → WordOrdered gens o → WordOrdered gens p → o ≡ p
 word-order-unique c gens =
-    order.word-order-unique (sameFlagged same_rotation) compose_flagged (held identity) (flagged_motions gens) (image_flagged operation_of)
+    order.word-order-unique (same_flagged same_rotation) compose_flagged (held identity) (flagged_motions gens) (image_flagged operation_of)
     (flagged_growth c).keyed.key-equivalence

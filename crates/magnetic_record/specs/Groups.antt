@@ -5,7 +5,7 @@ use Rattle.std.specs.Prelude.{◌≤◌, eqb, length}
 use Rattle.laws.specs.Matrix.{Unimodular}
 use Rattle.laws.specs.Motion.{SpaceMotion, compose, identity}
 use Rattle.laws.specs.LatticeMaps.{MapsOnto}
-use Rattle.group_growth.specs.Flagged.{Flagged, held, AlikeFlagged, timesFlagged}
+use Rattle.group_growth.specs.Flagged.{Flagged, held, AlikeFlagged, times_flagged}
 use Rattle.operation.specs.Meaning.{motion_of}
 use Rattle.centering.specs.Letters.{points_of}
 use Rattle.centering.specs.declared.Centering.{Centering}
@@ -19,7 +19,7 @@ FlaggedMotion = Flagged SpaceMotion
 
 -- The product of two.
 abbrev pub compose_flagged : FlaggedMotion → FlaggedMotion → FlaggedMotion
-compose_flagged = timesFlagged compose
+compose_flagged = times_flagged compose
 
 -- Two with one flag that differ by a translation of L.
 abbrev pub Near : Centering → FlaggedMotion → FlaggedMotion → Type 0

@@ -17,7 +17,7 @@ use Rattle.laws.specs.Motion.{SpaceMotion, identity, translation_by}
 use Rattle.laws.specs.Distinct.{has, Distinct, nil, cons, Equivalence, Mem→has, distinct-equal, eqb-equivalence}
 use Rattle.laws.specs.Lattice.{InLattice}
 use Rattle.laws.specs.Sorted.{Sorted, key-strict, key-decides, key-total, unique, sort-member, member-sort, sort_sorted}
-use Rattle.group_growth.specs.Flagged.{same_flag, Flagged, flagged≡, held, image_flagged, sameFlagged}
+use Rattle.group_growth.specs.Flagged.{same_flag, Flagged, flagged≡, held, image_flagged, same_flagged}
 use Rattle.operation.specs.Code.{code_of, code_lt}
 use Rattle.operation.specs.Composed.{identity-motion}
 use Rattle.operation.specs.Entries.{Entries, digits-entries}
@@ -113,7 +113,7 @@ one-magnetic-record c d items others g h one other = (forth, back)
 -- Flagged operations with entries in −1..1, each rotation at most once with and once without the flag.
 pub record MagneticListing (l : List (Flagged Operation)) : Type 0 where
   pub entries : (f : Flagged Operation) → Mem f l → Entries (matrix_of f.element.rotation)
-  pub distinct : Distinct (sameFlagged same_code) l
+  pub distinct : Distinct (same_flagged same_code) l
 
 abbrev item_same : MagneticItem → MagneticItem → Bool
 item_same i j = eqb (magnetic_key i) (magnetic_key j)
@@ -142,7 +142,7 @@ key-numbers a b true false = ne_eqb (2 * a + 1) (2 * b + 0) (λ e. absurd (omega
 key-numbers a b false true = ne_eqb (2 * a + 0) (2 * b + 1) (λ e. absurd (omega arith))
 key-numbers a b false false = told-alike (2 * a + 0) (2 * b + 0) a b (λ e. omega arith) (λ e. omega arith)
 
-key-test : (f g : Flagged Operation) → item_same (magnetic_item f) (magnetic_item g) ≡ sameFlagged same_code f g
+key-test : (f g : Flagged Operation) → item_same (magnetic_item f) (magnetic_item g) ≡ same_flagged same_code f g
 key-test f g = key-numbers (code_of f.element.rotation) (code_of g.element.rotation) f.flag g.flag
 
 -- A list with each key once is a list without repeats.
@@ -157,12 +157,12 @@ module _ (c : Centering) where
   smallest-key f = refl
 
   has-smallest : (f : Flagged Operation) (l : List (Flagged Operation))
-      → has item_same (smallest_item c f) (map (smallest_item c) l) ≡ has (sameFlagged same_code) f l
+      → has item_same (smallest_item c f) (map (smallest_item c) l) ≡ has (same_flagged same_code) f l
   unfolding has
   has-smallest f [] = refl
   has-smallest f (g ∷ l) = ap₂ ◌||◌ (ap₂ eqb (smallest-key f) (smallest-key g) ∙ key-test f g) (has-smallest f l)
 
-  distinct-smallest : {l : List (Flagged Operation)} → Distinct (sameFlagged same_code) l → Distinct item_same (map (smallest_item c) l)
+  distinct-smallest : {l : List (Flagged Operation)} → Distinct (same_flagged same_code) l → Distinct item_same (map (smallest_item c) l)
   distinct-smallest nil = nil
   distinct-smallest (cons {x} {l} new d) =
       cons {x = smallest_item c x} {l = map (smallest_item c) l} (λ t. new (rw (has-smallest x l) at t)) (distinct-smallest d)

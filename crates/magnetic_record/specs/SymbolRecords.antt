@@ -23,7 +23,7 @@ use Rattle.group_record.specs.Rules.{holds, told_by}
 use Rattle.group_record.specs.ListedForm.{alike-symmetric}
 use Rattle.group_record.specs.GroupLaws.{compose-alike}
 use Rattle.magnetic_group.specs.Acceptance.{MagneticAccepted}
-use Rattle.magnetic_group.specs.Members.{identity-first, at-most-96, ownPair, pair-generated, pairs-once, product-member, member-keeps}
+use Rattle.magnetic_group.specs.Members.{identity-first, at-most-96, own_pair, pair-generated, pairs-once, product-member, member-keeps}
 use Rattle.magnetic_group.specs.SetOfMotions.{InFlaggedSet, set-exactly}
 use Rattle.magnetic_record.specs.SecondEdition.{second_edition}
 use Rattle.magnetic_record.specs.Reading.{magnetic_rules}
@@ -90,7 +90,7 @@ module _ (c : Centering) (gens operations : List (Flagged Operation)) (steps : L
   pub accepted-listing : MagneticListing operations
   accepted-listing =
       record {
-        entries = λ f m. A.small (ownPair c gens operations steps A f) (pair-generated c gens operations steps A f m);
+        entries = λ f m. A.small (own_pair c gens operations steps A f) (pair-generated c gens operations steps A f m);
         distinct = pairs-once c gens operations steps A;
       }
 

@@ -20,7 +20,7 @@ use Rattle.group_record.specs.Items.{items_in, items-length, item-at}
 use Rattle.group_record.specs.OperationItems.{item_of, InRange}
 use Rattle.group_record.specs.declared.items.Item.{Item}
 use Rattle.group_record.specs.Reading.{is_item, alike_items}
-use Rattle.group_record.specs.Rules.{areGood}
+use Rattle.group_record.specs.Rules.{are_good}
 use Rattle.group_record.specs.Outcomes.{good-test}
 use Rattle.magnetic_record.specs.SecondEdition.{MagneticItem, magnetic_in, magnetic_key}
 use Rattle.magnetic_record.specs.Reading.{is_magnetic_item, half, magnetic_rules}
@@ -65,7 +65,7 @@ module _ (n : ℕ) (bytes : List ℕ) where
       let low : i < n = omega (arith, items-length 6 magnetic_in n bytes) in
       (i, low, sym (item-at 6 magnetic_in n bytes i (item_at bytes 0) low) ∙ e)
 
-  pub good-places : (c : Centering) → n ≤ 96 → 6 * n ≤ length bytes → areGood magnetic_rules tt c (items_of n bytes) ≡ true → GoodPlaces n bytes
+  pub good-places : (c : Centering) → n ≤ 96 → 6 * n ≤ length bytes → are_good magnetic_rules tt c (items_of n bytes) ≡ true → GoodPlaces n bytes
   unfolding magnetic_meaning
   good-places c few inside e =
       let g = good-magnetic c (items_of n bytes) ((good-test magnetic_rules magnetic_meaning tt c (items_of n bytes)).0 e) in

@@ -3,7 +3,7 @@ ghost use Rattle.std.specs.Prelude.{◌≡◌, ◌+◌, ◌*◌, ◌≤◌, leng
 ghost use Rattle.laws.specs.Sorted.{ascending};
 ghost use Rattle.laws.specs.Truth.{all};
 ghost use Rattle.group_record.specs.Editions.{from_end};
-ghost use Rattle.group_record.specs.Rules.{length_fits, areGood};
+ghost use Rattle.group_record.specs.Rules.{length_fits, are_good};
 ghost use Rattle.magnetic_record.specs.Reading.{is_magnetic_item, magnetic_rules};
 ghost use Rattle.magnetic_record.specs.Record.{key_before};
 ghost use Rattle.magnetic_record.specs.Answers.{reading_of};
@@ -80,7 +80,7 @@ fn length_fits(n: usize, stated: usize, size: usize) -> bool
 
 fn are_items(bytes: &[u8], c: Centering, n: usize) -> bool
     requires { (1 ≤ n) × (n ≤ 96) × (6 * n ≤ length bytes.now) }
-    ensures { result ≡ areGood magnetic_rules tt c (items_of n bytes.now) }
+    ensures { result ≡ are_good magnetic_rules tt c (items_of n bytes.now) }
 {
     if !items_fit(bytes, c, n) {
         return false;

@@ -10,9 +10,9 @@ use Rattle.symbol_group.specs.declared.refusal.Refusal as symbol-refusal
 use Rattle.group_record.specs.Acceptance.{Bytes}
 use Rattle.group_record.specs.Reading.{refusal_number}
 use Rattle.group_record.specs.declared.Refusal as record-refusal
-use Rattle.subgroup_laws.specs.Conjugates.{conjugatesOf, conjugatorsOf}
-use Rattle.subgroup_laws.specs.Lists.{subgroupsOf, representativesOf}
-use Rattle.subgroup_laws.specs.Permutations.{permutationOf}
+use Rattle.subgroup_laws.specs.Conjugates.{conjugates_of, conjugators_of}
+use Rattle.subgroup_laws.specs.Lists.{subgroups_of, representatives_of}
+use Rattle.subgroup_laws.specs.Permutations.{permutation_of}
 use Rattle.subgroup_laws.specs.Table.{product, GroupTable}
 use Rattle.group_table_theorems.specs.TableAnswers.{symbol-cells-group}
 use Rattle.group_table.specs.Tables.{symbol_cells, order_of_record, record_cells}
@@ -24,7 +24,7 @@ use Rattle.table_check.specs.declared.Answer.TheVariants.{Value, Refused}
 use Rattle.motion_group.specs.Accepted.{record-table-accepted}
 use Rattle.motion_tables.specs.Answers.{motion_answer, of_table, on_symbol, bytes_on_symbol, on_record, bytes_on_record}
 use Rattle.motion_tables.specs.declared.Answer.{Answer}
-use Rattle.table_answers.specs.Entries.{subgroupsAsked, classesAsked, conjugateAsked, normalizerAsked, permutationAsked, conjugatesAsked, identity-exactly, subgroups-exactly, subgroups-left, classes-exactly, classes-left, conjugate-exactly, normalizer-exactly, permutation-exactly, permutation-left, conjugates-exactly, conjugates-left, conjugators-left}
+use Rattle.table_answers.specs.Entries.{subgroups_asked, classes_asked, conjugate_asked, normalizer_asked, permutation_asked, conjugates_asked, identity-exactly, subgroups-exactly, subgroups-left, classes-exactly, classes-left, conjugate-exactly, normalizer-exactly, permutation-exactly, permutation-left, conjugates-exactly, conjugates-left, conjugators-left}
 use Rattle.table_answers.specs.OnGroup.{OnGroup, on-group}
 use Rattle.table_answers.specs.Reasons.{Question, Exactly, Leaves}
 
@@ -32,23 +32,23 @@ use Rattle.table_answers.specs.Reasons.{Question, Exactly, Leaves}
 pub record Entries (n : ℕ) (t : List ℕ) (e : ℕ) (on : (ℕ → List ℕ → table.Answer) → Answer) (lent : List ℕ → (ℕ → List ℕ → List ℕ) → List ℕ) : Type 0 where
   pub order : motion_answer (on (λ n t. Value n)) ≡ told.given n
   pub identity : motion_answer (on (λ n t. identity_answer n t)) ≡ told.given e
-  pub subgroups : (b : List ℕ) → OnGroup (subgroupsAsked n t b e) (motion_answer (on (λ n t. subgroups_answer n t b)))
+  pub subgroups : (b : List ℕ) → OnGroup (subgroups_asked n t b e) (motion_answer (on (λ n t. subgroups_answer n t b)))
   pub subgroups-left : (b : List ℕ)
-      → Leaves n t 8 (subgroupsOf n (product n t)) b (motion_answer (on (λ n t. subgroups_answer n t b))) (lent b (λ n t. subgroups_bytes n t b))
-  pub classes : (b : List ℕ) → OnGroup (classesAsked n t b e) (motion_answer (on (λ n t. classes_answer n t b)))
+      → Leaves n t 8 (subgroups_of n (product n t)) b (motion_answer (on (λ n t. subgroups_answer n t b))) (lent b (λ n t. subgroups_bytes n t b))
+  pub classes : (b : List ℕ) → OnGroup (classes_asked n t b e) (motion_answer (on (λ n t. classes_answer n t b)))
   pub classes-left : (b : List ℕ)
-      → Leaves n t 8 (representativesOf n (product n t)) b (motion_answer (on (λ n t. classes_answer n t b))) (lent b (λ n t. classes_bytes n t b))
-  pub conjugate : (s g : ℕ) → OnGroup (conjugateAsked n t s g e) (motion_answer (on (λ n t. conjugate_entry n t s g)))
-  pub normalizer : (s : ℕ) → OnGroup (normalizerAsked n t s e) (motion_answer (on (λ n t. normalizer_entry n t s)))
-  pub permutation : (s g : ℕ) (b : List ℕ) → OnGroup (permutationAsked n t s g b e) (motion_answer (on (λ n t. permutation_entry n t s g b)))
+      → Leaves n t 8 (representatives_of n (product n t)) b (motion_answer (on (λ n t. classes_answer n t b))) (lent b (λ n t. classes_bytes n t b))
+  pub conjugate : (s g : ℕ) → OnGroup (conjugate_asked n t s g e) (motion_answer (on (λ n t. conjugate_entry n t s g)))
+  pub normalizer : (s : ℕ) → OnGroup (normalizer_asked n t s e) (motion_answer (on (λ n t. normalizer_entry n t s)))
+  pub permutation : (s g : ℕ) (b : List ℕ) → OnGroup (permutation_asked n t s g b e) (motion_answer (on (λ n t. permutation_entry n t s g b)))
   pub permutation-left : (s g : ℕ) (b : List ℕ)
-      → Leaves n t 1 (λ e. permutationOf n (product n t) e s g) b (motion_answer (on (λ n t. permutation_entry n t s g b)))
+      → Leaves n t 1 (λ e. permutation_of n (product n t) e s g) b (motion_answer (on (λ n t. permutation_entry n t s g b)))
       (lent b (λ n t. permutation_list n t s g b))
-  pub conjugates : (s : ℕ) (b c : List ℕ) → OnGroup (conjugatesAsked n t s b c e) (motion_answer (on (λ n t. conjugates_entry n t s b c)))
+  pub conjugates : (s : ℕ) (b c : List ℕ) → OnGroup (conjugates_asked n t s b c e) (motion_answer (on (λ n t. conjugates_entry n t s b c)))
   pub conjugates-left : (s : ℕ) (b c : List ℕ)
-      → Leaves n t 8 (λ e. conjugatesOf n (product n t) e s) b (motion_answer (on (λ n t. conjugates_entry n t s b c))) (lent b (λ n t. conjugates_list n t s b c))
+      → Leaves n t 8 (λ e. conjugates_of n (product n t) e s) b (motion_answer (on (λ n t. conjugates_entry n t s b c))) (lent b (λ n t. conjugates_list n t s b c))
   pub conjugators-left : (s : ℕ) (b c : List ℕ)
-      → Leaves n t 1 (λ e. conjugatorsOf n (product n t) e s) c (motion_answer (on (λ n t. conjugates_entry n t s b c)))
+      → Leaves n t 1 (λ e. conjugators_of n (product n t) e s) c (motion_answer (on (λ n t. conjugates_entry n t s b c)))
       (lent c (λ n t. conjugators_list n t s b c))
 
 -- an answer on a table is told as it is
@@ -74,15 +74,15 @@ module _ (n : ℕ) (t : List ℕ) (e : ℕ) (T : GroupTable n t e) (on : (ℕ �
   entries = record {
     order = sym (said (λ n t. Value n));
     identity = sym (said (λ n t. identity_answer n t)) ∙ ((identity-exactly n t).value e).1 (e, T, tt, tt, tt, tt, refl);
-    subgroups = λ b. answered (subgroupsAsked n t b) (λ n t. subgroups_answer n t b) (subgroups-exactly n t b);
+    subgroups = λ b. answered (subgroups_asked n t b) (λ n t. subgroups_answer n t b) (subgroups-exactly n t b);
     subgroups-left = λ b. left 8 _ b (λ n t. subgroups_answer n t b) (λ n t. subgroups_bytes n t b) (subgroups-left n t b);
-    classes = λ b. answered (classesAsked n t b) (λ n t. classes_answer n t b) (classes-exactly n t b);
+    classes = λ b. answered (classes_asked n t b) (λ n t. classes_answer n t b) (classes-exactly n t b);
     classes-left = λ b. left 8 _ b (λ n t. classes_answer n t b) (λ n t. classes_bytes n t b) (classes-left n t b);
-    conjugate = λ s g. answered (conjugateAsked n t s g) (λ n t. conjugate_entry n t s g) (conjugate-exactly n t s g);
-    normalizer = λ s. answered (normalizerAsked n t s) (λ n t. normalizer_entry n t s) (normalizer-exactly n t s);
-    permutation = λ s g b. answered (permutationAsked n t s g b) (λ n t. permutation_entry n t s g b) (permutation-exactly n t s g b);
+    conjugate = λ s g. answered (conjugate_asked n t s g) (λ n t. conjugate_entry n t s g) (conjugate-exactly n t s g);
+    normalizer = λ s. answered (normalizer_asked n t s) (λ n t. normalizer_entry n t s) (normalizer-exactly n t s);
+    permutation = λ s g b. answered (permutation_asked n t s g b) (λ n t. permutation_entry n t s g b) (permutation-exactly n t s g b);
     permutation-left = λ s g b. left 1 _ b (λ n t. permutation_entry n t s g b) (λ n t. permutation_list n t s g b) (permutation-left n t s g b);
-    conjugates = λ s b c. answered (conjugatesAsked n t s b c) (λ n t. conjugates_entry n t s b c) (conjugates-exactly n t s b c);
+    conjugates = λ s b c. answered (conjugates_asked n t s b c) (λ n t. conjugates_entry n t s b c) (conjugates-exactly n t s b c);
     conjugates-left = λ s b c. left 8 _ b (λ n t. conjugates_entry n t s b c) (λ n t. conjugates_list n t s b c) (conjugates-left n t s b c);
     conjugators-left = λ s b c. left 1 _ c (λ n t. conjugates_entry n t s b c) (λ n t. conjugators_list n t s b c) (conjugators-left n t s b c);
   }

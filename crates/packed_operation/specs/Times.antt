@@ -21,28 +21,28 @@ use Rattle.packed_operation.specs.declared.Numbered.TheVariants as answer
 -- ---- the nine entries
 module _ (r s : Rotation) (left : Narrow r) (right : Narrow s) where
   -- The entries of a row of digits times the three columns, and their fields.
-  abbrev entryX : ℕ → ℕ → ℕ → ℤ
-  entryX a b c = dot (entry_of a) (entry_of b) (entry_of c) (entry_of s.xx) (entry_of s.yx) (entry_of s.zx)
+  abbrev entry_x : ℕ → ℕ → ℕ → ℤ
+  entry_x a b c = dot (entry_of a) (entry_of b) (entry_of c) (entry_of s.xx) (entry_of s.yx) (entry_of s.zx)
 
-  abbrev entryY : ℕ → ℕ → ℕ → ℤ
-  entryY a b c = dot (entry_of a) (entry_of b) (entry_of c) (entry_of s.xy) (entry_of s.yy) (entry_of s.zy)
+  abbrev entry_y : ℕ → ℕ → ℕ → ℤ
+  entry_y a b c = dot (entry_of a) (entry_of b) (entry_of c) (entry_of s.xy) (entry_of s.yy) (entry_of s.zy)
 
-  abbrev entryZ : ℕ → ℕ → ℕ → ℤ
-  entryZ a b c = dot (entry_of a) (entry_of b) (entry_of c) (entry_of s.xz) (entry_of s.yz) (entry_of s.zz)
+  abbrev entry_z : ℕ → ℕ → ℕ → ℤ
+  entry_z a b c = dot (entry_of a) (entry_of b) (entry_of c) (entry_of s.xz) (entry_of s.yz) (entry_of s.zz)
 
-  abbrev fieldX : ℕ → ℕ → ℕ → ℕ
-  fieldX a b c = field a b c s.xx s.yx s.zx
+  abbrev field_x : ℕ → ℕ → ℕ → ℕ
+  field_x a b c = field a b c s.xx s.yx s.zx
 
-  abbrev fieldY : ℕ → ℕ → ℕ → ℕ
-  fieldY a b c = field a b c s.xy s.yy s.zy
+  abbrev field_y : ℕ → ℕ → ℕ → ℕ
+  field_y a b c = field a b c s.xy s.yy s.zy
 
-  abbrev fieldZ : ℕ → ℕ → ℕ → ℕ
-  fieldZ a b c = field a b c s.xz s.yz s.zz
+  abbrev field_z : ℕ → ℕ → ℕ → ℕ
+  field_z a b c = field a b c s.xz s.yz s.zz
 
   record RowFields (a b c : ℕ) : Type 0 where
-    x : Field (entryX a b c) (fieldX a b c)
-    y : Field (entryY a b c) (fieldY a b c)
-    z : Field (entryZ a b c) (fieldZ a b c)
+    x : Field (entry_x a b c) (field_x a b c)
+    y : Field (entry_y a b c) (field_y a b c)
+    z : Field (entry_z a b c) (field_z a b c)
 
   row-of-fields : (a b c : ℕ) → a ≤ 3 → b ≤ 3 → c ≤ 3 → RowFields a b c
   row-of-fields a b c ha hb hc =
@@ -72,15 +72,15 @@ module _ (r s : Rotation) (left : Narrow r) (right : Narrow s) where
 
   -- The whole number, and the next number in each field.
   abbrev next : ℕ → ℕ → ℕ → ℕ
-  next a b c = row_of (fieldX a b c + 1) (fieldY a b c + 1) (fieldZ a b c + 1)
+  next a b c = row_of (field_x a b c + 1) (field_y a b c + 1) (field_z a b c + 1)
 
   next-fields : raised_rows r s + 4648737378927649 ≡ lanes_of (next r.xx r.xy r.xz) (next r.yx r.yy r.yz) (next r.zx r.zy r.zz)
   next-fields = omega arith
 
   module _ (h : all_inside (times (matrix_of r) (matrix_of s)) ≡ true) where
-    rows_inside : (row_inside (entryX r.xx r.xy r.xz) (entryY r.xx r.xy r.xz) (entryZ r.xx r.xy r.xz) ≡ true)
-        × (row_inside (entryX r.yx r.yy r.yz) (entryY r.yx r.yy r.yz) (entryZ r.yx r.yy r.yz) ≡ true)
-        × (row_inside (entryX r.zx r.zy r.zz) (entryY r.zx r.zy r.zz) (entryZ r.zx r.zy r.zz) ≡ true)
+    rows_inside : (row_inside (entry_x r.xx r.xy r.xz) (entry_y r.xx r.xy r.xz) (entry_z r.xx r.xy r.xz) ≡ true)
+        × (row_inside (entry_x r.yx r.yy r.yz) (entry_y r.yx r.yy r.yz) (entry_z r.yx r.yy r.yz) ≡ true)
+        × (row_inside (entry_x r.zx r.zy r.zz) (entry_y r.zx r.zy r.zz) (entry_z r.zx r.zy r.zz) ≡ true)
     unfolding all_inside times matrix_of
     rows_inside = three-true _ _ _ h
 
@@ -109,12 +109,12 @@ module _ (r s : Rotation) (left : Narrow r) (right : Narrow s) where
         (row-stands _ _ _ _ _ _ lower.x lower.y lower.z hz).1
 
   -- What passes both has its entries in −1..1, and its key has their digits.
-  abbrev rowKey : ℕ → ℕ → ℕ → ℕ
-  rowKey a b c = row_of (digit_of (entryX a b c)) (digit_of (entryY a b c)) (digit_of (entryZ a b c))
+  abbrev row_key : ℕ → ℕ → ℕ → ℕ
+  row_key a b c = row_of (digit_of (entry_x a b c)) (digit_of (entry_y a b c)) (digit_of (entry_z a b c))
 
   module _ (h : eights_of (raised_rows r s) ≡ 37189899031421192) (k : eights_of (raised_rows r s + 4648737378927649) ≡ 37189899031421192) where
     pub passed : (all_inside (times (matrix_of r) (matrix_of s)) ≡ true)
-        × (key_of (raised_rows r s) ≡ lanes_of (rowKey r.xx r.xy r.xz) (rowKey r.yx r.yy r.yz) (rowKey r.zx r.zy r.zz))
+        × (key_of (raised_rows r s) ≡ lanes_of (row_key r.xx r.xy r.xz) (row_key r.yx r.yy r.yz) (row_key r.zx r.zy r.zz))
     unfolding all_inside times matrix_of
     passed =
         let ux = fields-small _ _ _ _ _ _ upper.x upper.y upper.z in

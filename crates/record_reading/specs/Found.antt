@@ -9,7 +9,7 @@ use Rattle.centering.specs.declared.Centering.TheVariants.{P}
 use Rattle.group_record.specs.Items.{items_in}
 use Rattle.group_record.specs.BothEditions.{width_in}
 use Rattle.group_record.specs.Reading.{operation_of_item, slots, accepted_group, refused_group, are_items, is_allowed, group_of}
-use Rattle.group_record.specs.Rules.{refused, holds, length_fits, itemsTold}
+use Rattle.group_record.specs.Rules.{refused, holds, length_fits, items_told}
 use Rattle.group_record.specs.Outcomes.{length-test}
 use Rattle.group_record.specs.declared.items.Item.{Item}
 use Rattle.record_items.specs.Items.{items_of, items-count}
@@ -92,7 +92,7 @@ nothing-found {bytes} {f} {h} {why} e r = rw e (stands-as (nothing-stands bytes 
 -- What is told by what is answered of the items, and by the rule of layers.
 module _ (edition : Known) (s : Sign) (items : List Item) where
   told-refused : (why : Refusal) → rules_answer (lattice_of s) items ≡ Refused why → read_items edition s items ≡ refused_group why
-  unfolding itemsTold rules_answer
+  unfolding items_told rules_answer
   told-refused why e = rw (good-items edition s items) (by (are_items (lattice_of s) items) (is_allowed (lattice_of s) items) e)
     where
       by : (good allowed : Bool) → cond good (cond allowed Accepted (Refused NotAllowed)) (Refused WrongItem) ≡ Refused why
@@ -104,7 +104,7 @@ module _ (edition : Known) (s : Sign) (items : List Item) where
 
   told-layers : rules_answer (lattice_of s) items ≡ Accepted → (b : Bool) → layers_if (is_small s) (map operation_of_item items) ≡ b
       → read_items edition s items ≡ group_of (cond b (holds edition s items) (refused NotAllowed))
-  unfolding itemsTold rules_answer
+  unfolding items_told rules_answer
   told-layers e b h = rw (good-items edition s items, h) (by (are_items (lattice_of s) items) (is_allowed (lattice_of s) items) e)
     where
       by : (good allowed : Bool) → cond good (cond allowed Accepted (Refused NotAllowed)) (Refused WrongItem) ≡ Accepted

@@ -24,22 +24,22 @@ all-operations test [] = refl
 all-operations test (i ∷ items) = rw (all-operations test items) refl
 
 module _ (edition : Known) (n : ℕ) (bytes : List ℕ) where
-  abbrev emptyItem : Item
-  emptyItem = (edition_of edition).read []
+  abbrev empty_item : Item
+  empty_item = (edition_of edition).read []
 
   -- The operations of the first items, and the identity in the slots behind them.
-  unfoldable pub filledTo : ℕ → List Operation
-  filledTo i = map operation_of_item (take i (items_of edition n bytes)) ++ replicate (48 - i) identity_operation
+  unfoldable pub filled_to : ℕ → List Operation
+  filled_to i = map operation_of_item (take i (items_of edition n bytes)) ++ replicate (48 - i) identity_operation
 
-  pub filled_next : (i : ℕ) → i < n → n ≤ 48 → set (filledTo i) i (operation_of_item (item_at edition bytes i)) ≡ filledTo (i + 1)
-  unfolding filledTo item_at
+  pub filled_next : (i : ℕ) → i < n → n ≤ 48 → set (filled_to i) i (operation_of_item (item_at edition bytes i)) ≡ filled_to (i + 1)
+  unfolding filled_to item_at
   filled_next i h few =
       let long : length (map operation_of_item (take i (items_of edition n bytes))) ≡ i =
       length-map (take i (items_of edition n bytes)) operation_of_item ∙ length-take-le i (items_of edition n bytes) (omega (arith, items-count edition n bytes)) in
       let room : 48 - i ≡ suc (48 - (i + 1)) = omega arith in
       let more : take (i + 1) (items_of edition n bytes) ≡ take i (items_of edition n bytes) ++ (item_at edition bytes i ∷ []) =
-      ap (λ (k : ℕ). take k (items_of edition n bytes)) (add-one i) ∙ take-suc (items_of edition n bytes) i emptyItem (omega (arith, items-count edition n bytes))
-      ∙ ap (λ (a : Item). take i (items_of edition n bytes) ++ (a ∷ [])) (item-at (width_in edition) (edition_of edition).read n bytes i emptyItem h) in
+      ap (λ (k : ℕ). take k (items_of edition n bytes)) (add-one i) ∙ take-suc (items_of edition n bytes) i empty_item (omega (arith, items-count edition n bytes))
+      ∙ ap (λ (a : Item). take i (items_of edition n bytes) ++ (a ∷ [])) (item-at (width_in edition) (edition_of edition).read n bytes i empty_item h) in
       ap (λ (k : ℕ). set (map operation_of_item (take i (items_of edition n bytes)) ++ replicate k identity_operation) i (operation_of_item (item_at edition bytes i)))
       room
       ∙ set_at (map operation_of_item (take i (items_of edition n bytes))) identity_operation (replicate (48 - (i + 1)) identity_operation)
@@ -50,13 +50,13 @@ module _ (edition : Known) (n : ℕ) (bytes : List ℕ) where
       ∙ append_assoc (map operation_of_item (take i (items_of edition n bytes)))
       (operation_of_item (item_at edition bytes i) ∷ []) (replicate (48 - (i + 1)) identity_operation))
 
-  pub filled-start : filledTo 0 ≡ replicate 48 identity_operation
-  unfolding filledTo
+  pub filled-start : filled_to 0 ≡ replicate 48 identity_operation
+  unfolding filled_to
   filled-start = refl
 
   -- In the end the slots hold the operations.
-  pub filled-end : (i : ℕ) → n ≤ i → i ≤ n → filledTo i ≡ slots (map operation_of_item (items_of edition n bytes))
-  unfolding filledTo slots
+  pub filled-end : (i : ℕ) → n ≤ i → i ≤ n → filled_to i ≡ slots (map operation_of_item (items_of edition n bytes))
+  unfolding filled_to slots
   filled-end i h k =
       let end : i ≡ n = omega arith in
       let all-taken : take i (items_of edition n bytes) ≡ items_of edition n bytes =
@@ -65,8 +65,8 @@ module _ (edition : Known) (n : ℕ) (bytes : List ℕ) where
       end ∙ sym (items-count edition n bytes) ∙ sym (length-map (items_of edition n bytes) operation_of_item) in
       ap₂ (λ (l : List Item) (j : ℕ). map operation_of_item l ++ replicate (48 - j) identity_operation) all-taken count
 
-  pub filled-length : (i : ℕ) → i ≤ n → n ≤ 48 → length (filledTo i) ≡ 48
-  unfolding filledTo
+  pub filled-length : (i : ℕ) → i ≤ n → n ≤ 48 → length (filled_to i) ≡ 48
+  unfolding filled_to
   filled-length i h few =
       let long : length (map operation_of_item (take i (items_of edition n bytes))) ≡ i =
       length-map (take i (items_of edition n bytes)) operation_of_item ∙ length-take-le i (items_of edition n bytes) (omega (arith, items-count edition n bytes)) in

@@ -15,7 +15,7 @@ use Rattle.centering.specs.Lattices.{triple_of}
 use Rattle.group_record.specs.Items.{Bytes, items_in, bytes_of, items-length, item-at}
 use Rattle.group_record.specs.FirstEdition.{item_in}
 use Rattle.group_record.specs.declared.items.Item.{Item}
-use Rattle.record_report.specs.Report.{Entry, absent, entry_bytes, ofPair, against, differences}
+use Rattle.record_report.specs.Report.{Entry, absent, entry_bytes, of_pair, against, differences}
 
 -- ---- items in bytes
 -- The first n items, five bytes each, and the item at a place.
@@ -157,7 +157,7 @@ module _ (a b : Item) (f s : List Item) where
 
   by_tests : (t u v : Bool) → ltb a.code b.code ≡ t → ltb b.code a.code ≡ u → same_translation a.translation b.translation ≡ v
       → same_bytes (a ∷ f) (b ∷ s) ≡ bytes_at both-kind a b ++ same_bytes (cond (eqb both-kind 2) (a ∷ f) f) (cond (eqb both-kind 1) (b ∷ s) s)
-  unfolding same_bytes bytes_of differences against ofPair kind_of bytes_at
+  unfolding same_bytes bytes_of differences against of_pair kind_of bytes_at
   by_tests true u v p q r = rw p
   by_tests false true v p q r = rw (p, q)
   by_tests false false true p q r = rw (p, q, r)

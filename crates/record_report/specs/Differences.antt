@@ -22,7 +22,7 @@ use Rattle.std.proofs.Math.ListN.{length, length-append, length-map}
 use Rattle.laws.specs.Sorted.{Sorted, sorted-cons, head_first, tail-sorted, sorted-map, key-strict, unique}
 use Rattle.operation.specs.declared.Translation.{Translation}
 use Rattle.group_record.specs.declared.items.Item.{Item}
-use Rattle.record_report.specs.Report.{Entry, first_only, second_only, in_both, ofPair, against, differences}
+use Rattle.record_report.specs.Report.{Entry, first_only, second_only, in_both, of_pair, against, differences}
 
 -- Items and entries ascend by code.
 abbrev pub Lower : Item → Item → Type 0
@@ -93,7 +93,7 @@ module _ (same : Translation → Translation → Bool) where
   module _ (i : Item) (f : List Item) (F : Ascending (i ∷ f))
       (rest : (s : List Item) → Ascending s → (e : Entry) → Mem e (differences same f s) → Found f s e) where
     against-found : (s : List Item) → Ascending s → (e : Entry) → Mem e (against same i (differences same f) s) → Found (i ∷ f) s e
-    unfolding against ofPair
+    unfolding against of_pair
     against-found [] S e m = elim (cases m) [
       | inl q ↦ subst (Found (i ∷ f) []) (sym q) (first-only i (here refl) (λ j n. absurd (not-nil n)))
       | inr n ↦ widened (λ k o. there o) (λ k o. o) (λ k l o n q. n) (λ k l o n q. absurd (not-nil n)) (rest [] S e n)
@@ -103,7 +103,7 @@ module _ (same : Translation → Translation → Bool) where
         by : ((d : Entry) → Mem d (against same i (differences same f) s) → Found (i ∷ f) s d) → (t u : Bool) → ltb i.code j.code ≡ t
             → ltb j.code i.code ≡ u
             → Mem e (cond t (first_only i ∷ differences same f (j ∷ s))
-            (cond u (second_only j ∷ against same i (differences same f) s) (ofPair same i j ++ differences same f s)))
+            (cond u (second_only j ∷ against same i (differences same f) s) (of_pair same i j ++ differences same f s)))
             → Found (i ∷ f) (j ∷ s) e
         by below true u p q m =
             let lower = ltb-true i.code j.code p in
@@ -121,7 +121,7 @@ module _ (same : Translation → Translation → Bool) where
             let low = ltb-false i.code j.code p in
             let high = ltb-false j.code i.code q in
             let one : i.code ≡ j.code = omega arith in
-            elim (append_cases (ofPair same i j) m) [
+            elim (append_cases (of_pair same i j) m) [
               | inl n ↦
                   let (r, d) = listed-pair i j e (same i.translation j.translation) refl n in
                   subst (Found (i ∷ f) (j ∷ s)) (sym r) (in_both i j (here refl) (here refl) one d)
@@ -141,7 +141,7 @@ module _ (same : Translation → Translation → Bool) where
   module _ (i : Item) (f : List Item) (F : Ascending (i ∷ f))
       (rest : (s : List Item) → Ascending s → (e : Entry) → Found f s e → Mem e (differences same f s)) where
     found-against : (s : List Item) → Ascending s → (e : Entry) → Found (i ∷ f) s e → Mem e (against same i (differences same f) s)
-    unfolding against ofPair
+    unfolding against of_pair
     found-against [] S e (first-only k m apart) = elim (cases m) [ inl q ↦ here (ap first_only q) | inr n ↦ there (rest [] S _ (first-only k n apart)) ]
     found-against [] S e (second-only l n apart) = absurd (not-nil n)
     found-against [] S e (in_both k l m n q d) = absurd (not-nil n)
@@ -151,7 +151,7 @@ module _ (same : Translation → Translation → Bool) where
         by : ((d : Entry) → Found (i ∷ f) s d → Mem d (against same i (differences same f) s)) → (t u : Bool) → ltb i.code j.code ≡ t
             → ltb j.code i.code ≡ u → (e : Entry) → Found (i ∷ f) (j ∷ s) e
             → Mem e (cond t (first_only i ∷ differences same f (j ∷ s))
-            (cond u (second_only j ∷ against same i (differences same f) s) (ofPair same i j ++ differences same f s)))
+            (cond u (second_only j ∷ against same i (differences same f) s) (of_pair same i j ++ differences same f s)))
         by below true u p q e (first-only k m apart) = elim (cases m)
             [ inl r ↦ here (ap first_only r) | inr n ↦ there (rest (j ∷ s) S _ (first-only k n apart)) ]
         by below true u p q e (second-only l n apart) = there (rest (j ∷ s) S _ (second-only l n (λ k m. apart k (there m))))
@@ -179,7 +179,7 @@ module _ (same : Translation → Translation → Bool) where
               let high = ltb-false j.code i.code q in
               let one : k.code ≡ i.code = ap (λ (x : Item). x.code) z in
               absurd (apart j (here refl) (omega arith))
-          | inr o ↦ mem-right (ofPair same i j) (rest s (tail-sorted Lower S) _ (first-only k o (λ l n. apart l (there n))))
+          | inr o ↦ mem-right (of_pair same i j) (rest s (tail-sorted Lower S) _ (first-only k o (λ l n. apart l (there n))))
         ]
         by below false false p q e (second-only l n apart) = elim (cases n) [
           | inl z ↦
@@ -187,14 +187,14 @@ module _ (same : Translation → Translation → Bool) where
               let high = ltb-false j.code i.code q in
               let one : l.code ≡ j.code = ap (λ (x : Item). x.code) z in
               absurd (apart i (here refl) (omega arith))
-          | inr o ↦ mem-right (ofPair same i j) (rest s (tail-sorted Lower S) _ (second-only l o (λ k m. apart k (there m))))
+          | inr o ↦ mem-right (of_pair same i j) (rest s (tail-sorted Lower S) _ (second-only l o (λ k m. apart k (there m))))
         ]
         by below false false p q e (in_both k l m n r d) =
             let low = ltb-false i.code j.code p in
             let high = ltb-false j.code i.code q in
             elim (cases m) [
               | inl z ↦ elim (cases n) [
-                | inl w ↦ mem-left {s = ofPair same i j} (differences same f s)
+                | inl w ↦ mem-left {s = of_pair same i j} (differences same f s)
                     (rw (z, w) (pair-listed i j (same i.translation j.translation) (rw (z, w) at d)))
                 | inr o ↦
                     let higher = head_first Lower S l o in
@@ -206,7 +206,7 @@ module _ (same : Translation → Translation → Bool) where
                     let higher = head_first Lower F k v in
                     let one : l.code ≡ j.code = ap (λ (x : Item). x.code) w in
                     absurd (omega arith)
-                | inr o ↦ mem-right (ofPair same i j) (rest s (tail-sorted Lower S) _ (in_both k l v o r d))
+                | inr o ↦ mem-right (of_pair same i j) (rest s (tail-sorted Lower S) _ (in_both k l v o r d))
               ]
             ]
 
@@ -227,7 +227,7 @@ module _ (same : Translation → Translation → Bool) where
 
   module _ (i : Item) (f : List Item) (F : Ascending (i ∷ f)) (rest : (s : List Item) → Ascending s → Sorted EntryLower (differences same f s)) where
     against-ascends : (s : List Item) → Ascending s → Sorted EntryLower (against same i (differences same f) s)
-    unfolding against ofPair
+    unfolding against of_pair
     against-ascends [] S =
         sorted-cons (λ e m. above i.code (head_first Lower F) (λ j n. absurd (not-nil n)) (listed_found f [] (tail-sorted Lower F) S e m)) (rest [] S)
     against-ascends (j ∷ s) S = by (against-ascends s (tail-sorted Lower S)) (ltb i.code j.code) (ltb j.code i.code) refl refl
@@ -241,7 +241,7 @@ module _ (same : Translation → Translation → Bool) where
 
         by : Sorted EntryLower (against same i (differences same f) s) → (t u : Bool) → ltb i.code j.code ≡ t → ltb j.code i.code ≡ u
             → Sorted EntryLower (cond t (first_only i ∷ differences same f (j ∷ s))
-            (cond u (second_only j ∷ against same i (differences same f) s) (ofPair same i j ++ differences same f s)))
+            (cond u (second_only j ∷ against same i (differences same f) s) (of_pair same i j ++ differences same f s)))
         by below true u p q =
             let lower = ltb-true i.code j.code p in
             sorted-cons (λ e m. above i.code (head_first Lower F) (λ l n. let h = at_least S n in omega arith)
@@ -268,8 +268,8 @@ module _ (same : Translation → Translation → Bool) where
       (λ e m. (exact e).1 (listed_found f s F S e m))
 
   -- ---- how many there are
-  pair-most : (i j : Item) → length (ofPair same i j) ≤ 1
-  unfolding ofPair
+  pair-most : (i j : Item) → length (of_pair same i j) ≤ 1
+  unfolding of_pair
   pair-most i j = by (same i.translation j.translation)
     where
       by : (b : Bool) → length (cond b [] (in_both i j ∷ [])) ≤ 1
@@ -284,10 +284,10 @@ module _ (same : Translation → Translation → Bool) where
     where
       by : (t u : Bool) → length (against same i (differences same f) s) ≤ 1 + length f + length s
           → length (cond t (first_only i ∷ differences same f (j ∷ s))
-          (cond u (second_only j ∷ against same i (differences same f) s) (ofPair same i j ++ differences same f s))) ≤ 1 + length f + length (j ∷ s)
+          (cond u (second_only j ∷ against same i (differences same f) s) (of_pair same i j ++ differences same f s))) ≤ 1 + length f + length (j ∷ s)
       by true u h = omega (arith, rest (j ∷ s))
       by false true h = omega arith
-      by false false h = omega (arith, length-append (ofPair same i j) (differences same f s), pair-most i j, rest s)
+      by false false h = omega (arith, length-append (of_pair same i j) (differences same f s), pair-most i j, rest s)
 
   pub differences-most : (f s : List Item) → length (differences same f s) ≤ length f + length s
   unfolding differences

@@ -11,7 +11,7 @@ use Rattle.centering.specs.declared.Centering.TheVariants.{P, I}
 use Rattle.group_record.specs.Items.{bytes_of}
 use Rattle.group_record.specs.declared.items.Item.{Item}
 use Rattle.record_report.specs.Sheets.{Sheet}
-use Rattle.record_report.specs.Report.{entry_bytes, ofPair, against, differences, entries_of, report_of}
+use Rattle.record_report.specs.Report.{entry_bytes, of_pair, against, differences, entries_of, report_of}
 
 -- An item with a translation along z.
 abbrev item : ℕ → ℕ → Item
@@ -22,12 +22,12 @@ sheet letter c items = record { letter = letter; lattice = c; items = items }
 
 -- The inversion is only in the first.
 pub inversion-lost : report_of (sheet 80 P (item 3198 0 ∷ item 16484 0 ∷ [])) (sheet 80 P (item 16484 0 ∷ [])) ≡ 1 ∷ 12 ∷ 126 ∷ 0 ∷ 0 ∷ 0 ∷ 0 ∷ 0 ∷ 0 ∷ []
-unfolding report_of entries_of differences against ofPair entry_bytes bytes_of congruent_of has same_triple vector_of plus opposite residue
+unfolding report_of entries_of differences against of_pair entry_bytes bytes_of congruent_of has same_triple vector_of plus opposite residue
 inversion-lost = refl
 
 -- The rotation about z is a screw in the second.
 pub screw : report_of (sheet 80 P (item 3200 0 ∷ item 16484 0 ∷ [])) (sheet 80 P (item 3200 6 ∷ item 16484 0 ∷ [])) ≡ 3 ∷ 12 ∷ 128 ∷ 0 ∷ 0 ∷ 0 ∷ 0 ∷ 0 ∷ 6 ∷ []
-unfolding report_of entries_of differences against ofPair entry_bytes bytes_of congruent_of has same_triple vector_of plus opposite residue
+unfolding report_of entries_of differences against of_pair entry_bytes bytes_of congruent_of has same_triple vector_of plus opposite residue
 screw = refl
 
 -- Other letters, and nothing else.

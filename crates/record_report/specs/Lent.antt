@@ -35,7 +35,7 @@ use Rattle.group_record.specs.declared.Reading.TheVariants.{Accepted, Refused}
 use Rattle.group_record.specs.declared.Refusal.{Refusal}
 use Rattle.group_record.specs.declared.sign.Sign.{Sign}
 use Rattle.record_report.specs.Sheets.{reading_of, operations_in, sheet_of}
-use Rattle.record_report.specs.Report.{Entry, entry_bytes, ofPair, against, differences, letters_report, entries_of, report_of}
+use Rattle.record_report.specs.Report.{Entry, entry_bytes, of_pair, against, differences, letters_report, entries_of, report_of}
 use Rattle.record_report.specs.Compared.{fitted_answer, fitted, compared_of, buffer_of}
 use Rattle.record_report.specs.Cursors.{items_of, same_translation, same_bytes}
 use Rattle.record_report.specs.Taking.{record_bytes}
@@ -148,25 +148,25 @@ module _ (bytes : List ℕ) (R : Read bytes) where
       ∙ framed-items first_edition letter_byte (sheet_of bytes).items (λ i m. tt)
 
   -- The byte that counts them, where the code finds it; and the part of the bytes that the code lends from where the record begins.
-  abbrev countByte : ℕ
-  countByte = get_or bytes (length bytes - 3) 0
+  abbrev count_byte : ℕ
+  count_byte = get_or bytes (length bytes - 3) 0
 
-  abbrev lentPart : List ℕ
-  lentPart = take (length bytes - (length bytes - (5 * countByte + 5))) (drop (length bytes - (5 * countByte + 5)) bytes)
+  abbrev lent_part : List ℕ
+  lent_part = take (length bytes - (length bytes - (5 * count_byte + 5))) (drop (length bytes - (5 * count_byte + 5)) bytes)
 
-  pub count-byte : countByte ≡ length (sheet_of bytes).items
+  pub count-byte : count_byte ≡ length (sheet_of bytes).items
   unfolding from_end
   count-byte = read_count
 
-  part : lentPart ≡ drop (length bytes - (5 * countByte + 5)) bytes
-  part = tail-part bytes (length bytes - (5 * countByte + 5))
+  part : lent_part ≡ drop (length bytes - (5 * count_byte + 5)) bytes
+  part = tail-part bytes (length bytes - (5 * count_byte + 5))
 
-  pub lent_bounds : (countByte ≤ 48) × (5 * countByte + 5 ≤ length lentPart)
+  pub lent_bounds : (count_byte ≤ 48) × (5 * count_byte + 5 ≤ length lent_part)
   lent_bounds = (omega (arith, count-byte, read-few), rw (part, length-drop) (omega (arith, count-byte, read-within)))
 
-  pub lent-items : items_of countByte lentPart ≡ (sheet_of bytes).items
+  pub lent-items : items_of count_byte lent_part ≡ (sheet_of bytes).items
   lent-items =
-      ap (items_of countByte) part ∙ ap (λ (n : ℕ). items_of n (drop (length bytes - (5 * n + 5)) bytes)) count-byte ∙ read-items
+      ap (items_of count_byte) part ∙ ap (λ (n : ℕ). items_of n (drop (length bytes - (5 * n + 5)) bytes)) count-byte ∙ read-items
 
   -- The record's own bytes are the items and the trailer.
   pub record-bytes : record_bytes bytes ≡ framed first_edition (sheet_of bytes).letter (sheet_of bytes).items
@@ -197,7 +197,7 @@ module _ (p q : Translation → Translation → Bool) where
   against-same : (i : Item) (r t : List Item → List Entry) (s : List Item) → ((u : List Item) → ((j : Item) → Mem j u → Mem j s) → r u ≡ t u)
       → ((j : Item) → Mem j s → p i.translation j.translation ≡ q i.translation j.translation)
       → against p i r s ≡ against q i t s
-  unfolding against ofPair
+  unfolding against of_pair
   against-same i r t [] h e = rw (h [] (λ j m. m))
   against-same i r t (j ∷ s) h e =
       rw (h (j ∷ s) (λ k m. m), h s (λ k m. there m), e j (here refl), against-same i r t s (λ u into. h u (λ k m. there (into k m))) (λ k m. e k (there m)))
@@ -268,7 +268,7 @@ module _ (first second : List ℕ) (R : Read first) (S : Read second) where
         (ap (bytes_of entry_bytes) (differences-same (congruent_of (sheet_of first).lattice) same_translation (sheet_of first).items (sheet_of second).items
         same_tests))
 
-    pub lent-report : report ≡ same_bytes (items_of (countByte first R) (lentPart first R)) (items_of (countByte second S) (lentPart second S))
+    pub lent-report : report ≡ same_bytes (items_of (count_byte first R) (lent_part first R)) (items_of (count_byte second S) (lent_part second S))
     lent-report = letters-same ∙ ap₂ same_bytes (sym (lent-items first R)) (sym (lent-items second S))
 
 -- ---- what is answered

@@ -36,15 +36,15 @@ entry_bytes e =
 -- ---- the differences of two lists that ascend by code, for any test whether two translations are the same
 module _ (same : Translation → Translation → Bool) where
   -- Of two items with one rotation.
-  unfoldable pub ofPair : Item → Item → List Entry
-  ofPair i j = cond (same i.translation j.translation) [] (in_both i j ∷ [])
+  unfoldable pub of_pair : Item → Item → List Entry
+  of_pair i j = cond (same i.translation j.translation) [] (in_both i j ∷ [])
 
   -- Of an item of the first and those that follow it, whose differences from any list are given, against the second's.
   unfoldable pub against : Item → (List Item → List Entry) → List Item → List Entry
   against i rest [] = first_only i ∷ rest []
   against i rest (j ∷ s) =
       cond (ltb i.code j.code) (first_only i ∷ rest (j ∷ s))
-      (cond (ltb j.code i.code) (second_only j ∷ against i rest s) (ofPair i j ++ rest s))
+      (cond (ltb j.code i.code) (second_only j ∷ against i rest s) (of_pair i j ++ rest s))
 
   unfoldable pub differences : List Item → List Item → List Entry
   differences [] s = map second_only s

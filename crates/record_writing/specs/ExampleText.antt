@@ -12,7 +12,7 @@ use Rattle.laws.specs.LatticeMaps.{keeps_points}
 use Rattle.laws.specs.Closure.{fresh, run, closure}
 use Rattle.laws.specs.SameMatrix.{same_matrix}
 use Rattle.laws.specs.Growth.{place}
-use Rattle.laws.specs.GrowthClosure.{agrees, stepsFrom, steadyFrom}
+use Rattle.laws.specs.GrowthClosure.{agrees, steps_from, steady_from}
 use Rattle.laws.specs.Truth.{all}
 use Rattle.operation.specs.Meaning.{entry_of, matrix_of, vector_of, motion_of, digit_above, digit_of, inside, row_inside, all_inside}
 use Rattle.operation.specs.Product.{operation_of}
@@ -46,7 +46,7 @@ use Rattle.record_writing.specs.SymbolRecords.{text_record}
 pub text-example : text_record (45 ∷ 80 ∷ 32 ∷ 49 ∷ []) ≡ 12 ∷ 126 ∷ 0 ∷ 0 ∷ 0 ∷ 64 ∷ 100 ∷ 0 ∷ 0 ∷ 0 ∷ 80 ∷ 1 ∷ 2 ∷ 0 ∷ 15 ∷ []
 unfolding text_record record_of record_in written_in listed_form smallest_operation smallest_of smallest least_rank rank unrank ◌⊕◌ sort insert bytes_of item_bytes
     symbol_answer outcome_of first_off listing is_small same_vector_class on_list keeps_of letter_among letter_of handedness_by handedness_of operation_of entry_of
-    matrix_of vector_of motion_of digit_above digit_of inside row_inside all_inside code_of agrees stepsFrom steadyFrom place same_matrix fresh run
+    matrix_of vector_of motion_of digit_above digit_of inside row_inside all_inside code_of agrees steps_from steady_from place same_matrix fresh run
     closure keeps_points all same_triple has residue turned product times act plus opposite unit origin determinant nought ◌⊖◌ one whitespace solid allowed
     unclosed opening runs.run tokens_from letter_token lattice_token shifts.one_digit shifts.two_digits shifts.digits_of shifts.shift_number shifts.numbers_of
     shifts.closed_shift shifted_coordinate shifted at_shift at_end operations read_symbol token-reader.read_run token-reader.letter_then token-reader.read_letter

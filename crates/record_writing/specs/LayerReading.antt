@@ -31,7 +31,7 @@ use Rattle.group_record.specs.FirstEdition.{item_width, item-wide, first_edition
 use Rattle.group_record.specs.Record.{item_of, listed_form, written_in, record_in, signed_record}
 use Rattle.group_record.specs.Reading.{rules_of, old_reading, read_of, accepted_group, slots}
 use Rattle.group_record.specs.Outcomes.{wrong-letter, outcome-told}
-use Rattle.group_record.specs.Acceptance.{meaningOf}
+use Rattle.group_record.specs.Acceptance.{meaning_of}
 use Rattle.group_record.specs.RefusalNumbers.{told_answer}
 use Rattle.group_record.specs.Signs.{is_small, lattice_of, AllOfLayer}
 use Rattle.group_record.specs.Groups.{InSet, Allowed, Listing}
@@ -147,7 +147,7 @@ pub old-letter : (front : List ℕ) (c : Centering) (l : List Operation) → 1 �
     → told_by (rules_of old_reading) (front ++ small_record c l) ≡ not-held WrongLetter
 unfolding small_record record_in written_in
 old-letter front c l some =
-    outcome-told (rules_of old_reading) (meaningOf old_reading) _ _
+    outcome-told (rules_of old_reading) (meaning_of old_reading) _ _
     (wrong-letter tt (front ++ body) (small_of c) (length (listed_form c l)) _ _ enough (sym (append_assoc front body _))
     (λ d e. absurd (omega (arith, capital-byte c, capital-byte d, e))))
   where

@@ -15,11 +15,11 @@ use Rattle.laws.specs.Matrix.{times}
 use Rattle.laws.specs.Motion.{SpaceMotion, product, compose, identity}
 use Rattle.laws.specs.Closure.{Congruence}
 use Rattle.laws.specs.SameMatrix.{same_rotation, same-rotation, rotation-same}
-use Rattle.laws.specs.Growth.{Growth, turns, grow, grown, takenUp, image_growth}
+use Rattle.laws.specs.Growth.{Growth, turns, grow, grown, taken_up, image_growth}
 use Rattle.group_growth.specs.Verdicts.{listed, torn, image_verdict, on_growth}
 use Rattle.group_growth.specs.Growing.{verdict}
 use Rattle.group_growth.specs.Forms.{growth-verdict}
-use Rattle.group_growth.specs.Flagged.{xor, Flagged, flagged_by, held, image_flagged, sameFlagged, timesFlagged, key-flag, key-element, flagged-key}
+use Rattle.group_growth.specs.Flagged.{xor, Flagged, flagged_by, held, image_flagged, same_flagged, times_flagged, key-flag, key-element, flagged-key}
 use Rattle.group_growth.specs.FlaggedGrowth.{with_flag, forms_with_flag, flagged_times}
 use Rattle.operation.specs.Meaning.{Digits, motion_of}
 use Rattle.operation.specs.Product.{identity_operation, operation_of}
@@ -29,7 +29,7 @@ use Rattle.packed_operation.specs.RoundTrip.{number-says, flag-said}
 use Rattle.centering.specs.declared.Centering.{Centering}
 use Rattle.space_group.specs.Traversal.{same_turn, product_inside}
 use Rattle.space_group.specs.OperationGrowth.{motion_growth, operation_forms, identity-operation}
-use Rattle.space_group.specs.NumberGrowth.{AllDigits, reduced_operation, generator_number, narrowed-narrow, narrowed-short, generator-says, reduced-times, flagged_said, same_flagged_class, timesSaid, unit-said, number_growth, flagged-growth}
+use Rattle.space_group.specs.NumberGrowth.{AllDigits, reduced_operation, generator_number, narrowed-narrow, narrowed-short, generator-says, reduced-times, flagged_said, same_flagged_class, times_said, unit-said, number_growth, flagged-growth}
 use Rattle.space_group.specs.FlaggedGenerators.{bit_of, flagged_number}
 use Rattle.space_group.specs.FlaggedOutcomes.{plain_of}
 
@@ -42,7 +42,7 @@ module _ {A G : Type 0} (same alike : A → A → Bool) (◌·◌ ◌∘◌ : A 
   unfolding turns
   turns-equal x [] h s = refl
   turns-equal x (g ∷ gens) h s =
-      λ i. bind (h g (here refl) x i) (λ p. bind (takenUp same alike limit p s) (λ t. turns-equal x gens (λ k m. h k (there m)) t i))
+      λ i. bind (h g (here refl) x i) (λ p. bind (taken_up same alike limit p s) (λ t. turns-equal x gens (λ k m. h k (there m)) t i))
 
   module _ (gens : List G) (h : (g : G) → Mem g gens → (y : A) → y · g ≡ y ∘ g) where
     grow-equal : (n i : ℕ) (s : Growth A) → grow same alike ◌·◌ limit unit gens n i s ≡ grow same alike ◌∘◌ limit unit gens n i s
@@ -80,7 +80,7 @@ says-element g d =
     ∙ generator-says g.element d
 
 -- A product by what it says is the product by the generator.
-times-said : (a g : Flagged Operation) → Digits g.element.rotation → flagged_times product_inside a g ≡ timesSaid flagged_number a g
+times-said : (a g : Flagged Operation) → Digits g.element.rotation → flagged_times product_inside a g ≡ times_said flagged_number a g
 times-said a g d =
     let f = a.element in
     let equal = reduced-times f g.element ∙ ap (product_inside f) (sym (says-element g d)) in
@@ -96,23 +96,23 @@ growth-image f (some s) = by-test s.steady
     by-test false = refl
 
 -- Steps keep rotation and flag.
-flagged-congruence : (gens : List (Flagged SpaceMotion)) → Congruence (sameFlagged same_rotation) (timesFlagged compose) (held identity) gens
+flagged-congruence : (gens : List (Flagged SpaceMotion)) → Congruence (same_flagged same_rotation) (times_flagged compose) (held identity) gens
 unfolding product
 flagged-congruence gens f g h _ _ _ t =
     let turn = ap (λ A. times A h.element.rotation) (same-rotation f.element g.element (key-element same_rotation f g t)) in
-    flagged-key same_rotation (timesFlagged compose f h) (timesFlagged compose g h) (ap (λ b. xor b h.flag) (key-flag same_rotation f g t))
+    flagged-key same_rotation (times_flagged compose f h) (times_flagged compose g h) (ap (λ b. xor b h.flag) (key-flag same_rotation f g t))
     (rotation-same (compose f.element h.element) (compose g.element h.element) turn)
 
 module _ (c : Centering) (gens : List (Flagged Operation)) (digits : AllDigits (plain_of gens)) where
-  abbrev flaggedGrown : Flagged Operation → Option (Growth (Flagged Operation))
-  flaggedGrown unit = grown (sameFlagged same_turn) (same_flagged_class c) (flagged_times product_inside) 96 unit gens
+  abbrev flagged_grown : Flagged Operation → Option (Growth (Flagged Operation))
+  flagged_grown unit = grown (same_flagged same_turn) (same_flagged_class c) (flagged_times product_inside) 96 unit gens
 
   -- The numbers say the growth of the operations with flags,
-  growth-said : flaggedGrown (held identity_operation) ≡ Option.map (image_growth flagged_said) (number_growth c 96 (map flagged_number gens))
+  growth-said : flagged_grown (held identity_operation) ≡ Option.map (image_growth flagged_said) (number_growth c 96 (map flagged_number gens))
   growth-said =
-      grown-equal (sameFlagged same_turn) (same_flagged_class c) (flagged_times product_inside) (timesSaid flagged_number) 96 (held identity_operation) gens
+      grown-equal (same_flagged same_turn) (same_flagged_class c) (flagged_times product_inside) (times_said flagged_number) 96 (held identity_operation) gens
       (λ g m a. times-said a g (digits g.element (mem-map (λ (g : Flagged Operation). g.element) m)))
-      ∙ ap (λ u. grown (sameFlagged same_turn) (same_flagged_class c) (timesSaid flagged_number) 96 u gens) (sym unit-said) ∙ flagged-growth flagged_number c 96 gens
+      ∙ ap (λ u. grown (same_flagged same_turn) (same_flagged_class c) (times_said flagged_number) 96 u gens) (sym unit-said) ∙ flagged-growth flagged_number c 96 gens
 
   -- and so what is answered of motions with flags.
   pub numbers-verdict : image_verdict flagged_said (on_growth (number_growth c 96 (map flagged_number gens)))
@@ -120,5 +120,5 @@ module _ (c : Centering) (gens : List (Flagged Operation)) (digits : AllDigits (
   numbers-verdict =
       let forms = forms_with_flag (motion_growth c) (operation_forms c) in
       let unit = ap held (identity-operation c) in
-      sym (growth-image flagged_said (number_growth c 96 (map flagged_number gens))) ∙ ap on_growth (sym growth-said ∙ ap flaggedGrown (sym unit))
+      sym (growth-image flagged_said (number_growth c 96 (map flagged_number gens))) ∙ ap on_growth (sym growth-said ∙ ap flagged_grown (sym unit))
       ∙ sym (growth-verdict (with_flag (motion_growth c)) forms 96 (omega arith) gens (flagged-congruence (map (image_flagged motion_of) gens)))

@@ -82,18 +82,18 @@ laid-group c n o s e ended before numbers noughts steps h slots clear =
 
 -- ---- what the growth of the numbers comes to
 module _ (c : Centering) (gens : List Operation) (h : length gens ≤ first_off c gens) where
-  abbrev pub numbersGrown : Option (Growth ℕ)
-  numbersGrown = number_growth c 48 (map generator_number gens)
+  abbrev pub numbers_grown : Option (Growth ℕ)
+  numbers_grown = number_growth c 48 (map generator_number gens)
 
-  by-numbers : (o : Option (Growth ℕ)) → numbersGrown ≡ o → outcome_of c gens ≡ of_verdict (on_growth (Option.map (image_growth said_by) o))
+  by-numbers : (o : Option (Growth ℕ)) → numbers_grown ≡ o → outcome_of c gens ≡ of_verdict (on_growth (Option.map (image_growth said_by) o))
   by-numbers o e =
       outcome-growth c gens h ∙ ap (λ p. of_verdict (on_growth p)) (growth-numbers c gens (none-off-digits c gens h) ∙ ap (Option.map (image_growth said_by)) e)
 
-  pub numbers-unbounded : numbersGrown ≡ none → outcome_of c gens ≡ refused Rotations
+  pub numbers-unbounded : numbers_grown ≡ none → outcome_of c gens ≡ refused Rotations
   numbers-unbounded e = by-numbers none e
 
-  pub numbers-torn : (s : Growth ℕ) → numbersGrown ≡ some s → s.steady ≡ false → outcome_of c gens ≡ refused Translations
+  pub numbers-torn : (s : Growth ℕ) → numbers_grown ≡ some s → s.steady ≡ false → outcome_of c gens ≡ refused Translations
   numbers-torn s e t = by-numbers (some s) e ∙ rw t
 
-  pub numbers-group : (s : Growth ℕ) → numbersGrown ≡ some s → s.steady ≡ true → outcome_of c gens ≡ group (map said_by s.found) s.steps
+  pub numbers-group : (s : Growth ℕ) → numbers_grown ≡ some s → s.steady ≡ true → outcome_of c gens ≡ group (map said_by s.found) s.steps
   numbers-group s e t = by-numbers (some s) e ∙ rw t

@@ -15,9 +15,9 @@ use Rattle.std.proofs.Math.Dec.{T, eqb_refl}
 use Rattle.laws.specs.Matrix.{act, times}
 use Rattle.laws.specs.Motion.{SpaceMotion, compose, product}
 use Rattle.laws.specs.Residue.{residue, reduced, reduced-plus, reduced-act, residue-pos, triple≡, turned, ◌⊕◌}
-use Rattle.laws.specs.Growth.{Growth, turns, grow, grown, takenUp, image_growth, Image, grown-image}
+use Rattle.laws.specs.Growth.{Growth, turns, grow, grown, taken_up, image_growth, Image, grown-image}
 use Rattle.laws.specs.Truth.{same_test}
-use Rattle.group_growth.specs.Flagged.{xor, Flagged, flagged≡, flagged_by, held, sameFlagged, key-flag, key-element, flagged-key}
+use Rattle.group_growth.specs.Flagged.{xor, Flagged, flagged≡, flagged_by, held, same_flagged, key-flag, key-element, flagged-key}
 use Rattle.group_growth.specs.FlaggedGrowth.{flagged_times}
 use Rattle.operation.specs.Meaning.{vector_of, matrix_of, motion_of, Digits, all_inside, rotation≡}
 use Rattle.operation.specs.Code.{code_of, code-injective}
@@ -104,15 +104,15 @@ unfolding sign_of
 equal-signs x y p q = λ i. p i + q i * 9223372036854775808
 
 -- Signs tell numbers apart as rotations and flags do.
-sign-image : (x y : ℕ) → Turns x → Turns y → same_sign x y ≡ sameFlagged same_turn (flagged_said x) (flagged_said y)
-sign-image x y h k = same_test (same_sign x y) (sameFlagged same_turn (flagged_said x) (flagged_said y)) forth back
+sign-image : (x y : ℕ) → Turns x → Turns y → same_sign x y ≡ same_flagged same_turn (flagged_said x) (flagged_said y)
+sign-image x y h k = same_test (same_sign x y) (same_flagged same_turn (flagged_said x) (flagged_said y)) forth back
   where
-    forth : T (same_sign x y) → T (sameFlagged same_turn (flagged_said x) (flagged_said y))
+    forth : T (same_sign x y) → T (same_flagged same_turn (flagged_said x) (flagged_said y))
     forth t =
         let (key, flag) = sign-parts (key_of x) (key_of y) (flag_of x) (flag_of y) (key-small x) (key-small y) (signs-equal x y t) in
         flagged-key same_turn (flagged_said x) (flagged_said y) (ap (λ n. eqb n 1) flag) (rw ((key-exactly x y).0 key) (eqb_refl (code_of (rotation_said y))))
 
-    back : T (sameFlagged same_turn (flagged_said x) (flagged_said y)) → T (same_sign x y)
+    back : T (same_flagged same_turn (flagged_said x) (flagged_said y)) → T (same_sign x y)
     back t =
         let flag = flags-told (flag_of x) (flag_of y) (flag_small x) (flag_small y) (key-flag same_turn (flagged_said x) (flagged_said y) t) in
         let rotation = code-injective (rotation_said x) (rotation_said y) h k (eqb→eq _ _ (key-element same_turn (flagged_said x) (flagged_said y) t)) in
@@ -185,32 +185,32 @@ same_flagged_class c a b = same_class c a.element b.element
 
 module _ {H : Type 0} (tag : H → ℕ) where
   -- An operation with a flag times what the number of a generator says.
-  abbrev pub timesSaid : Flagged Operation → H → Option (Flagged Operation)
-  timesSaid b h = flagged_times product_inside b (flagged_said (tag h))
+  abbrev pub times_said : Flagged Operation → H → Option (Flagged Operation)
+  times_said b h = flagged_times product_inside b (flagged_said (tag h))
 
-  numbers-image : (c : Centering) → Image same_sign (same_shift c) (sameFlagged same_turn) (same_flagged_class c) number_times timesSaid flagged_said tag Turns
+  numbers-image : (c : Centering) → Image same_sign (same_shift c) (same_flagged same_turn) (same_flagged_class c) number_times times_said flagged_said tag Turns
   numbers-image c = record { same-image = sign-image; alike-image = λ x y h k. refl; product-image = λ x h _. times-image x (tag h); product-fine = times-turns }
 
   -- What the numbers say grows as operations with flags do, under any limit.
   pub flagged-growth : (c : Centering) (limit : ℕ) (gens : List H)
-      → grown (sameFlagged same_turn) (same_flagged_class c) timesSaid limit (flagged_said unit_number) gens ≡ Option.map (image_growth flagged_said) (number_growth c limit (map tag gens))
+      → grown (same_flagged same_turn) (same_flagged_class c) times_said limit (flagged_said unit_number) gens ≡ Option.map (image_growth flagged_said) (number_growth c limit (map tag gens))
   unfolding number_growth
   flagged-growth c limit gens =
-      grown-image same_sign (same_shift c) (sameFlagged same_turn) (same_flagged_class c) number_times timesSaid flagged_said tag Turns (numbers-image c) limit unit_number gens unit-turns
+      grown-image same_sign (same_shift c) (same_flagged same_turn) (same_flagged_class c) number_times times_said flagged_said tag Turns (numbers-image c) limit unit_number gens unit-turns
 
   module _ (unflagged : (h : H) → flag_of (tag h) ≡ 0) where
-    held-times : (x : Operation) (h : H) → timesSaid (held x) h ≡ Option.map held (product_inside x (said_by (tag h)))
+    held-times : (x : Operation) (h : H) → times_said (held x) h ≡ Option.map held (product_inside x (said_by (tag h)))
     held-times x h = rw (unflagged h)
 
-    held-image : (c : Centering) → Image same_turn (same_class c) (sameFlagged same_turn) (same_flagged_class c) product_inside timesSaid held (λ h. said_by (tag h)) (λ x. T true)
+    held-image : (c : Centering) → Image same_turn (same_class c) (same_flagged same_turn) (same_flagged_class c) product_inside times_said held (λ h. said_by (tag h)) (λ x. T true)
     held-image c = record { same-image = λ x y _ _. refl; alike-image = λ x y _ _. refl; product-image = λ x h _. held-times x h; product-fine = λ x p g _ _. tt }
 
     -- Where all flags are 0, operations without flags grow so.
     held-growth : (c : Centering) (gens : List H)
-        → grown (sameFlagged same_turn) (same_flagged_class c) timesSaid 48 (held identity_operation) gens ≡ Option.map (image_growth held) (growth c (map (λ h. said_by (tag h)) gens))
+        → grown (same_flagged same_turn) (same_flagged_class c) times_said 48 (held identity_operation) gens ≡ Option.map (image_growth held) (growth c (map (λ h. said_by (tag h)) gens))
     unfolding growth
     held-growth c gens =
-        grown-image same_turn (same_class c) (sameFlagged same_turn) (same_flagged_class c) product_inside timesSaid held (λ h. said_by (tag h)) (λ x. T true) (held-image c) 48 identity_operation gens tt
+        grown-image same_turn (same_class c) (same_flagged same_turn) (same_flagged_class c) product_inside times_said held (λ h. said_by (tag h)) (λ x. T true) (held-image c) 48 identity_operation gens tt
 
 -- The flags forgotten.
 elements-held : (l : List Operation) → map (λ (a : Flagged Operation). a.element) (map held l) ≡ l
@@ -240,7 +240,7 @@ module _ {A G : Type 0} (same alike : A → A → Bool) (◌·◌ : A → G → 
   unfolding turns
   turns_same x [] h s = refl
   turns_same x (g ∷ gens) h s =
-      λ i. bind (h g (here refl) x i) (λ p. bind (takenUp same alike limit p s) (λ t. turns_same x gens (λ k m. h k (there m)) t i))
+      λ i. bind (h g (here refl) x i) (λ p. bind (taken_up same alike limit p s) (λ t. turns_same x gens (λ k m. h k (there m)) t i))
 
   module _ (gens : List G) (h : (g : G) → Mem g gens → (y : A) → y · g ≡ y · other g) where
     grow-same : (n i : ℕ) (s : Growth A) → grow same alike ◌·◌ limit unit gens n i s ≡ grow same alike ◌·◌ limit unit (map other gens) n i s
@@ -330,7 +330,7 @@ pub growth-numbers : (c : Centering) (gens : List Operation) → AllDigits gens 
 growth-numbers c gens digits =
     whole ∙
     unheld (growth c (map (λ g. said_by (generator_number g)) gens)) (number_growth c 48 (map generator_number gens))
-    (sym (held-growth generator_number generator-flag c gens) ∙ ap (λ u. grown (sameFlagged same_turn) (same_flagged_class c) (timesSaid generator_number) 48 u gens) (sym unit-said) ∙ flagged-growth generator_number c 48 gens)
+    (sym (held-growth generator_number generator-flag c gens) ∙ ap (λ u. grown (same_flagged same_turn) (same_flagged_class c) (times_said generator_number) 48 u gens) (sym unit-said) ∙ flagged-growth generator_number c 48 gens)
   where
     equal : (g : Operation) → Mem g gens → (f : Operation) → product_inside f g ≡ product_inside f (said_by (generator_number g))
     equal g m f = reduced-times f g ∙ ap (product_inside f) (sym (generator-says g (digits g m)))

@@ -24,7 +24,7 @@ use Rattle.laws.specs.Closure.{closure-lists, ListsReached}
 use Rattle.laws.specs.LatticeMaps.{MapsOnto}
 use Rattle.laws.specs.SameMatrix.{same_matrix, same_rotation, same-rotation, rotation-same, rotation-equivalence}
 use Rattle.laws.specs.MotionsModulo.{alike-identity}
-use Rattle.laws.specs.GrowthClosure.{stepsFrom}
+use Rattle.laws.specs.GrowthClosure.{steps_from}
 use Rattle.laws.specs.Indices.{member-at, member-index}
 use Rattle.group_growth.specs.Verdicts.{overgrown, torn, image_verdict}
 use Rattle.group_growth.specs.Growing.{OkGenerators, Few, AllFine, OneToUnit}
@@ -112,8 +112,8 @@ module _ (c : Centering) where
     )
 
     -- The index found is that of the first generator that is off.
-    pub first_off : (i : ℕ) → ((first_off c gens ≡ i) × (i < length gens)) ↔ FirstOff c gens i
-    first_off i = (
+    pub first_off_lem : (i : ℕ) → ((first_off c gens ≡ i) × (i < length gens)) ↔ FirstOff c gens i
+    first_off_lem i = (
       (λ (e, h).
           record {
             within = h;
@@ -216,7 +216,7 @@ data Course (c : Centering) (gens : List Operation) : Outcome → Type 0 where
 -- Every answer comes about in one of them.
 course : (c : Centering) (gens : List Operation) → SmallGenerators gens → Course c gens (outcome_of c gens)
 course c gens small = elim (dec_lt (first_off c gens) (length gens)) [
-  | yes h ↦ rw (outcome-off c gens h) (off ((first_off c gens small (first_off c gens)).0 (refl, h)))
+  | yes h ↦ rw (outcome-off c gens h) (off ((first_off_lem c gens small (first_off c gens)).0 (refl, h)))
   | no h ↦
       let all : length gens ≤ first_off c gens = omega arith in
       rw (outcome-verdict c gens all) (kept ((none-off c gens small).0 all))
@@ -238,7 +238,7 @@ pub record Accepted (c : Centering) (gens : List Operation) (operations : List O
   pub list : List SpaceMotion
   pub listed : listing gens ≡ some list
   pub operations-are : operations ≡ map operation_of list
-  pub steps-are : steps ≡ stepsFrom same_rotation (same_vector_class c) is_small compose (motions gens) list list
+  pub steps-are : steps ≡ steps_from same_rotation (same_vector_class c) is_small compose (motions gens) list list
   pub keep : AllKeep c gens
   pub few : FewRotations gens
   pub small : SmallRotations gens

@@ -12,7 +12,7 @@ use Rattle.laws.specs.Closure.{step}
 use Rattle.laws.specs.SameMatrix.{same_rotation, same-rotation}
 use Rattle.laws.specs.MotionsModulo.{Alike, motions-keyed}
 use Rattle.laws.specs.Growth.{place}
-use Rattle.laws.specs.GrowthClosure.{place-lt, place_same, stepsFrom}
+use Rattle.laws.specs.GrowthClosure.{place-lt, place_same, steps_from}
 use Rattle.laws.specs.Indices.{member-at, image-at}
 use Rattle.operation.specs.Meaning.{motion_of}
 use Rattle.operation.specs.Product.{identity_operation, operation_of}
@@ -28,11 +28,11 @@ use Rattle.space_group_theorems.specs.Members.{one_class, member-small, generate
 module _ (c : Centering) (gens : List SpaceMotion) (l : List SpaceMotion) where
   -- The indices of the products of some motions with the generators.
   abbrev indices : List SpaceMotion → List ℕ
-  indices = stepsFrom same_rotation (same_vector_class c) is_small compose gens l
+  indices = steps_from same_rotation (same_vector_class c) is_small compose gens l
 
   -- There are as many as products.
   indices-length : (xs : List SpaceMotion) → length (indices xs) ≡ length xs * length gens
-  unfolding stepsFrom
+  unfolding steps_from
   indices-length [] = omega arith
   indices-length (x ∷ xs) =
       length-append (map (λ g. place same_rotation (compose x g) l) gens) (indices xs)
@@ -41,7 +41,7 @@ module _ (c : Centering) (gens : List SpaceMotion) (l : List SpaceMotion) where
   -- The product of motion i and generator j has its index at i·n + j.
   index_at : (xs : List SpaceMotion) (i j : ℕ) → i < length xs → j < length gens
       → get_or (indices xs) (i * length gens + j) 0 ≡ place same_rotation (compose (get_or xs i identity) (get_or gens j identity)) l
-  unfolding stepsFrom
+  unfolding steps_from
   index_at [] i j h k = absurd (omega arith)
   index_at (x ∷ xs) zero j h k =
       let first = map (λ g. place same_rotation (compose x g) l) gens in

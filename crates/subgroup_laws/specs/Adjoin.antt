@@ -12,7 +12,7 @@ use Rattle.laws.specs.Truth.{or-either, or-holds-left, or-holds-right, not-passi
 use Rattle.subgroup_laws.specs.Bounded.{every, passes-every, every-passes}
 use Rattle.subgroup_laws.specs.Conjugation.{inverse-below, inverse_left}
 use Rattle.subgroup_laws.specs.Cosets.{coset_of, coset-below, coset-source, coset-holds, coset-new}
-use Rattle.subgroup_laws.specs.Groups.{Group, inverseOf}
+use Rattle.subgroup_laws.specs.Groups.{Group, inverse_of}
 use Rattle.subgroup_laws.specs.SubgroupLaws.{closed-set}
 use Rattle.subgroup_laws.specs.Subsets.{Subgroup}
 
@@ -86,7 +86,7 @@ module _ (n : ℕ) (◌·◌ : ℕ → ℕ → ℕ) (e : ℕ) (h g : ℕ) where
     pub higher-barred : (low : ℕ) → low < n → member h low ≡ false → member (coset_of n ◌·◌ e h low) g ≡ true → low < g → Barred g
     higher-barred low l new i less =
         let (b, k, m, q) = coset-source n ◌·◌ e G h H low l g i in
-        let inverse = inverseOf n ◌·◌ e b in
+        let inverse = inverse_of n ◌·◌ e b in
         let inside = inverse-below n ◌·◌ e G b k in
         let left = inverse_left n ◌·◌ e G b k in
         let back : inverse · g ≡ low =

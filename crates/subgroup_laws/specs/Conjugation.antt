@@ -8,10 +8,10 @@ use Rattle.std.specs.Int.Count.{ones}
 use Rattle.laws.specs.FiniteGroup.{cancel_left, inverse-product, inverse-unique}
 use Rattle.laws.specs.Sets.{member, member_below, Subset, subset-antisymmetric}
 use Rattle.subgroup_laws.specs.GroupLaws.{group-inverse}
-use Rattle.subgroup_laws.specs.Groups.{Group, inverseOf}
+use Rattle.subgroup_laws.specs.Groups.{Group, inverse_of}
 use Rattle.subgroup_laws.specs.Images.{image-below, image_holds, image-source, image-ones}
 use Rattle.subgroup_laws.specs.SubgroupLaws.{below-member, listed-group, closed-set}
-use Rattle.subgroup_laws.specs.Subsets.{Subgroup, conjugateElement, conjugateOf}
+use Rattle.subgroup_laws.specs.Subsets.{Subgroup, conjugate_element, conjugate_of}
 
 module _ (n : ℕ) (◌·◌ : ℕ → ℕ → ℕ) (e : ℕ) (G : Group n ◌·◌ e) where
   infixl 70 ◌·◌
@@ -19,11 +19,11 @@ module _ (n : ℕ) (◌·◌ : ℕ → ℕ → ℕ) (e : ℕ) (G : Group n ◌·
 
   -- the inverse
   abbrev inv : ℕ → ℕ
-  inv g = inverseOf n ◌·◌ e g
+  inv g = inverse_of n ◌·◌ e g
 
   -- the conjugate of an element
   abbrev conj : ℕ → ℕ → ℕ
-  conj x g = conjugateElement n ◌·◌ e x g
+  conj x g = conjugate_element n ◌·◌ e x g
 
   -- an inverse is an element
   pub inverse-below : (g : ℕ) → g < n → inv g < n
@@ -55,12 +55,12 @@ module _ (n : ℕ) (◌·◌ : ℕ → ℕ → ℕ) (e : ℕ) (G : Group n ◌·
 
   -- a conjugate of an element is an element
   pub conjugate-element-below : (x g : ℕ) → x < n → g < n → conj x g < n
-  unfolding conjugateElement
+  unfolding conjugate_element
   conjugate-element-below x g h k = G.product-below _ g (G.product-below _ x (inverse-below g k) h) k
 
   -- g (g⁻¹ x g) = x g
   pub conjugate-rule : (x g : ℕ) → x < n → g < n → g · conj x g ≡ x · g
-  unfolding conjugateElement
+  unfolding conjugate_element
   conjugate-rule x g h k =
       let i = inverse-below g k in
       sym (G.associative g (inv g · x) g k (G.product-below _ x i h) k)
@@ -109,71 +109,71 @@ module _ (n : ℕ) (◌·◌ : ℕ → ℕ → ℕ) (e : ℕ) (G : Group n ◌·
   -- ---- sets
 
   -- the conjugate of a set
-  abbrev setConj : ℕ → ℕ → ℕ
-  setConj s g = conjugateOf n ◌·◌ e s g
+  abbrev set_conj : ℕ → ℕ → ℕ
+  set_conj s g = conjugate_of n ◌·◌ e s g
 
   -- it is a set of elements
-  pub conjugate-below : (s g : ℕ) → setConj s g < 2 ^ n
-  unfolding conjugateOf
+  pub conjugate-below : (s g : ℕ) → set_conj s g < 2 ^ n
+  unfolding conjugate_of
   conjugate-below s g = image-below n (λ x. conj x g) s
 
   -- it holds the conjugates of the members
-  pub conjugate-holds : (s g x : ℕ) → s < 2 ^ n → g < n → member s x ≡ true → member (setConj s g) (conj x g) ≡ true
-  unfolding conjugateOf
+  pub conjugate-holds : (s g x : ℕ) → s < 2 ^ n → g < n → member s x ≡ true → member (set_conj s g) (conj x g) ≡ true
+  unfolding conjugate_of
   conjugate-holds s g x small h i =
       let k = member_below n s x small i in
       image_holds n (λ x. conj x g) s x k (conjugate-element-below x g k h) i
 
   -- and no others
-  pub conjugate-source : (s g y : ℕ) → member (setConj s g) y ≡ true → (x : ℕ) × (x < n) × (member s x ≡ true) × (conj x g ≡ y)
-  unfolding conjugateOf
+  pub conjugate-source : (s g y : ℕ) → member (set_conj s g) y ≡ true → (x : ℕ) × (x < n) × (member s x ≡ true) × (conj x g ≡ y)
+  unfolding conjugate_of
   conjugate-source s g y i = image-source n (λ x. conj x g) s y i
 
   -- conjugation keeps inclusions
-  pub conjugate-subset : (s t g : ℕ) → t < 2 ^ n → g < n → Subset s t → Subset (setConj s g) (setConj t g)
+  pub conjugate-subset : (s t g : ℕ) → t < 2 ^ n → g < n → Subset s t → Subset (set_conj s g) (set_conj t g)
   conjugate-subset s t g small h f y i =
       let (x, k, j, p) = conjugate-source s g y i in
       rw (← p) (conjugate-holds t g x small h (f x j))
 
   -- conjugation of sets by g and then by f is conjugation by g f
-  pub conjugate-set-twice : (s g f : ℕ) → s < 2 ^ n → g < n → f < n → setConj (setConj s g) f ≡ setConj s (g · f)
+  pub conjugate-set-twice : (s g f : ℕ) → s < 2 ^ n → g < n → f < n → set_conj (set_conj s g) f ≡ set_conj s (g · f)
   conjugate-set-twice s g f small h k = subset-antisymmetric _ _
       (λ z i.
-      let (y, a, j, p) = conjugate-source (setConj s g) f z i in
+      let (y, a, j, p) = conjugate-source (set_conj s g) f z i in
       let (x, b, l, q) = conjugate-source s g y j in
       rw (← p, ← q, conjugate-twice x g f b h k) (conjugate-holds s (g · f) x small (G.product-below g f h k) l))
       (λ z i.
       let (x, b, l, q) = conjugate-source s (g · f) z i in
-      rw (← q, ← conjugate-twice x g f b h k) (conjugate-holds (setConj s g) f _ (conjugate-below s g) k (conjugate-holds s g x small h l)))
+      rw (← q, ← conjugate-twice x g f b h k) (conjugate-holds (set_conj s g) f _ (conjugate-below s g) k (conjugate-holds s g x small h l)))
 
   -- the identity conjugates each set to itself
-  pub conjugate-set-by-identity : (s : ℕ) → s < 2 ^ n → setConj s e ≡ s
+  pub conjugate-set-by-identity : (s : ℕ) → s < 2 ^ n → set_conj s e ≡ s
   conjugate-set-by-identity s small = subset-antisymmetric _ _
       (λ z i. let (x, b, l, q) = conjugate-source s e z i in rw (← q, conjugate-by-identity x b) l)
       (λ z i. rw (conjugate-by-identity z (member_below n s z small i)) at (conjugate-holds s e z small G.identity-below i))
 
   -- conjugation by g and then by its inverse changes no set
-  pub conjugate-set-back : (s g : ℕ) → s < 2 ^ n → g < n → setConj (setConj s g) (inv g) ≡ s
+  pub conjugate-set-back : (s g : ℕ) → s < 2 ^ n → g < n → set_conj (set_conj s g) (inv g) ≡ s
   conjugate-set-back s g small h =
-      conjugate-set-twice s g (inv g) small h (inverse-below g h) ∙ ap (setConj s) (inverse-right g h) ∙ conjugate-set-by-identity s small
+      conjugate-set-twice s g (inv g) small h (inverse-below g h) ∙ ap (set_conj s) (inverse-right g h) ∙ conjugate-set-by-identity s small
 
   -- nor does it the other way round
-  pub conjugate-set-forth : (s g : ℕ) → s < 2 ^ n → g < n → setConj (setConj s (inv g)) g ≡ s
+  pub conjugate-set-forth : (s g : ℕ) → s < 2 ^ n → g < n → set_conj (set_conj s (inv g)) g ≡ s
   conjugate-set-forth s g small h =
-      conjugate-set-twice s (inv g) g small (inverse-below g h) h ∙ ap (setConj s) (inverse_left g h) ∙ conjugate-set-by-identity s small
+      conjugate-set-twice s (inv g) g small (inverse-below g h) h ∙ ap (set_conj s) (inverse_left g h) ∙ conjugate-set-by-identity s small
 
   -- a conjugate has as many members
-  pub conjugate-ones : (s g : ℕ) → s < 2 ^ n → g < n → ones (setConj s g) ≡ ones s
-  unfolding conjugateOf
+  pub conjugate-ones : (s g : ℕ) → s < 2 ^ n → g < n → ones (set_conj s g) ≡ ones s
+  unfolding conjugate_of
   conjugate-ones s g small h =
       let a = image-ones n (λ x. conj x g) s small in
-      let b = image-ones n (λ x. conj x (inv g)) (setConj s g) (conjugate-below s g) in
+      let b = image-ones n (λ x. conj x (inv g)) (set_conj s g) (conjugate-below s g) in
       let c = ap ones (conjugate-set-back s g small h) in
       omega arith
 
   -- a conjugate of a subgroup is a subgroup
-  pub conjugate-subgroup : (s g : ℕ) → g < n → Subgroup n ◌·◌ e s → Subgroup n ◌·◌ e (setConj s g)
-  conjugate-subgroup s g h S = closed-set n ◌·◌ e G (setConj s g) (conjugate-below s g)
+  pub conjugate-subgroup : (s g : ℕ) → g < n → Subgroup n ◌·◌ e s → Subgroup n ◌·◌ e (set_conj s g)
+  conjugate-subgroup s g h S = closed-set n ◌·◌ e G (set_conj s g) (conjugate-below s g)
       (rw (conjugate-of-identity g h) at (conjugate-holds s g e S.small h S.holds-identity))
       (λ x y i j.
       let (a, k, p, q) = conjugate-source s g x i in

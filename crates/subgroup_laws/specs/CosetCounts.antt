@@ -12,20 +12,20 @@ use Rattle.laws.specs.Counting.{fibre, fibres-equal}
 use Rattle.laws.specs.ListOrder.{Precedes, precedes-strict}
 use Rattle.laws.specs.Sets.{member, member_below, subset-antisymmetric, set_of-below, member-set_of}
 use Rattle.subgroup_laws.specs.Bounded.{some, passes-some, some-passes}
-use Rattle.subgroup_laws.specs.Conjugates.{conjugatesOf}
+use Rattle.subgroup_laws.specs.Conjugates.{conjugates_of}
 use Rattle.subgroup_laws.specs.Conjugation.{inverse-below, inverse_left, inverse-right, conjugate-set-twice, conjugate-set-back}
 use Rattle.subgroup_laws.specs.Cosets.{coset_of, coset-below, coset-source, coset-holds, coset-new}
-use Rattle.subgroup_laws.specs.Groups.{Group, inverseOf}
+use Rattle.subgroup_laws.specs.Groups.{Group, inverse_of}
 use Rattle.subgroup_laws.specs.Images.{image_holds, image-source, image-ones, sorted-distinct}
 use Rattle.subgroup_laws.specs.ListedSets.{listed, listed-passes, passes-listed, listed-sorted}
 use Rattle.subgroup_laws.specs.ListedConjugates.{listed-conjugate, conjugate-listed, conjugates-distinct, normalizer-member, normalizer-subgroup}
-use Rattle.subgroup_laws.specs.Subsets.{Subgroup, image_of, conjugateOf, normalizerOf}
+use Rattle.subgroup_laws.specs.Subsets.{Subgroup, image_of, conjugate_of, normalizer_of}
 
 module _ (n : ℕ) (◌·◌ : ℕ → ℕ → ℕ) (e : ℕ) (G : Group n ◌·◌ e) where
   infixl 70 ◌·◌
   -- the inverse
   abbrev inv : ℕ → ℕ
-  inv g = inverseOf n ◌·◌ e g
+  inv g = inverse_of n ◌·◌ e g
 
   -- x p⁻¹ p is x
   undo : (x p : ℕ) → x < n → p < n → x · inv p · p ≡ x
@@ -60,11 +60,11 @@ module _ (n : ℕ) (◌·◌ : ℕ → ℕ → ℕ) (e : ℕ) (G : Group n ◌·
     in-coset p x l h i = rw (undo x p h l) at (coset-holds n ◌·◌ e G s S p l (x · inv p) i)
 
     -- the cosets, each once
-    unfoldable pub isCoset : ℕ → Bool
-    isCoset c = some (λ p. eqb (coset_of n ◌·◌ e s p) c) n
+    unfoldable pub is_coset : ℕ → Bool
+    is_coset c = some (λ p. eqb (coset_of n ◌·◌ e s p) c) n
 
-    unfoldable pub cosetsOf : List ℕ
-    cosetsOf = listed n isCoset
+    unfoldable pub cosets_of : List ℕ
+    cosets_of = listed n is_coset
 
     -- a member of a coset has that coset
     coset-equal : (p x : ℕ) → p < n → x < n → member (coset_of n ◌·◌ e s p) x ≡ true → coset_of n ◌·◌ e s x ≡ coset_of n ◌·◌ e s p
@@ -90,12 +90,12 @@ module _ (n : ℕ) (◌·◌ : ℕ → ℕ → ℕ) (e : ℕ) (G : Group n ◌·
     cosets-apart p q x k l h i j = sym (coset-equal p x k h i) ∙ coset-equal q x l h j
 
     -- as many cosets as there are, times the subgroup's order, is the group's order
-    pub cosets-times-order : length cosetsOf * ones s ≡ n
-    unfolding cosetsOf isCoset fibre
-    cosets-times-order = fibres-equal (λ p. coset_of n ◌·◌ e s p) (sorted-distinct Precedes precedes-strict (listed-sorted n isCoset)) n (ones s)
-        (λ p l. passes-listed n isCoset (coset_of n ◌·◌ e s p) (coset-below n ◌·◌ e G s S p)
+    pub cosets-times-order : length cosets_of * ones s ≡ n
+    unfolding cosets_of is_coset fibre
+    cosets-times-order = fibres-equal (λ p. coset_of n ◌·◌ e s p) (sorted-distinct Precedes precedes-strict (listed-sorted n is_coset)) n (ones s)
+        (λ p l. passes-listed n is_coset (coset_of n ◌·◌ e s p) (coset-below n ◌·◌ e G s S p)
         (passes-some (λ q. eqb (coset_of n ◌·◌ e s q) (coset_of n ◌·◌ e s p)) n p l (eq-eqb (coset_of n ◌·◌ e s p) _ refl)))
-        (λ y m. let (p, l, q) = some-passes _ n (listed-passes n isCoset y m).1 in ap ones (same p l y (eqb-true _ _ q)) ∙ coset-ones p l)
+        (λ y m. let (p, l, q) = some-passes _ n (listed-passes n is_coset y m).1 in ap ones (same p l y (eqb-true _ _ q)) ∙ coset-ones p l)
       where
         same : (p : ℕ) → p < n → (y : ℕ) → coset_of n ◌·◌ e s p ≡ y → fibre n (λ p. coset_of n ◌·◌ e s p) y ≡ coset_of n ◌·◌ e s p
         same p l y q = subset-antisymmetric _ _
@@ -109,34 +109,34 @@ module _ (n : ℕ) (◌·◌ : ℕ → ℕ → ℕ) (e : ℕ) (G : Group n ◌·
 
   -- each subgroup's order divides the group's
   pub order-divides : (s : ℕ) → Subgroup n ◌·◌ e s → (k : ℕ) × (k * ones s ≡ n)
-  order-divides s S = (length (cosetsOf s S), cosets-times-order s S)
+  order-divides s S = (length (cosets_of s S), cosets-times-order s S)
 
   -- a subgroup's conjugates times the order of its normalizer is the group's order
-  pub conjugates-times-normalizer : (h : ℕ) → Subgroup n ◌·◌ e h → length (conjugatesOf n ◌·◌ e h) * ones (normalizerOf n ◌·◌ e h) ≡ n
+  pub conjugates-times-normalizer : (h : ℕ) → Subgroup n ◌·◌ e h → length (conjugates_of n ◌·◌ e h) * ones (normalizer_of n ◌·◌ e h) ≡ n
   unfolding fibre
-  conjugates-times-normalizer h H = fibres-equal (λ g. conjugateOf n ◌·◌ e h g) (conjugates-distinct n ◌·◌ e h G H) n (ones N)
+  conjugates-times-normalizer h H = fibres-equal (λ g. conjugate_of n ◌·◌ e h g) (conjugates-distinct n ◌·◌ e h G H) n (ones N)
       (λ g l. conjugate-listed n ◌·◌ e h G H g l)
       (λ y m. let (p, l, q) = listed-conjugate n ◌·◌ e h G H y m in ap ones (same p l y q) ∙ coset-ones N NS p l)
     where
       N : ℕ
-      N = normalizerOf n ◌·◌ e h
+      N = normalizer_of n ◌·◌ e h
 
-      NS : Subgroup n ◌·◌ e (normalizerOf n ◌·◌ e h)
+      NS : Subgroup n ◌·◌ e (normalizer_of n ◌·◌ e h)
       NS = normalizer-subgroup n ◌·◌ e h G H
 
-      same : (p : ℕ) → p < n → (y : ℕ) → conjugateOf n ◌·◌ e h p ≡ y → fibre n (λ g. conjugateOf n ◌·◌ e h g) y ≡ coset_of n ◌·◌ e (normalizerOf n ◌·◌ e h) p
+      same : (p : ℕ) → p < n → (y : ℕ) → conjugate_of n ◌·◌ e h p ≡ y → fibre n (λ g. conjugate_of n ◌·◌ e h g) y ≡ coset_of n ◌·◌ e (normalizer_of n ◌·◌ e h) p
       same p l y q = subset-antisymmetric _ _
           (λ x i.
-          let k = member_below n _ x (set_of-below n (λ g. eqb (conjugateOf n ◌·◌ e h g) y)) i in
-          let v : conjugateOf n ◌·◌ e h x ≡ y = eqb-true _ _ (sym (member-set_of n (λ g. eqb (conjugateOf n ◌·◌ e h g) y) x k) ∙ i) in
+          let k = member_below n _ x (set_of-below n (λ g. eqb (conjugate_of n ◌·◌ e h g) y)) i in
+          let v : conjugate_of n ◌·◌ e h x ≡ y = eqb-true _ _ (sym (member-set_of n (λ g. eqb (conjugate_of n ◌·◌ e h g) y) x k) ∙ i) in
           let j = inverse-below n ◌·◌ e G p l in
-          in-coset (normalizerOf n ◌·◌ e h) (normalizer-subgroup n ◌·◌ e h G H) p x l k
+          in-coset (normalizer_of n ◌·◌ e h) (normalizer-subgroup n ◌·◌ e h G H) p x l k
           ((normalizer-member n ◌·◌ e h G H (x · inv p) (G.product-below x (inv p) k j)).1
-          (sym (conjugate-set-twice n ◌·◌ e G h x (inv p) H.small k j) ∙ ap (λ (z : ℕ). conjugateOf n ◌·◌ e z (inv p)) (v ∙ sym q)
+          (sym (conjugate-set-twice n ◌·◌ e G h x (inv p) H.small k j) ∙ ap (λ (z : ℕ). conjugate_of n ◌·◌ e z (inv p)) (v ∙ sym q)
           ∙ conjugate-set-back n ◌·◌ e G h p H.small l)))
           (λ x i.
-          let (b, k, j, v) = coset-source n ◌·◌ e G (normalizerOf n ◌·◌ e h) (normalizer-subgroup n ◌·◌ e h G H) p l x i in
+          let (b, k, j, v) = coset-source n ◌·◌ e G (normalizer_of n ◌·◌ e h) (normalizer-subgroup n ◌·◌ e h G H) p l x i in
           let low : x < n = rw v (G.product-below b p k l) in
-          let conj : conjugateOf n ◌·◌ e h x ≡ y = ap (conjugateOf n ◌·◌ e h) v ∙ sym (conjugate-set-twice n ◌·◌ e G h b p H.small k l)
-          ∙ ap (λ (z : ℕ). conjugateOf n ◌·◌ e z p) ((normalizer-member n ◌·◌ e h G H b k).0 j) ∙ q in
-          member-set_of n (λ g. eqb (conjugateOf n ◌·◌ e h g) y) x low ∙ eq-eqb _ _ conj)
+          let conj : conjugate_of n ◌·◌ e h x ≡ y = ap (conjugate_of n ◌·◌ e h) v ∙ sym (conjugate-set-twice n ◌·◌ e G h b p H.small k l)
+          ∙ ap (λ (z : ℕ). conjugate_of n ◌·◌ e z p) ((normalizer-member n ◌·◌ e h G H b k).0 j) ∙ q in
+          member-set_of n (λ g. eqb (conjugate_of n ◌·◌ e h g) y) x low ∙ eq-eqb _ _ conj)

@@ -4,9 +4,9 @@ use Rattle.std.proofs.Common.{sym, ap, ◌∙◌, arith}
 use Rattle.std.proofs.Math.Decide.{ℕ_discrete}
 use Rattle.laws.specs.Sets.{member, member_below, Subset, ones-proper}
 use Rattle.subgroup_laws.specs.Conjugation.{conjugate-source, conjugate-set-twice, conjugate-ones, inverse-below, inverse_left}
-use Rattle.subgroup_laws.specs.Groups.{Group, inverseOf}
+use Rattle.subgroup_laws.specs.Groups.{Group, inverse_of}
 use Rattle.subgroup_laws.specs.Images.{image-below, image_holds, image-source}
-use Rattle.subgroup_laws.specs.Subsets.{Subgroup, image_of, conjugateElement, conjugateOf}
+use Rattle.subgroup_laws.specs.Subsets.{Subgroup, image_of, conjugate_element, conjugate_of}
 
 -- the right coset s p
 abbrev pub coset_of : ℕ → (ℕ → ℕ → ℕ) → ℕ → ℕ → ℕ → ℕ
@@ -37,22 +37,22 @@ module _ (n : ℕ) (◌·◌ : ℕ → ℕ → ℕ) (e : ℕ) (G : Group n ◌·
     coset-new = rw (G.left_identity p l) at (coset-holds e S.holds-identity)
 
   -- a member conjugates the subgroup to itself
-  pub conjugate-by-member : (b : ℕ) → member s b ≡ true → conjugateOf n ◌·◌ e s b ≡ s
-  unfolding conjugateElement
+  pub conjugate-by-member : (b : ℕ) → member s b ≡ true → conjugate_of n ◌·◌ e s b ≡ s
+  unfolding conjugate_element
   conjugate-by-member b i =
       let l = member_below n s b S.small i in
-      let inverse = S.holds-inverses b (inverseOf n ◌·◌ e b) (inverse-below n ◌·◌ e G b l) (inverse_left n ◌·◌ e G b l) i in
-      let inside : Subset (conjugateOf n ◌·◌ e s b) s = λ y j.
+      let inverse = S.holds-inverses b (inverse_of n ◌·◌ e b) (inverse-below n ◌·◌ e G b l) (inverse_left n ◌·◌ e G b l) i in
+      let inside : Subset (conjugate_of n ◌·◌ e s b) s = λ y j.
       let (x, k, m, q) = conjugate-source n ◌·◌ e G s b y j in
       rw (← q) (S.holds-products _ b (S.holds-products _ x inverse m) i) in
-      elim (ℕ_discrete (conjugateOf n ◌·◌ e s b) s) [
+      elim (ℕ_discrete (conjugate_of n ◌·◌ e s b) s) [
         | yes q ↦ q
         | no q ↦ absurd (omega (arith, ones-proper _ s inside q, conjugate-ones n ◌·◌ e G s b S.small l))
       ]
 
   -- so the elements of a coset conjugate it to the same set
-  pub conjugate-by-coset : (p y : ℕ) → p < n → member (coset_of n ◌·◌ e s p) y ≡ true → conjugateOf n ◌·◌ e s y ≡ conjugateOf n ◌·◌ e s p
+  pub conjugate-by-coset : (p y : ℕ) → p < n → member (coset_of n ◌·◌ e s p) y ≡ true → conjugate_of n ◌·◌ e s y ≡ conjugate_of n ◌·◌ e s p
   conjugate-by-coset p y l i =
       let (b, k, j, q) = coset-source p l y i in
-      ap (conjugateOf n ◌·◌ e s) q ∙ sym (conjugate-set-twice n ◌·◌ e G s b p S.small k l)
-      ∙ ap (λ (z : ℕ). conjugateOf n ◌·◌ e z p) (conjugate-by-member b j)
+      ap (conjugate_of n ◌·◌ e s) q ∙ sym (conjugate-set-twice n ◌·◌ e G s b p S.small k l)
+      ∙ ap (λ (z : ℕ). conjugate_of n ◌·◌ e z p) (conjugate-by-member b j)

@@ -46,12 +46,12 @@ module _ (n : ℕ) (◌·◌ : ℕ → ℕ → ℕ) (e : ℕ) where
     pub covers : (x : ℕ) → x < n → (member left x ≡ true) ⊎ Generated s x
 
   -- s with its products by j on the right
-  abbrev pub rightOf : ℕ → ℕ → ℕ
-  rightOf s j = bit_or s (image_of n (λ x. e · x · j) s)
+  abbrev pub right_of : ℕ → ℕ → ℕ
+  right_of s j = bit_or s (image_of n (λ x. e · x · j) s)
 
   -- and then with those by j on the left
   unfoldable pub widened : ℕ → ℕ → ℕ
-  widened s j = bit_or (rightOf s j) (image_of n (λ x. j · x · e) (rightOf s j))
+  widened s j = bit_or (right_of s j) (image_of n (λ x. j · x · e) (right_of s j))
 
   -- j associates as the middle factor
   abbrev pub Middle : ℕ → Type 0
@@ -74,21 +74,21 @@ module _ (n : ℕ) (◌·◌ : ℕ → ℕ → ℕ) (e : ℕ) where
     -- widening makes elements
     widened-below : (s j : ℕ) → s < 2 ^ n → widened s j < 2 ^ n
     unfolding widened
-    widened-below s j h = or_lt n (rightOf s j) _ (or_lt n s _ h (image-below n (λ x. e · x · j) s)) (image-below n (λ x. j · x · e) (rightOf s j))
+    widened-below s j h = or_lt n (right_of s j) _ (or_lt n s _ h (image-below n (λ x. e · x · j) s)) (image-below n (λ x. j · x · e) (right_of s j))
 
     -- that are generated
     widened-sound : (s r j : ℕ) → j < n → Generated s j → ((x : ℕ) → member r x ≡ true → Generated s x) → (x : ℕ) → member (widened r j) x ≡ true
         → Generated s x
     unfolding widened
-    widened-sound s r j h J sound x i = elim (or-either (member (rightOf r j) x) (member (image_of n (λ x. j · x · e) (rightOf r j)) x)
-        (sym (member-or (rightOf r j) _ x) ∙ i)) [
+    widened-sound s r j h J sound x i = elim (or-either (member (right_of r j) x) (member (image_of n (λ x. j · x · e) (right_of r j)) x)
+        (sym (member-or (right_of r j) _ x) ∙ i)) [
           | inl k ↦ right x k
           | inr k ↦
-              let (y, l, m, q) = image-source n (λ x. j · x · e) (rightOf r j) x k in
+              let (y, l, m, q) = image-source n (λ x. j · x · e) (right_of r j) x k in
               rw (sym q ∙ I.right (j · y) (product-below j y h l)) (times j y h l J (right y m))
         ]
       where
-        right : (x : ℕ) → member (rightOf r j) x ≡ true → Generated s x
+        right : (x : ℕ) → member (right_of r j) x ≡ true → Generated s x
         right x i = elim (or-either (member r x) (member (image_of n (λ x. e · x · j) r) x) (sym (member-or r _ x) ∙ i)) [
           | inl k ↦ sound x k
           | inr k ↦

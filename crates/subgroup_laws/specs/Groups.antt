@@ -14,32 +14,32 @@ module _ (n : ℕ) (◌·◌ : ℕ → ℕ → ℕ) (e : ℕ) where
     pub associative : (x y z : ℕ) → x < n → y < n → z < n → x · y · z ≡ x · (y · z)
 
   -- whether e is a two-sided identity
-  unfoldable pub isIdentity : Bool
-  isIdentity = every (λ x. eqb (e · x) x && eqb (x · e) x) n
+  unfoldable pub is_identity : Bool
+  is_identity = every (λ x. eqb (e · x) x && eqb (x · e) x) n
 
 module _ (◌·◌ : ℕ → ℕ → ℕ) where
   infixl 70 ◌·◌
   -- whether y is a two-sided inverse of x, where e is the identity
-  unfoldable pub isInverse : ℕ → ℕ → ℕ → Bool
-  isInverse e x y = eqb (x · y) e && eqb (y · x) e
+  unfoldable pub is_inverse : ℕ → ℕ → ℕ → Bool
+  is_inverse e x y = eqb (x · y) e && eqb (y · x) e
 
   -- whether (i j) k is i (j k)
-  unfoldable pub associatesAt : ℕ → ℕ → ℕ → Bool
-  associatesAt i j k = eqb (i · j · k) (i · (j · k))
+  unfoldable pub associates_at : ℕ → ℕ → ℕ → Bool
+  associates_at i j k = eqb (i · j · k) (i · (j · k))
 
 module _ (n : ℕ) (◌·◌ : ℕ → ℕ → ℕ) where
   -- the first two-sided identity, and n if there is none
-  unfoldable pub identityOf : ℕ
-  identityOf = first (λ e. isIdentity n ◌·◌ e) n
+  unfoldable pub identity_of : ℕ
+  identity_of = first (λ e. is_identity n ◌·◌ e) n
 
   -- the first two-sided inverse of x, and n if there is none
-  unfoldable pub inverseOf : ℕ → ℕ → ℕ
-  inverseOf e x = first (λ y. isInverse ◌·◌ e x y) n
+  unfoldable pub inverse_of : ℕ → ℕ → ℕ
+  inverse_of e x = first (λ y. is_inverse ◌·◌ e x y) n
 
   -- whether each element has a two-sided inverse
-  unfoldable pub hasInverses : ℕ → Bool
-  hasInverses e = every (λ x. ltb (inverseOf e x) n) n
+  unfoldable pub has_inverses : ℕ → Bool
+  has_inverses e = every (λ x. ltb (inverse_of e x) n) n
 
   -- whether the product is associative
   unfoldable pub associates : Bool
-  associates = every (λ i. every (λ j. every (λ k. associatesAt ◌·◌ i j k) n) n) n
+  associates = every (λ i. every (λ j. every (λ k. associates_at ◌·◌ i j k) n) n) n

@@ -11,47 +11,47 @@ use Rattle.subgroup_laws.specs.Conjugation.{conjugate-below}
 use Rattle.subgroup_laws.specs.Groups.{Group}
 use Rattle.subgroup_laws.specs.ListedSets.{listed}
 use Rattle.subgroup_laws.specs.SubgroupLaws.{test-subgroup, subgroup-test}
-use Rattle.subgroup_laws.specs.Subsets.{Subgroup, isSubgroup, conjugateOf}
+use Rattle.subgroup_laws.specs.Subsets.{Subgroup, is_subgroup, conjugate_of}
 
 module _ (n : ℕ) (◌·◌ : ℕ → ℕ → ℕ) (e : ℕ) where
   -- whether no conjugate of s stands before it in the list
-  unfoldable pub isFirst : ℕ → Bool
-  isFirst s = every (λ g. not (earlier n (conjugateOf n ◌·◌ e s g) s)) n
+  unfoldable pub is_first : ℕ → Bool
+  is_first s = every (λ g. not (earlier n (conjugate_of n ◌·◌ e s g) s)) n
 
   -- the subgroups that a list takes: all of them, or of each class the first
   abbrev pub chosen : Bool → ℕ → Bool
-  chosen true s = isSubgroup n ◌·◌ e s && isFirst s
-  chosen false s = isSubgroup n ◌·◌ e s
+  chosen true s = is_subgroup n ◌·◌ e s && is_first s
+  chosen false s = is_subgroup n ◌·◌ e s
 
   -- all subgroups in list order
-  unfoldable pub subgroupsOf : List ℕ
-  subgroupsOf = listed n (chosen false)
+  unfoldable pub subgroups_of : List ℕ
+  subgroups_of = listed n (chosen false)
 
   -- the representatives of the classes in list order, each the first of its class
-  unfoldable pub representativesOf : List ℕ
-  representativesOf = listed n (chosen true)
+  unfoldable pub representatives_of : List ℕ
+  representatives_of = listed n (chosen true)
 
   -- the same in words
   pub record Chosen (classes : Bool) (s : ℕ) : Type 0 where
     pub subgroup : Subgroup n ◌·◌ e s
-    pub first : classes ≡ true → (g : ℕ) → g < n → ¬ Precedes (conjugateOf n ◌·◌ e s g) s
+    pub first : classes ≡ true → (g : ℕ) → g < n → ¬ Precedes (conjugate_of n ◌·◌ e s g) s
 
 module _ (n : ℕ) (◌·◌ : ℕ → ℕ → ℕ) (e : ℕ) (G : Group n ◌·◌ e) where
   -- what passes the test of a first set is first
-  pub first_passes : (s : ℕ) → isFirst n ◌·◌ e s ≡ true → (g : ℕ) → g < n → ¬ Precedes (conjugateOf n ◌·◌ e s g) s
-  unfolding isFirst
+  pub first_passes : (s : ℕ) → is_first n ◌·◌ e s ≡ true → (g : ℕ) → g < n → ¬ Precedes (conjugate_of n ◌·◌ e s g) s
+  unfolding is_first
   first_passes s t g h p =
       true≢false (sym (precedes-earlier n _ s (conjugate-below n ◌·◌ e G s g) p) ∙ not-true _ (every-passes _ n t g h))
 
   -- and what is first passes
-  pub passes-first : (s : ℕ) → ((g : ℕ) → g < n → ¬ Precedes (conjugateOf n ◌·◌ e s g) s) → isFirst n ◌·◌ e s ≡ true
-  unfolding isFirst
+  pub passes-first : (s : ℕ) → ((g : ℕ) → g < n → ¬ Precedes (conjugate_of n ◌·◌ e s g) s) → is_first n ◌·◌ e s ≡ true
+  unfolding is_first
   passes-first s f = passes-every _ n (λ g h. ap not (not-passing _ (λ t. f g h (earlier-precedes n _ s t))))
 
   -- the test says what the words say
   pub chosen-passes : (classes : Bool) (s : ℕ) → chosen n ◌·◌ e classes s ≡ true → Chosen n ◌·◌ e classes s
   chosen-passes true s t =
-      let (a, b) = and_both (isSubgroup n ◌·◌ e s) (isFirst n ◌·◌ e s) t in
+      let (a, b) = and_both (is_subgroup n ◌·◌ e s) (is_first n ◌·◌ e s) t in
       record { subgroup = test-subgroup n ◌·◌ e G s a; first = λ q. first_passes s b }
   chosen-passes false s t = record { subgroup = test-subgroup n ◌·◌ e G s t; first = λ q. absurd (true≢false (sym q)) }
 

@@ -12,31 +12,31 @@ use Rattle.laws.specs.Indices.{member-at, image-at}
 use Rattle.subgroup_laws.specs.Conjugation.{conjugate-holds, conjugate-element-below}
 use Rattle.subgroup_laws.specs.Groups.{Group}
 use Rattle.subgroup_laws.specs.LowMembers.{member-remainder}
-use Rattle.subgroup_laws.specs.Subsets.{conjugateElement, conjugateOf}
+use Rattle.subgroup_laws.specs.Subsets.{conjugate_element, conjugate_of}
 
 module _ (n : ℕ) (◌·◌ : ℕ → ℕ → ℕ) (e : ℕ) where
   -- the position of g⁻¹ x g among the members of s: how many of them are lower
   unfoldable pub position_of : ℕ → ℕ → ℕ → ℕ
-  position_of s g x = ones_in (conjugateElement n ◌·◌ e x g) s
+  position_of s g x = ones_in (conjugate_element n ◌·◌ e x g) s
 
   -- the positions in ascending order of the members
-  unfoldable pub permutationOf : ℕ → ℕ → List ℕ
-  permutationOf s g = map (position_of s g) (members n s)
+  unfoldable pub permutation_of : ℕ → ℕ → List ℕ
+  permutation_of s g = map (position_of s g) (members n s)
 
   -- there are as many as members
-  pub permutation-length : (s g : ℕ) → s < 2 ^ n → length (permutationOf s g) ≡ ones s
-  unfolding permutationOf
+  pub permutation-length : (s g : ℕ) → s < 2 ^ n → length (permutation_of s g) ≡ ones s
+  unfolding permutation_of
   permutation-length s g h = length-map (members n s) (position_of s g) ∙ members-length n s ∙ sym (ones_below n s h)
 
   -- entry i says where g⁻¹ x g stands in the list of members, x being member i
-  pub permutation-entry : Group n ◌·◌ e → (s g i : ℕ) → s < 2 ^ n → g < n → conjugateOf n ◌·◌ e s g ≡ s → i < ones s
-      → get_or (members n s) (get_or (permutationOf s g) i 0) 0 ≡ conjugateElement n ◌·◌ e (get_or (members n s) i 0) g
-  unfolding permutationOf position_of
+  pub permutation-entry : Group n ◌·◌ e → (s g i : ℕ) → s < 2 ^ n → g < n → conjugate_of n ◌·◌ e s g ≡ s → i < ones s
+      → get_or (members n s) (get_or (permutation_of s g) i 0) 0 ≡ conjugate_element n ◌·◌ e (get_or (members n s) i 0) g
+  unfolding permutation_of position_of
   permutation-entry G s g i small h keeps k =
       let long : i < length (members n s) = let q = ones_below n s small in let r = members-length n s in omega arith in
       let x = get_or (members n s) i 0 in
       let (l, m) = listed-member n s x (member-at (members n s) i 0 long) in
-      let y = conjugateElement n ◌·◌ e x g in
+      let y = conjugate_element n ◌·◌ e x g in
       ap (λ (j : ℕ). get_or (members n s) j 0) (image-at (position_of s g) (members n s) i 0 0 long)
       ∙ members-position n s y 0 (conjugate-element-below n ◌·◌ e G x g l h)
       (subst (λ (z : ℕ). member z y ≡ true) keeps (conjugate-holds n ◌·◌ e G s g x small h m))

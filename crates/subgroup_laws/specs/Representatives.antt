@@ -6,10 +6,10 @@ use Rattle.laws.specs.ListOrder.{Precedes, precedes-irreflexive, precedes-transi
 use Rattle.laws.specs.Sets.{member, member_below, member-empty}
 use Rattle.subgroup_laws.specs.Conjugation.{conjugate-below, conjugate-ones, conjugate-set-back, conjugate-set-by-identity, conjugate-set-twice, conjugate-subgroup, inverse-below}
 use Rattle.subgroup_laws.specs.Cosets.{coset_of, coset-new, conjugate-by-member, conjugate-by-coset}
-use Rattle.subgroup_laws.specs.Groups.{Group, inverseOf}
+use Rattle.subgroup_laws.specs.Groups.{Group, inverse_of}
 use Rattle.subgroup_laws.specs.Lists.{Chosen}
 use Rattle.subgroup_laws.specs.Removal.{outside_of, outside-cases, outside-less, rest_of, rest_below, rest-cases}
-use Rattle.subgroup_laws.specs.Subsets.{Subgroup, conjugateOf}
+use Rattle.subgroup_laws.specs.Subsets.{Subgroup, conjugate_of}
 
 module _ (n : ℕ) (◌·◌ : ℕ → ℕ → ℕ) (e : ℕ) where
   infixl 70 ◌·◌
@@ -17,8 +17,8 @@ module _ (n : ℕ) (◌·◌ : ℕ → ℕ → ℕ) (e : ℕ) where
   pub record FirstConjugate (s : ℕ) (Left : ℕ → Type 0) (r : ℕ) : Type 0 where
     pub conjugator : ℕ
     pub below : conjugator < n
-    pub conjugate : r ≡ conjugateOf n ◌·◌ e s conjugator
-    pub first : (j : ℕ) → j < n → Left j ⊎ (¬ Precedes (conjugateOf n ◌·◌ e s j) r)
+    pub conjugate : r ≡ conjugate_of n ◌·◌ e s conjugator
+    pub first : (j : ℕ) → j < n → Left j ⊎ (¬ Precedes (conjugate_of n ◌·◌ e s j) r)
 
   -- no element is left
   abbrev pub FirstOfAll : ℕ → ℕ → Type 0
@@ -35,18 +35,18 @@ module _ (n : ℕ) (◌·◌ : ℕ → ℕ → ℕ) (e : ℕ) where
     pub count : ones r ≡ ones s
     pub conjugator : ℕ
     pub below : conjugator < n
-    pub conjugate : s ≡ conjugateOf n ◌·◌ e r conjugator
+    pub conjugate : s ≡ conjugate_of n ◌·◌ e r conjugator
     pub same : classes ≡ false → conjugator ≡ e
 
   module _ (G : Group n ◌·◌ e) where
     -- a conjugate fits a word
-    pub conjugate-word : n ≤ 48 → (s g : ℕ) → conjugateOf n ◌·◌ e s g < 2 ^ 64
+    pub conjugate-word : n ≤ 48 → (s g : ℕ) → conjugate_of n ◌·◌ e s g < 2 ^ 64
     conjugate-word limit s g =
         let wide : n ≤ 64 = omega arith in
         lt_of_lt_of_le (conjugate-below n ◌·◌ e G s g) (pow_mono wide)
 
     -- the set itself, while all elements are left but those that conjugate it to itself
-    pub first-start : (s : ℕ) (Left : ℕ → Type 0) → s < 2 ^ n → ((j : ℕ) → j < n → Left j ⊎ (conjugateOf n ◌·◌ e s j ≡ s)) → FirstConjugate s Left s
+    pub first-start : (s : ℕ) (Left : ℕ → Type 0) → s < 2 ^ n → ((j : ℕ) → j < n → Left j ⊎ (conjugate_of n ◌·◌ e s j ≡ s)) → FirstConjugate s Left s
     first-start s Left small all = record {
       conjugator = e;
       below = G.identity-below;
@@ -55,13 +55,13 @@ module _ (n : ℕ) (◌·◌ : ℕ → ℕ → ℕ) (e : ℕ) where
     }
 
     -- an element is tried, and with it those that conjugate to the same set
-    pub first_next : (width s g r : ℕ) (Left Rest : ℕ → Type 0) → conjugateOf n ◌·◌ e s g < 2 ^ width → g < n
-        → ((j : ℕ) → Left j → Rest j ⊎ (conjugateOf n ◌·◌ e s j ≡ conjugateOf n ◌·◌ e s g)) → FirstConjugate s Left r
-        → FirstConjugate s Rest (cond (earlier width (conjugateOf n ◌·◌ e s g) r) (conjugateOf n ◌·◌ e s g) r)
+    pub first_next : (width s g r : ℕ) (Left Rest : ℕ → Type 0) → conjugate_of n ◌·◌ e s g < 2 ^ width → g < n
+        → ((j : ℕ) → Left j → Rest j ⊎ (conjugate_of n ◌·◌ e s j ≡ conjugate_of n ◌·◌ e s g)) → FirstConjugate s Left r
+        → FirstConjugate s Rest (cond (earlier width (conjugate_of n ◌·◌ e s g) r) (conjugate_of n ◌·◌ e s g) r)
     first_next width s g r Left Rest word l tried F = choose (earlier width c r) refl
       where
         c : ℕ
-        c = conjugateOf n ◌·◌ e s g
+        c = conjugate_of n ◌·◌ e s g
 
         choose : (b : Bool) → earlier width c r ≡ b → FirstConjugate s Rest (cond b c r)
         choose true q = record {
@@ -115,7 +115,7 @@ module _ (n : ℕ) (◌·◌ : ℕ → ℕ → ℕ) (e : ℕ) where
 
         -- its coset is done with it
         pub trying-next : n ≤ 48
-            → Trying s (outside_of left (coset_of n ◌·◌ e s g)) (cond (earlier 64 (conjugateOf n ◌·◌ e s g) r) (conjugateOf n ◌·◌ e s g) r)
+            → Trying s (outside_of left (coset_of n ◌·◌ e s g)) (cond (earlier 64 (conjugate_of n ◌·◌ e s g) r) (conjugate_of n ◌·◌ e s g) r)
         trying-next limit = record {
           small = omega (arith, trying-less, T.small);
           so_far = first_next 64 s g r (λ j. member left j ≡ true) (λ j. member (outside_of left (coset_of n ◌·◌ e s g)) j
@@ -142,17 +142,17 @@ module _ (n : ℕ) (◌·◌ : ℕ → ℕ → ℕ) (e : ℕ) where
         ];
       };
       count = ap ones F.conjugate ∙ conjugate-ones n ◌·◌ e G s x S.small F.below;
-      conjugator = inverseOf n ◌·◌ e x;
+      conjugator = inverse_of n ◌·◌ e x;
       below = inverse-below n ◌·◌ e G x F.below;
-      conjugate = sym (ap (λ (z : ℕ). conjugateOf n ◌·◌ e z (inverseOf n ◌·◌ e x)) F.conjugate ∙ conjugate-set-back n ◌·◌ e G s x S.small F.below);
+      conjugate = sym (ap (λ (z : ℕ). conjugate_of n ◌·◌ e z (inverse_of n ◌·◌ e x)) F.conjugate ∙ conjugate-set-back n ◌·◌ e G s x S.small F.below);
       same = λ q. absurd (true≢false (sym c ∙ q));
     }
       where
         x : ℕ
         x = F.conjugator
 
-        twice : (g : ℕ) → g < n → conjugateOf n ◌·◌ e r g ≡ conjugateOf n ◌·◌ e s (x · g)
-        twice g h = ap (λ (z : ℕ). conjugateOf n ◌·◌ e z g) F.conjugate ∙ conjugate-set-twice n ◌·◌ e G s x g S.small F.below h
+        twice : (g : ℕ) → g < n → conjugate_of n ◌·◌ e r g ≡ conjugate_of n ◌·◌ e s (x · g)
+        twice g h = ap (λ (z : ℕ). conjugate_of n ◌·◌ e z g) F.conjugate ∙ conjugate-set-twice n ◌·◌ e G s x g S.small F.below h
 
     -- where no classes are asked for a subgroup stands for itself
     pub itself-represented : (s : ℕ) (classes : Bool) → classes ≡ false → Subgroup n ◌·◌ e s → Represented classes s s

@@ -8,7 +8,7 @@ use Rattle.laws.specs.ListOrder.{LongerOrSmaller}
 use Rattle.laws.specs.Sets.{member, members, set_of}
 use Rattle.laws.specs.Sorted.{Sorted, sort, keep}
 use Rattle.subgroup_laws.specs.Bounded.{some}
-use Rattle.subgroup_laws.specs.Groups.{inverseOf}
+use Rattle.subgroup_laws.specs.Groups.{inverse_of}
 
 -- whether two lists are equal
 unfoldable pub same_list : List ℕ → List ℕ → Bool
@@ -45,12 +45,12 @@ module _ (n : ℕ) (◌·◌ : ℕ → ℕ → ℕ) (e : ℕ) where
   -- ---- generated_subgroup
 
   -- whether z is the product of two marked elements
-  unfoldable pub isProduct : ℕ → ℕ → Bool
-  isProduct marked z = some (λ x. member marked x && some (λ y. member marked y && eqb (x · y) z) n) n
+  unfoldable pub is_product : ℕ → ℕ → Bool
+  is_product marked z = some (λ x. member marked x && some (λ y. member marked y && eqb (x · y) z) n) n
 
   -- a round marks the products of all elements that were marked before it
   unfoldable pub round : ℕ → ℕ
-  round marked = set_of n (λ z. member marked z || isProduct marked z)
+  round marked = set_of n (λ z. member marked z || is_product marked z)
 
   -- rounds until one changes nothing; that n are enough is shown
   unfoldable pub rounds : ℕ → ℕ → ℕ
@@ -58,30 +58,30 @@ module _ (n : ℕ) (◌·◌ : ℕ → ℕ → ℕ) (e : ℕ) where
   rounds (suc more) marked = let next = rounds more (round marked) in cond (eqb (round marked) marked) marked next
 
   -- the identity, the new element and the old ones are marked first
-  unfoldable pub firstMarked : List ℕ → ℕ → ℕ
-  firstMarked h g = set_of n (λ x. eqb x e || (eqb x g || has eqb x h))
+  unfoldable pub first_marked : List ℕ → ℕ → ℕ
+  first_marked h g = set_of n (λ x. eqb x e || (eqb x g || has eqb x h))
 
   -- the elements that are marked in the end
-  unfoldable pub generatedSubgroup : List ℕ → ℕ → List ℕ
-  generatedSubgroup h g = members n (rounds n (firstMarked h g))
+  unfoldable pub generated_subgroup : List ℕ → ℕ → List ℕ
+  generated_subgroup h g = members n (rounds n (first_marked h g))
 
   -- ---- enumerate_subgroups
 
   -- an element is passed over if h holds it, or if what it generates with h was seen
   unfoldable pub tried : List ℕ → ℕ → Progress → Progress
-  tried h g p = cond (has eqb g h || has same_list (generatedSubgroup h g) p.seen) p
-      (record { seen = generatedSubgroup h g ∷ p.seen; queue = p.queue ++ generatedSubgroup h g ∷ [] })
+  tried h g p = cond (has eqb g h || has same_list (generated_subgroup h g) p.seen) p
+      (record { seen = generated_subgroup h g ∷ p.seen; queue = p.queue ++ generated_subgroup h g ∷ [] })
 
   -- the elements below g, one after the other
-  unfoldable pub triedBelow : List ℕ → ℕ → Progress → Progress
-  triedBelow h zero p = p
-  triedBelow h (suc g) p = tried h g (triedBelow h g p)
+  unfoldable pub tried_below : List ℕ → ℕ → Progress → Progress
+  tried_below h zero p = p
+  tried_below h (suc g) p = tried h g (tried_below h g p)
 
   -- the first of the queue is taken, and all elements are tried with it, until the queue is empty
   pub data Searched : List (List ℕ) → List (List ℕ) → List (List ℕ) → Type 0 where
     ended : {seen : List (List ℕ)} → Searched seen [] seen
     taken : {seen queue all : List (List ℕ)} (h : List ℕ)
-        → Searched (triedBelow h n (record { seen = seen; queue = queue })).seen (triedBelow h n (record { seen = seen; queue = queue })).queue all
+        → Searched (tried_below h n (record { seen = seen; queue = queue })).seen (tried_below h n (record { seen = seen; queue = queue })).queue all
         → Searched seen (h ∷ queue) all
 
   -- the search starts from the trivial subgroup; what was seen is then sorted, the longer first, then the lexicographically smaller
@@ -94,8 +94,8 @@ module _ (n : ℕ) (◌·◌ : ℕ → ℕ → ℕ) (e : ℕ) where
   -- ---- conjugate
 
   -- g⁻¹ x g for each element in turn, then sorted
-  unfoldable pub conjugateList : List ℕ → ℕ → List ℕ
-  conjugateList h g = sort ltb (map (λ x. inverseOf n ◌·◌ e g · x · g) h)
+  unfoldable pub conjugate_list : List ℕ → ℕ → List ℕ
+  conjugate_list h g = sort ltb (map (λ x. inverse_of n ◌·◌ e g · x · g) h)
 
   -- ---- the conjugates of a class in conjugacy_classes
 
@@ -104,7 +104,7 @@ module _ (n : ℕ) (◌·◌ : ℕ → ℕ → ℕ) (e : ℕ) where
   witnesses r zero = record { subgroup = r; conjugator = e } ∷ []
   witnesses r (suc g) =
       let before = witnesses r g in
-      cond (has same_list (conjugateList r g) (keys before)) before (record { subgroup = conjugateList r g; conjugator = g } ∷ before)
+      cond (has same_list (conjugate_list r g) (keys before)) before (record { subgroup = conjugate_list r g; conjugator = g } ∷ before)
 
   -- the witnesses, sorted by that key
   pub record ClassConjugates (r : List ℕ) (l : List Witnessed) : Type 0 where
@@ -114,22 +114,22 @@ module _ (n : ℕ) (◌·◌ : ℕ → ℕ → ℕ) (e : ℕ) where
   -- ---- the representatives in conjugacy_classes
 
   -- of the subgroups in turn those that remain; each takes its conjugates from what remains
-  unfoldable pub representativesAmong : List (List ℕ) → List (List ℕ) → List (List ℕ)
-  representativesAmong [] remaining = []
-  representativesAmong (r ∷ l) remaining =
-      let chosen = representativesAmong l (keep (λ s. not (has same_list s (keys (witnesses r n)))) remaining) in
-      let passed = representativesAmong l remaining in
+  unfoldable pub representatives_among : List (List ℕ) → List (List ℕ) → List (List ℕ)
+  representatives_among [] remaining = []
+  representatives_among (r ∷ l) remaining =
+      let chosen = representatives_among l (keep (λ s. not (has same_list s (keys (witnesses r n)))) remaining) in
+      let passed = representatives_among l remaining in
       cond (has same_list r remaining) (r ∷ chosen) passed
 
   -- ---- normalizer_action
 
   -- the elements below g whose conjugate of h is h
-  unfoldable pub normalizerIndices : List ℕ → ℕ → List ℕ
-  normalizerIndices h zero = []
-  normalizerIndices h (suc g) = normalizerIndices h g ++ cond (same_list (conjugateList h g) h) (g ∷ []) []
+  unfoldable pub normalizer_indices : List ℕ → ℕ → List ℕ
+  normalizer_indices h zero = []
+  normalizer_indices h (suc g) = normalizer_indices h g ++ cond (same_list (conjugate_list h g) h) (g ∷ []) []
 
   -- for each of them the indices in h of the conjugated elements
-  unfoldable pub normalizerPermutations : List ℕ → ℕ → List (List ℕ)
-  normalizerPermutations h zero = []
-  normalizerPermutations h (suc g) =
-      normalizerPermutations h g ++ cond (same_list (conjugateList h g) h) (map (λ x. index_in h (inverseOf n ◌·◌ e g · x · g)) h ∷ []) []
+  unfoldable pub normalizer_permutations : List ℕ → ℕ → List (List ℕ)
+  normalizer_permutations h zero = []
+  normalizer_permutations h (suc g) =
+      normalizer_permutations h g ++ cond (same_list (conjugate_list h g) h) (map (λ x. index_in h (inverse_of n ◌·◌ e g · x · g)) h ∷ []) []

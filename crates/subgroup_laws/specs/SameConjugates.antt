@@ -26,15 +26,15 @@ use Rattle.laws.specs.ListOrder.{Precedes, precedes-compare}
 use Rattle.laws.specs.Sets.{member, members, members-unique, members-sorted, members-position, position-below, listed-member, member-listed, ones-members}
 use Rattle.laws.specs.Sorted.{StrictOrder, Sorted, sorted-nil, sorted-cons, unique, one_place, key-strict, key-decides, key-total, sort, sort-member, member-sort, sort_sorted}
 use Rattle.laws.specs.Truth.{T_true, same_truth}
-use Rattle.subgroup_laws.specs.Conjugates.{othersOf, conjugatesOf, conjugatorOf, conjugatorsOf}
+use Rattle.subgroup_laws.specs.Conjugates.{others_of, conjugates_of, conjugator_of, conjugators_of}
 use Rattle.subgroup_laws.specs.Conjugation.{conjugate-below, conjugate-element-below, conjugate-holds, conjugate-source, conjugate-back, conjugate-ones, conjugate-set-by-identity}
-use Rattle.subgroup_laws.specs.Groups.{Group, inverseOf}
+use Rattle.subgroup_laws.specs.Groups.{Group, inverse_of}
 use Rattle.subgroup_laws.specs.Images.{sorted-distinct}
 use Rattle.subgroup_laws.specs.ListedConjugates.{listed-conjugate, conjugate-listed, others-sorted, others-other, smallest-conjugator, normalizer-member}
-use Rattle.subgroup_laws.specs.Permutations.{position_of, permutationOf}
-use Rattle.subgroup_laws.specs.RustProcedures.{same_list, index_in, Witnessed, keys, KeyBefore, conjugateList, witnesses, ClassConjugates, normalizerIndices, normalizerPermutations}
+use Rattle.subgroup_laws.specs.Permutations.{position_of, permutation_of}
+use Rattle.subgroup_laws.specs.RustProcedures.{same_list, index_in, Witnessed, keys, KeyBefore, conjugate_list, witnesses, ClassConjugates, normalizer_indices, normalizer_permutations}
 use Rattle.subgroup_laws.specs.SameSubgroups.{lists-decided, had, has-it, members-injective, lexicographic-transitive}
-use Rattle.subgroup_laws.specs.Subsets.{Subgroup, conjugateElement, conjugateOf, normalizerOf}
+use Rattle.subgroup_laws.specs.Subsets.{Subgroup, conjugate_element, conjugate_of, normalizer_of}
 
 -- ---- lists
 
@@ -69,16 +69,16 @@ module _ (n : ℕ) (◌·◌ : ℕ → ℕ → ℕ) (e : ℕ) (G : Group n ◌·
 
   -- the conjugated elements in turn
   abbrev images : ℕ → ℕ → List ℕ
-  images s g = map (λ x. conjugateElement n ◌·◌ e x g) (members n s)
+  images s g = map (λ x. conjugate_element n ◌·◌ e x g) (members n s)
 
   -- none is there twice
   images-distinct : (s g : ℕ) → g < n → Distinct eqb (images s g)
-  images-distinct s g l = distinct-map eqb eqb-equivalence (λ x. conjugateElement n ◌·◌ e x g)
+  images-distinct s g l = distinct-map eqb eqb-equivalence (λ x. conjugate_element n ◌·◌ e x g)
       (λ x y m k t.
       let a = (listed-member n s x m).0 in
       let b = (listed-member n s y k).0 in
       let same : x ≡ y =
-      sym (conjugate-back n ◌·◌ e G x g a l) ∙ ap (λ (z : ℕ). conjugateElement n ◌·◌ e z (inverseOf n ◌·◌ e g)) (eqb→eq _ _ t)
+      sym (conjugate-back n ◌·◌ e G x g a l) ∙ ap (λ (z : ℕ). conjugate_element n ◌·◌ e z (inverse_of n ◌·◌ e g)) (eqb→eq _ _ t)
       ∙ conjugate-back n ◌·◌ e G y g b l in
       rw same (eqb_refl y))
       (sorted-distinct (λ (x y : ℕ). x < y) (key-strict (λ (x : ℕ). x)) (members-sorted n s))
@@ -86,45 +86,45 @@ module _ (n : ℕ) (◌·◌ : ℕ → ℕ → ℕ) (e : ℕ) (G : Group n ◌·
   -- all are elements
   images-below : (s g : ℕ) → g < n → (y : ℕ) → Mem y (images s g) → y < n
   images-below s g l y m =
-      let (x, k, p) = mem-of-map (λ x. conjugateElement n ◌·◌ e x g) (members n s) m in
+      let (x, k, p) = mem-of-map (λ x. conjugate_element n ◌·◌ e x g) (members n s) m in
       rw (← p) (conjugate-element-below n ◌·◌ e G x g (listed-member n s x k).0 l)
 
   -- The Rust's conjugate of the list of a set is the list of our conjugate.
-  pub conjugate-as-sorted : (s g : ℕ) → s < 2 ^ n → g < n → conjugateList n ◌·◌ e (members n s) g ≡ members n (conjugateOf n ◌·◌ e s g)
-  unfolding conjugateList conjugateElement
-  conjugate-as-sorted s g small l = members-unique n (conjugateOf n ◌·◌ e s g) (sort ltb (images s g))
+  pub conjugate-as-sorted : (s g : ℕ) → s < 2 ^ n → g < n → conjugate_list n ◌·◌ e (members n s) g ≡ members n (conjugate_of n ◌·◌ e s g)
+  unfolding conjugate_list conjugate_element
+  conjugate-as-sorted s g small l = members-unique n (conjugate_of n ◌·◌ e s g) (sort ltb (images s g))
       (sort_sorted (λ (x y : ℕ). x < y) (λ (x : ℕ). x < n) ltb (key-decides (λ (x : ℕ). x) (λ (x : ℕ). x < n)) (key-strict (λ (x : ℕ). x))
       (key-total (λ (x : ℕ). x) (λ (x : ℕ). x < n) (λ x y h k q. q)) (images s g) (images-below s g l) (distinct-nodup (images-distinct s g l)))
       (λ i. (
         λ m.
             let k = sort-member ltb (images s g) m in
-            let (x, j, p) = mem-of-map (λ x. conjugateElement n ◌·◌ e x g) (members n s) k in
+            let (x, j, p) = mem-of-map (λ x. conjugate_element n ◌·◌ e x g) (members n s) k in
             let held = conjugate-holds n ◌·◌ e G s g x small l (listed-member n s x j).1 in
-            (images-below s g l i k, subst (λ (y : ℕ). member (conjugateOf n ◌·◌ e s g) y ≡ true) p held),
+            (images-below s g l i k, subst (λ (y : ℕ). member (conjugate_of n ◌·◌ e s g) y ≡ true) p held),
         λ p.
             let (x, h, j, q) = conjugate-source n ◌·◌ e G s g i p.1 in
-            member-sort ltb (images s g) (mem-cast (sym q) (mem-map (λ x. conjugateElement n ◌·◌ e x g) (member-listed n s x h j))),
+            member-sort ltb (images s g) (mem-cast (sym q) (mem-map (λ x. conjugate_element n ◌·◌ e x g) (member-listed n s x h j))),
       ))
 
   module _ (h : ℕ) (H : Subgroup n ◌·◌ e h) where
     -- ---- normalizers
 
     -- equal lists are equal sets
-    keeps-test : (g : ℕ) → g < n → same_list (conjugateList n ◌·◌ e (members n h) g) (members n h) ≡ member (normalizerOf n ◌·◌ e h) g
+    keeps-test : (g : ℕ) → g < n → same_list (conjugate_list n ◌·◌ e (members n h) g) (members n h) ≡ member (normalizer_of n ◌·◌ e h) g
     keeps-test g l = same_truth _ _
         (λ p. (normalizer-member n ◌·◌ e h G H g l).1 (members-injective n _ h (conjugate-below n ◌·◌ e G h g) H.small
         (sym (conjugate-as-sorted h g H.small l) ∙ lists-decided.exact _ _ (rw p tt))))
         (λ m. T_true (rw (conjugate-as-sorted h g H.small l, (normalizer-member n ◌·◌ e h G H g l).0 m) (lists-decided.reflexive (members n h))))
 
     -- the elements below k
-    normalizer-below-k : (k : ℕ) → k ≤ n → normalizerIndices n ◌·◌ e (members n h) k ≡ members k (normalizerOf n ◌·◌ e h)
-    unfolding normalizerIndices members
+    normalizer-below-k : (k : ℕ) → k ≤ n → normalizer_indices n ◌·◌ e (members n h) k ≡ members k (normalizer_of n ◌·◌ e h)
+    unfolding normalizer_indices members
     normalizer-below-k zero l = refl
     normalizer-below-k (suc k) l =
         ap₂ (λ (m : List ℕ) (b : Bool). m ++ cond b (k ∷ []) []) (normalizer-below-k k (omega arith)) (keeps-test k (omega arith))
 
     -- The indices that the Rust's loop gives are the members of our normalizer.
-    pub normalizer-as-looped : normalizerIndices n ◌·◌ e (members n h) n ≡ members n (normalizerOf n ◌·◌ e h)
+    pub normalizer-as-looped : normalizer_indices n ◌·◌ e (members n h) n ≡ members n (normalizer_of n ◌·◌ e h)
     normalizer-as-looped = normalizer-below-k n (omega arith)
 
     -- ---- permutations
@@ -137,36 +137,36 @@ module _ (n : ℕ) (◌·◌ : ℕ → ℕ → ℕ) (e : ℕ) (G : Group n ◌·
         (b ∙ sym (members-position n h y 0 l m))
 
     -- the indices by an element of the normalizer are our permutation
-    indices-permutation : (g : ℕ) → g < n → member (normalizerOf n ◌·◌ e h) g ≡ true
-        → map (λ x. index_in (members n h) (inverseOf n ◌·◌ e g · x · g)) (members n h) ≡ permutationOf n ◌·◌ e h g
-    unfolding permutationOf position_of conjugateElement
+    indices-permutation : (g : ℕ) → g < n → member (normalizer_of n ◌·◌ e h) g ≡ true
+        → map (λ x. index_in (members n h) (inverse_of n ◌·◌ e g · x · g)) (members n h) ≡ permutation_of n ◌·◌ e h g
+    unfolding permutation_of position_of conjugate_element
     indices-permutation g l m = map-equal _ _ (members n h)
         (λ x k.
         let (low, i) = listed-member n h x k in
         let held = conjugate-holds n ◌·◌ e G h g x H.small l i in
-        index-position (conjugateElement n ◌·◌ e x g) (conjugate-element-below n ◌·◌ e G x g low l)
-        (subst (λ (s : ℕ). member s (conjugateElement n ◌·◌ e x g) ≡ true) ((normalizer-member n ◌·◌ e h G H g l).0 m) held))
+        index-position (conjugate_element n ◌·◌ e x g) (conjugate-element-below n ◌·◌ e G x g low l)
+        (subst (λ (s : ℕ). member s (conjugate_element n ◌·◌ e x g) ≡ true) ((normalizer-member n ◌·◌ e h G H g l).0 m) held))
 
     -- those by the elements below k
-    permutations-below : (k : ℕ) → k ≤ n → normalizerPermutations n ◌·◌ e (members n h) k ≡ map (permutationOf n ◌·◌ e h) (members k (normalizerOf n ◌·◌ e h))
-    unfolding normalizerPermutations members
+    permutations-below : (k : ℕ) → k ≤ n → normalizer_permutations n ◌·◌ e (members n h) k ≡ map (permutation_of n ◌·◌ e h) (members k (normalizer_of n ◌·◌ e h))
+    unfolding normalizer_permutations members
     permutations-below zero l = refl
     permutations-below (suc k) l =
         ap (λ (m : List (List ℕ)). m ++ added) (permutations-below k (omega arith))
-        ∙ ap (λ (m : List (List ℕ)). map (permutationOf n ◌·◌ e h) (members k (normalizerOf n ◌·◌ e h)) ++ m) (by (member (normalizerOf n ◌·◌ e h) k) refl)
-        ∙ sym (map-append (permutationOf n ◌·◌ e h) (members k (normalizerOf n ◌·◌ e h)) (cond (member (normalizerOf n ◌·◌ e h) k) (k ∷ []) []))
+        ∙ ap (λ (m : List (List ℕ)). map (permutation_of n ◌·◌ e h) (members k (normalizer_of n ◌·◌ e h)) ++ m) (by (member (normalizer_of n ◌·◌ e h) k) refl)
+        ∙ sym (map-append (permutation_of n ◌·◌ e h) (members k (normalizer_of n ◌·◌ e h)) (cond (member (normalizer_of n ◌·◌ e h) k) (k ∷ []) []))
       where
         added : List (List ℕ)
-        added = cond (same_list (conjugateList n ◌·◌ e (members n h) k) (members n h))
-            (map (λ x. index_in (members n h) (inverseOf n ◌·◌ e k · x · k)) (members n h) ∷ [])
+        added = cond (same_list (conjugate_list n ◌·◌ e (members n h) k) (members n h))
+            (map (λ x. index_in (members n h) (inverse_of n ◌·◌ e k · x · k)) (members n h) ∷ [])
             []
 
-        by : (b : Bool) → member (normalizerOf n ◌·◌ e h) k ≡ b → added ≡ map (permutationOf n ◌·◌ e h) (cond b (k ∷ []) [])
+        by : (b : Bool) → member (normalizer_of n ◌·◌ e h) k ≡ b → added ≡ map (permutation_of n ◌·◌ e h) (cond b (k ∷ []) [])
         by true q = rw (keeps-test k (omega arith), q) (ap (λ (p : List ℕ). p ∷ []) (indices-permutation k (omega arith) q))
         by false q = rw (keeps-test k (omega arith), q) refl
 
     -- The permutations that the Rust's loop gives are ours, in the order of the normalizer's members.
-    pub permutations-as-looped : normalizerPermutations n ◌·◌ e (members n h) n ≡ map (permutationOf n ◌·◌ e h) (members n (normalizerOf n ◌·◌ e h))
+    pub permutations-as-looped : normalizer_permutations n ◌·◌ e (members n h) n ≡ map (permutation_of n ◌·◌ e h) (members n (normalizer_of n ◌·◌ e h))
     permutations-as-looped = permutations-below n (omega arith)
 
     -- ---- the conjugates of a class
@@ -179,45 +179,45 @@ module _ (n : ℕ) (◌·◌ : ℕ → ℕ → ℕ) (e : ℕ) (G : Group n ◌·
     witness-first : (k : ℕ) → Mem (record { subgroup = own; conjugator = e }) (witnesses n ◌·◌ e own k)
     unfolding witnesses
     witness-first zero = here refl
-    witness-first (suc k) = by (has same_list (conjugateList n ◌·◌ e own k) (keys (witnesses n ◌·◌ e own k))) (witness-first k)
+    witness-first (suc k) = by (has same_list (conjugate_list n ◌·◌ e own k) (keys (witnesses n ◌·◌ e own k))) (witness-first k)
       where
         by : (b : Bool) → Mem (record { subgroup = own; conjugator = e }) (witnesses n ◌·◌ e own k) → Mem (record { subgroup = own; conjugator = e })
-            (cond b (witnesses n ◌·◌ e own k) (record { subgroup = conjugateList n ◌·◌ e own k; conjugator = k } ∷ witnesses n ◌·◌ e own k))
+            (cond b (witnesses n ◌·◌ e own k) (record { subgroup = conjugate_list n ◌·◌ e own k; conjugator = k } ∷ witnesses n ◌·◌ e own k))
         by true m = m
         by false m = there m
 
     -- any other conjugate is witnessed by the first element that brings it about
     record Other (k : ℕ) (w : Witnessed) : Type 0 where
       below : w.conjugator < k
-      made : w.subgroup ≡ conjugateList n ◌·◌ e own w.conjugator
+      made : w.subgroup ≡ conjugate_list n ◌·◌ e own w.conjugator
       other : w.subgroup ≢ own
-      first : (j : ℕ) → j < w.conjugator → conjugateList n ◌·◌ e own j ≢ w.subgroup
+      first : (j : ℕ) → j < w.conjugator → conjugate_list n ◌·◌ e own j ≢ w.subgroup
 
     -- each conjugate by an element below k has a witness
-    witness-each : (k g : ℕ) → g < k → Mem (conjugateList n ◌·◌ e own g) (keys (witnesses n ◌·◌ e own k))
+    witness-each : (k g : ℕ) → g < k → Mem (conjugate_list n ◌·◌ e own g) (keys (witnesses n ◌·◌ e own k))
     unfolding witnesses
     witness-each zero g l = absurd (omega arith)
-    witness-each (suc k) g l = by (has same_list (conjugateList n ◌·◌ e own k) (keys (witnesses n ◌·◌ e own k))) (λ m. witness-each k g m) refl
+    witness-each (suc k) g l = by (has same_list (conjugate_list n ◌·◌ e own k) (keys (witnesses n ◌·◌ e own k))) (λ m. witness-each k g m) refl
       where
-        by : (b : Bool) → (g < k → Mem (conjugateList n ◌·◌ e own g) (keys (witnesses n ◌·◌ e own k)))
-            → has same_list (conjugateList n ◌·◌ e own k) (keys (witnesses n ◌·◌ e own k)) ≡ b → Mem (conjugateList n ◌·◌ e own g)
-            (keys (cond b (witnesses n ◌·◌ e own k) (record { subgroup = conjugateList n ◌·◌ e own k; conjugator = k } ∷ witnesses n ◌·◌ e own k)))
+        by : (b : Bool) → (g < k → Mem (conjugate_list n ◌·◌ e own g) (keys (witnesses n ◌·◌ e own k)))
+            → has same_list (conjugate_list n ◌·◌ e own k) (keys (witnesses n ◌·◌ e own k)) ≡ b → Mem (conjugate_list n ◌·◌ e own g)
+            (keys (cond b (witnesses n ◌·◌ e own k) (record { subgroup = conjugate_list n ◌·◌ e own k; conjugator = k } ∷ witnesses n ◌·◌ e own k)))
         by true before q = elim (ℕ_discrete g k) [ yes p ↦ rw p (has-it q) | no p ↦ before (omega arith) ]
-        by false before q = elim (ℕ_discrete g k) [ yes p ↦ here (ap (conjugateList n ◌·◌ e own) p) | no p ↦ there (before (omega arith)) ]
+        by false before q = elim (ℕ_discrete g k) [ yes p ↦ here (ap (conjugate_list n ◌·◌ e own) p) | no p ↦ there (before (omega arith)) ]
 
     -- a witness is the first one, or one of another conjugate
     witness-source : (k : ℕ) (w : Witnessed) → Mem w (witnesses n ◌·◌ e own k) → (w ≡ record { subgroup = own; conjugator = e }) ⊎ Other k w
     unfolding witnesses
     witness-source zero w m = elim (cases m) [ inl q ↦ inl q | inr j ↦ absurd (not-nil j) ]
-    witness-source (suc k) w m = by (has same_list (conjugateList n ◌·◌ e own k) (keys (witnesses n ◌·◌ e own k))) (λ i. witness-source k w i) refl m
+    witness-source (suc k) w m = by (has same_list (conjugate_list n ◌·◌ e own k) (keys (witnesses n ◌·◌ e own k))) (λ i. witness-source k w i) refl m
       where
         later : (w ≡ record { subgroup = own; conjugator = e }) ⊎ Other k w → (w ≡ record { subgroup = own; conjugator = e }) ⊎ Other (suc k) w
         later (inl q) = inl q
         later (inr O) = inr (record { below = let l = O.below in omega arith; made = O.made; other = O.other; first = O.first })
 
         by : (b : Bool) → (Mem w (witnesses n ◌·◌ e own k) → (w ≡ record { subgroup = own; conjugator = e }) ⊎ Other k w)
-            → has same_list (conjugateList n ◌·◌ e own k) (keys (witnesses n ◌·◌ e own k)) ≡ b
-            → Mem w (cond b (witnesses n ◌·◌ e own k) (record { subgroup = conjugateList n ◌·◌ e own k; conjugator = k } ∷ witnesses n ◌·◌ e own k))
+            → has same_list (conjugate_list n ◌·◌ e own k) (keys (witnesses n ◌·◌ e own k)) ≡ b
+            → Mem w (cond b (witnesses n ◌·◌ e own k) (record { subgroup = conjugate_list n ◌·◌ e own k; conjugator = k } ∷ witnesses n ◌·◌ e own k))
             → (w ≡ record { subgroup = own; conjugator = e }) ⊎ Other (suc k) w
         by true before q i = later (before i)
         by false before q i = elim (cases i) [
@@ -232,7 +232,7 @@ module _ (n : ℕ) (◌·◌ : ℕ → ℕ → ℕ) (e : ℕ) (G : Group n ◌·
 
     -- what has a witness are the lists of the conjugates
     pub witnessed-conjugates : (s : ℕ) → s < 2 ^ n
-        → Mem (members n s) (keys (witnesses n ◌·◌ e (members n h) n)) ↔ ((g : ℕ) × (g < n) × (conjugateOf n ◌·◌ e h g ≡ s))
+        → Mem (members n s) (keys (witnesses n ◌·◌ e (members n h) n)) ↔ ((g : ℕ) × (g < n) × (conjugate_of n ◌·◌ e h g ≡ s))
     witnessed-conjugates s small = (
       λ m.
           let (w, k, p) = mem-of-map (λ (w : Witnessed). w.subgroup) (witnesses n ◌·◌ e own n) m in
@@ -254,22 +254,22 @@ module _ (n : ℕ) (◌·◌ : ℕ → ℕ → ℕ) (e : ℕ) (G : Group n ◌·
 
     -- a conjugate with our conjugator
     abbrev ours : ℕ → Witnessed
-    ours s = record { subgroup = members n s; conjugator = conjugatorOf n ◌·◌ e h s }
+    ours s = record { subgroup = members n s; conjugator = conjugator_of n ◌·◌ e h s }
 
     -- our conjugates with their conjugators
-    abbrev ourConjugates : List Witnessed
-    ourConjugates = record { subgroup = own; conjugator = e } ∷ map ours (othersOf n ◌·◌ e h)
+    abbrev our_conjugates : List Witnessed
+    our_conjugates = record { subgroup = own; conjugator = e } ∷ map ours (others_of n ◌·◌ e h)
 
     -- the set of another conjugate
-    other-set : (w : Witnessed) → Other n w → (s : ℕ) × (w ≡ ours s) × Mem s (othersOf n ◌·◌ e h)
-    unfolding conjugatesOf
+    other-set : (w : Witnessed) → Other n w → (s : ℕ) × (w ≡ ours s) × Mem s (others_of n ◌·◌ e h)
+    unfolding conjugates_of
     other-set w O =
         let g = w.conjugator in
         let l = O.below in
-        let s = conjugateOf n ◌·◌ e h g in
+        let s = conjugate_of n ◌·◌ e h g in
         let listed : w.subgroup ≡ members n s = O.made ∙ conjugate-as-sorted h g H.small l in
         let (low, q, least) = smallest-conjugator n ◌·◌ e h G H s g l refl in
-        let c = conjugatorOf n ◌·◌ e h s in
+        let c = conjugator_of n ◌·◌ e h s in
         let same : g ≡ c = elim (dec_lt g c) [
           | yes a ↦ absurd (least g a refl)
           | no a ↦ elim (dec_lt c g) [
@@ -286,19 +286,19 @@ module _ (n : ℕ) (◌·◌ : ℕ → ℕ → ℕ) (e : ℕ) (G : Group n ◌·
         )
 
     -- each witness is ours
-    witness-ours : (w : Witnessed) → Mem w (witnesses n ◌·◌ e own n) → Mem w ourConjugates
+    witness-ours : (w : Witnessed) → Mem w (witnesses n ◌·◌ e own n) → Mem w our_conjugates
     witness-ours w m = elim (witness-source n w m) [
       | inl q ↦ here q
       | inr O ↦ let (s, q, k) = other-set w O in there (mem-cast q (mem-map ours k))
     ]
 
     -- and each of ours is a witness
-    ours-witness : (w : Witnessed) → Mem w ourConjugates → Mem w (witnesses n ◌·◌ e own n)
-    unfolding conjugatesOf
+    ours-witness : (w : Witnessed) → Mem w our_conjugates → Mem w (witnesses n ◌·◌ e own n)
+    unfolding conjugates_of
     ours-witness w m = elim (cases m) [
       | inl q ↦ mem-cast q (witness-first n)
       | inr k ↦
-          let (s, j, p) = mem-of-map ours (othersOf n ◌·◌ e h) k in
+          let (s, j, p) = mem-of-map ours (others_of n ◌·◌ e h) k in
           let (g, l, q) = listed-conjugate n ◌·◌ e h G H s (there j) in
           let small : s < 2 ^ n = rw (← q) (conjugate-below n ◌·◌ e G h g) in
           let (v, i, r) = mem-of-map (λ (w : Witnessed). w.subgroup) (witnesses n ◌·◌ e own n) (witness-each n g l) in
@@ -329,8 +329,8 @@ module _ (n : ℕ) (◌·◌ : ℕ → ℕ → ℕ) (e : ℕ) (G : Group n ◌·
         follow v w u (inr (p, d)) (inr (r, f)) = inr ((λ m. r.0 (p.0 m), λ m. p.1 (r.1 m)), lexicographic-transitive _ _ _ d f)
 
     -- another conjugate: as long a list as h, and not that of h
-    others-known : (s : ℕ) → Mem s (othersOf n ◌·◌ e h) → (s < 2 ^ n) × (length (members n s) ≡ length own) × (members n s ≢ own)
-    unfolding conjugatesOf
+    others-known : (s : ℕ) → Mem s (others_of n ◌·◌ e h) → (s < 2 ^ n) × (length (members n s) ≡ length own) × (members n s ≢ own)
+    unfolding conjugates_of
     others-known s m =
         let (g, l, q) = listed-conjugate n ◌·◌ e h G H s (there m) in
         let small : s < 2 ^ n = rw (← q) (conjugate-below n ◌·◌ e G h g) in
@@ -339,7 +339,7 @@ module _ (n : ℕ) (◌·◌ : ℕ → ℕ → ℕ) (e : ℕ) (G : Group n ◌·
         (small, long, λ p. others-other n ◌·◌ e h G H s m (members-injective n s h small H.small p))
 
     -- the others are in the order of the key
-    others-in-order : {l : List ℕ} → ((s : ℕ) → Mem s l → Mem s (othersOf n ◌·◌ e h)) → Sorted Precedes l → Sorted (KeyBefore own) (map ours l)
+    others-in-order : {l : List ℕ} → ((s : ℕ) → Mem s l → Mem s (others_of n ◌·◌ e h)) → Sorted Precedes l → Sorted (KeyBefore own) (map ours l)
     others-in-order inside sorted-nil = sorted-nil
     others-in-order inside (sorted-cons {x} {l} first rest) = sorted-cons {x = ours x}
         (λ w m.
@@ -352,24 +352,24 @@ module _ (n : ℕ) (◌·◌ : ℕ → ℕ → ℕ) (e : ℕ) (G : Group n ◌·
         (others-in-order (λ s m. inside s (there m)) rest)
 
     -- so are our conjugates
-    ours-sorted : Sorted (KeyBefore own) ourConjugates
+    ours-sorted : Sorted (KeyBefore own) our_conjugates
     ours-sorted = sorted-cons
         (λ w m.
-        let (t, k, p) = mem-of-map ours (othersOf n ◌·◌ e h) m in
+        let (t, k, p) = mem-of-map ours (others_of n ◌·◌ e h) m in
         subst (λ (w : Witnessed). KeyBefore own (record { subgroup = own; conjugator = e }) w) p (inl (refl, (others-known t k).2)))
         (others-in-order (λ s m. m) (others-sorted n ◌·◌ e h G H))
 
     -- The Rust's conjugates of a class exist, and
-    pub conjugates-exist : ClassConjugates n ◌·◌ e own ourConjugates
+    pub conjugates-exist : ClassConjugates n ◌·◌ e own our_conjugates
     conjugates-exist = record { sorted = ours-sorted; same = λ w. (ours-witness w, witness-ours w) }
 
     -- they are our conjugates, and their witnesses are our conjugators.
     pub conjugates-as-sorted : (l : List Witnessed) → ClassConjugates n ◌·◌ e (members n h) l
-        → (keys l ≡ map (members n) (conjugatesOf n ◌·◌ e h)) × (map (λ (w : Witnessed). w.conjugator) l ≡ conjugatorsOf n ◌·◌ e h)
-    unfolding conjugatesOf conjugatorsOf
+        → (keys l ≡ map (members n) (conjugates_of n ◌·◌ e h)) × (map (λ (w : Witnessed). w.conjugator) l ≡ conjugators_of n ◌·◌ e h)
+    unfolding conjugates_of conjugators_of
     conjugates-as-sorted l L =
-        let same : l ≡ ourConjugates =
+        let same : l ≡ our_conjugates =
         unique (KeyBefore own) key-order L.sorted ours-sorted (λ w m. witness-ours w ((L.same w).0 m)) (λ w m. (L.same w).1 (ours-witness w m)) in (
-          ap keys same ∙ ap (λ (m : List (List ℕ)). own ∷ m) (map_both (λ (w : Witnessed). w.subgroup) ours (othersOf n ◌·◌ e h)),
-          ap (map (λ (w : Witnessed). w.conjugator)) same ∙ ap (λ (m : List ℕ). e ∷ m) (map_both (λ (w : Witnessed). w.conjugator) ours (othersOf n ◌·◌ e h)),
+          ap keys same ∙ ap (λ (m : List (List ℕ)). own ∷ m) (map_both (λ (w : Witnessed). w.subgroup) ours (others_of n ◌·◌ e h)),
+          ap (map (λ (w : Witnessed). w.conjugator)) same ∙ ap (λ (m : List ℕ). e ∷ m) (map_both (λ (w : Witnessed). w.conjugator) ours (others_of n ◌·◌ e h)),
         )

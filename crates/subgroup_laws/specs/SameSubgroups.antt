@@ -34,8 +34,8 @@ use Rattle.subgroup_laws.specs.Adjoin.{Extension, trivial-subgroup}
 use Rattle.subgroup_laws.specs.Bounded.{some, passes-some, some-passes}
 use Rattle.subgroup_laws.specs.Groups.{Group}
 use Rattle.subgroup_laws.specs.ListedSubgroups.{only-subgroups, subgroup-listed, subgroups-sorted}
-use Rattle.subgroup_laws.specs.Lists.{subgroupsOf}
-use Rattle.subgroup_laws.specs.RustProcedures.{same_list, isProduct, round, rounds, firstMarked, generatedSubgroup, Progress, tried, triedBelow, Searched, ended, taken, EnumeratedSubgroups}
+use Rattle.subgroup_laws.specs.Lists.{subgroups_of}
+use Rattle.subgroup_laws.specs.RustProcedures.{same_list, is_product, round, rounds, first_marked, generated_subgroup, Progress, tried, tried_below, Searched, ended, taken, EnumeratedSubgroups}
 use Rattle.subgroup_laws.specs.Search.{Settled, Complete, own-extension, listed-itself, complete-listed}
 use Rattle.subgroup_laws.specs.SubgroupLaws.{closed-set}
 use Rattle.subgroup_laws.specs.Subsets.{Subgroup}
@@ -162,15 +162,15 @@ module _ (n : ℕ) (◌·◌ : ℕ → ℕ → ℕ) (e : ℕ) (G : Group n ◌·
   ones-elements s small = omega (arith, ones_below n s small, ones_in-most n s)
 
   -- the product of marked elements is one
-  product_found : (m x y : ℕ) → x < n → y < n → member m x ≡ true → member m y ≡ true → isProduct n ◌·◌ e m (x · y) ≡ true
-  unfolding isProduct
+  product_found : (m x y : ℕ) → x < n → y < n → member m x ≡ true → member m y ≡ true → is_product n ◌·◌ e m (x · y) ≡ true
+  unfolding is_product
   product_found m x y h k i j =
       passes-some (λ x'. member m x' && some (λ y'. member m y' && eqb (x' · y') (x · y)) n) n x h
       (both-and _ _ i (passes-some (λ y'. member m y' && eqb (x · y') (x · y)) n y k (both-and _ _ j (eq-eqb (x · y) (x · y) refl))))
 
   -- and what is one is such a product
-  found-product : (m z : ℕ) → isProduct n ◌·◌ e m z ≡ true → (x y : ℕ) × (member m x ≡ true) × (member m y ≡ true) × (x · y ≡ z)
-  unfolding isProduct
+  found-product : (m z : ℕ) → is_product n ◌·◌ e m z ≡ true → (x y : ℕ) × (member m x ≡ true) × (member m y ≡ true) × (x · y ≡ z)
+  unfolding is_product
   found-product m z p =
       let (x, k, q) = some-passes (λ x'. member m x' && some (λ y'. member m y' && eqb (x' · y') z) n) n p in
       let (mx, r) = and_both (member m x) (some (λ y'. member m y' && eqb (x · y') z) n) q in
@@ -181,12 +181,12 @@ module _ (n : ℕ) (◌·◌ : ℕ → ℕ → ℕ) (e : ℕ) (G : Group n ◌·
   -- a round's marks are elements
   round-below : (m : ℕ) → round n ◌·◌ e m < 2 ^ n
   unfolding round
-  round-below m = set_of-below n (λ z. member m z || isProduct n ◌·◌ e m z)
+  round-below m = set_of-below n (λ z. member m z || is_product n ◌·◌ e m z)
 
   -- what a round marks
-  round-member : (m z : ℕ) → z < n → member (round n ◌·◌ e m) z ≡ (member m z || isProduct n ◌·◌ e m z)
+  round-member : (m z : ℕ) → z < n → member (round n ◌·◌ e m) z ≡ (member m z || is_product n ◌·◌ e m z)
   unfolding round
-  round-member m z h = member-set_of n (λ z. member m z || isProduct n ◌·◌ e m z) z h
+  round-member m z h = member-set_of n (λ z. member m z || is_product n ◌·◌ e m z) z h
 
   -- old marks stay
   round-over : (m : ℕ) → m < 2 ^ n → Subset m (round n ◌·◌ e m)
@@ -203,7 +203,7 @@ module _ (n : ℕ) (◌·◌ : ℕ → ℕ → ℕ) (e : ℕ) (G : Group n ◌·
   round-inside : (m u : ℕ) → Subgroup n ◌·◌ e u → Subset m u → Subset (round n ◌·◌ e m) u
   round-inside m u U inside z i =
       let h = member_below n (round n ◌·◌ e m) z (round-below m) i in
-      elim (or-either (member m z) (isProduct n ◌·◌ e m z) (sym (round-member m z h) ∙ i)) [
+      elim (or-either (member m z) (is_product n ◌·◌ e m z) (sym (round-member m z h) ∙ i)) [
         | inl old ↦ inside z old
         | inr new ↦
             let (x, y, mx, my, q) = found-product m z new in
@@ -246,16 +246,16 @@ module _ (n : ℕ) (◌·◌ : ℕ → ℕ → ℕ) (e : ℕ) (G : Group n ◌·
   module _ (h g : ℕ) (H : Subgroup n ◌·◌ e h) (l : g < n) where
     -- the first marks
     abbrev start : ℕ
-    start = firstMarked n ◌·◌ e (members n h) g
+    start = first_marked n ◌·◌ e (members n h) g
 
     -- they are elements
     start-below : start < 2 ^ n
-    unfolding firstMarked
+    unfolding first_marked
     start-below = set_of-below n (λ x. eqb x e || (eqb x g || has eqb x (members n h)))
 
     -- which ones
     start-member : (x : ℕ) → x < n → member start x ≡ (eqb x e || (eqb x g || has eqb x (members n h)))
-    unfolding firstMarked
+    unfolding first_marked
     start-member x k = member-set_of n (λ x. eqb x e || (eqb x g || has eqb x (members n h))) x k
 
     -- the identity
@@ -285,25 +285,25 @@ module _ (n : ℕ) (◌·◌ : ℕ → ℕ → ℕ) (e : ℕ) (G : Group n ◌·
         ]
 
     -- the set that is generated
-    abbrev pub generatedSet : ℕ
-    generatedSet = rounds n ◌·◌ e n start
+    abbrev pub generated_set : ℕ
+    generated_set = rounds n ◌·◌ e n start
 
     -- the Rust's generated subgroup is the least subgroup over h that holds g
-    pub generated-extension : Extension n ◌·◌ e h g generatedSet
+    pub generated-extension : Extension n ◌·◌ e h g generated_set
     generated-extension =
         let (small, over) = rounds-over n start start-below in
         let still = rounds-still n start start-below (omega arith) in
         record {
-          subgroup = closed-set n ◌·◌ e G generatedSet small (over e start-identity)
-              (λ x y i j. subst (λ (s : ℕ). member s (x · y) ≡ true) still (round-products generatedSet x y small i j));
+          subgroup = closed-set n ◌·◌ e G generated_set small (over e start-identity)
+              (λ x y i j. subst (λ (s : ℕ). member s (x · y) ≡ true) still (round-products generated_set x y small i j));
           over = λ x i. over x (start-old x i);
           adjoined = over g start-new;
           least = λ u U old new. rounds-inside n start u U (start-inside u U old new);
         }
 
     -- as a list
-    pub generated-list : generatedSubgroup n ◌·◌ e (members n h) g ≡ members n generatedSet
-    unfolding generatedSubgroup
+    pub generated-list : generated_subgroup n ◌·◌ e (members n h) g ≡ members n generated_set
+    unfolding generated_subgroup
     generated-list = refl
 
   -- ---- the search
@@ -314,7 +314,7 @@ module _ (n : ℕ) (◌·◌ : ℕ → ℕ → ℕ) (e : ℕ) (G : Group n ◌·
 
   -- what the elements below k generate with x was seen, unless x holds them
   abbrev Settles : List (List ℕ) → List ℕ → ℕ → Type 0
-  Settles seen x k = (g : ℕ) → g < k → (Mem g x → ⊥) → Mem (generatedSubgroup n ◌·◌ e x g) seen
+  Settles seen x k = (g : ℕ) → g < k → (Mem g x → ⊥) → Mem (generated_subgroup n ◌·◌ e x g) seen
 
   -- subgroups were seen, each once, and each waits, is the busy one, or is done with
   record Exploring (Busy : List ℕ → Type 0) (seen queue : List (List ℕ)) : Type 0 where
@@ -332,11 +332,11 @@ module _ (n : ℕ) (◌·◌ : ℕ → ℕ → ℕ) (e : ℕ) (G : Group n ◌·
     balance : length q.seen + length p.queue ≡ length p.seen + length q.queue
 
   -- what a known list and an element generate is known
-  generated-known : (h : List ℕ) (g : ℕ) → g < n → Known h → Known (generatedSubgroup n ◌·◌ e h g)
-  generated-known h g l (s, S, q) = (generatedSet s g S l, (generated-extension s g S l).subgroup, rw q (generated-list s g S l))
+  generated-known : (h : List ℕ) (g : ℕ) → g < n → Known h → Known (generated_subgroup n ◌·◌ e h g)
+  generated-known h g l (s, S, q) = (generated_set s g S l, (generated-extension s g S l).subgroup, rw q (generated-list s g S l))
 
   -- one more settled element
-  settles-next : (seen : List (List ℕ)) (h : List ℕ) (k : ℕ) → Settles seen h k → ((Mem k h → ⊥) → Mem (generatedSubgroup n ◌·◌ e h k) seen)
+  settles-next : (seen : List (List ℕ)) (h : List ℕ) (k : ℕ) → Settles seen h k → ((Mem k h → ⊥) → Mem (generated_subgroup n ◌·◌ e h k) seen)
       → Settles seen h (suc k)
   settles-next seen h k S last g l new = elim (ℕ_discrete g k) [
     | yes q ↦ rw q (last (rw q at new))
@@ -346,11 +346,11 @@ module _ (n : ℕ) (◌·◌ : ℕ → ℕ → ℕ) (e : ℕ) (G : Group n ◌·
   -- the next element is tried
   tried-next : (h : List ℕ) (k : ℕ) (p q : Progress) → k < n → Known h → Tried h k p q → Tried h (suc k) p (tried n ◌·◌ e h k q)
   unfolding tried
-  tried-next h k p q l K A = by (has eqb k h) (has same_list (generatedSubgroup n ◌·◌ e h k) q.seen) refl refl
+  tried-next h k p q l K A = by (has eqb k h) (has same_list (generated_subgroup n ◌·◌ e h k) q.seen) refl refl
     where
-      by : (a b : Bool) → has eqb k h ≡ a → has same_list (generatedSubgroup n ◌·◌ e h k) q.seen ≡ b
+      by : (a b : Bool) → has eqb k h ≡ a → has same_list (generated_subgroup n ◌·◌ e h k) q.seen ≡ b
           → Tried h (suc k) p
-          (cond (a || b) q (record { seen = generatedSubgroup n ◌·◌ e h k ∷ q.seen; queue = q.queue ++ generatedSubgroup n ◌·◌ e h k ∷ [] }))
+          (cond (a || b) q (record { seen = generated_subgroup n ◌·◌ e h k ∷ q.seen; queue = q.queue ++ generated_subgroup n ◌·◌ e h k ∷ [] }))
       by true b a-is b-is = record {
         exploring = A.exploring;
         settles = settles-next q.seen h k A.settles (λ none. absurd (none (has→Mem eqb eqb-decides (rw a-is tt))));
@@ -368,29 +368,29 @@ module _ (n : ℕ) (◌·◌ : ℕ → ℕ → ℕ) (e : ℕ) (G : Group n ◌·
           trivial = there A.exploring.trivial;
           known = λ x m. elim (cases m) [ inl w ↦ rw w (generated-known h k l K) | inr i ↦ A.exploring.known x i ];
           distinct = cons (λ t. true≢false (sym (T_true t) ∙ b-is)) A.exploring.distinct;
-          queued = λ x m. elim (append_cases q.queue {t = generatedSubgroup n ◌·◌ e h k ∷ []} m) [
+          queued = λ x m. elim (append_cases q.queue {t = generated_subgroup n ◌·◌ e h k ∷ []} m) [
             | inl i ↦ there (A.exploring.queued x i)
             | inr i ↦ elim (cases i) [ inl w ↦ here w | inr j ↦ absurd (not-nil j) ]
           ];
           settled = λ x m. elim (cases m) [
             | inl w ↦ inl (mem-right q.queue (here w))
             | inr i ↦ elim (A.exploring.settled x i) [
-              | inl j ↦ inl (mem-left (generatedSubgroup n ◌·◌ e h k ∷ []) j)
+              | inl j ↦ inl (mem-left (generated_subgroup n ◌·◌ e h k ∷ []) j)
               | inr j ↦ inr (elim j [ inl w ↦ inl w | inr S ↦ inr (λ g m none. there (S g m none)) ])
             ]
           ];
         };
-        settles = settles-next (generatedSubgroup n ◌·◌ e h k ∷ q.seen) h k (λ g m none. there (A.settles g m none)) (λ none. here refl);
+        settles = settles-next (generated_subgroup n ◌·◌ e h k ∷ q.seen) h k (λ g m none. there (A.settles g m none)) (λ none. here refl);
         grown = let c = A.grown in omega arith;
-        balance = let c = A.balance in let d = length-append q.queue (generatedSubgroup n ◌·◌ e h k ∷ []) in omega arith;
+        balance = let c = A.balance in let d = length-append q.queue (generated_subgroup n ◌·◌ e h k ∷ []) in omega arith;
       }
 
   -- all elements are tried
   tried-below : (h : List ℕ) (p : Progress) → Known h → Exploring (λ x. x ≡ h) p.seen p.queue
-      → (k : ℕ) → k ≤ n → Tried h k p (triedBelow n ◌·◌ e h k p)
-  unfolding triedBelow
+      → (k : ℕ) → k ≤ n → Tried h k p (tried_below n ◌·◌ e h k p)
+  unfolding tried_below
   tried-below h p K E zero l = record { exploring = E; settles = λ g m. absurd (omega arith); grown = omega arith; balance = omega arith }
-  tried-below h p K E (suc k) l = tried-next h k p (triedBelow n ◌·◌ e h k p) (omega arith) K (tried-below h p K E k (omega arith))
+  tried-below h p K E (suc k) l = tried-next h k p (tried_below n ◌·◌ e h k p) (omega arith) K (tried-below h p K E k (omega arith))
 
   -- none is busy
   abbrev Idle : List ℕ → Type 0
@@ -424,7 +424,7 @@ module _ (n : ℕ) (◌·◌ : ℕ → ℕ → ℕ) (e : ℕ) (G : Group n ◌·
 
   -- one turn of the loop
   turn : {seen queue : List (List ℕ)} (h : List ℕ) → Exploring Idle seen (h ∷ queue)
-      → Tried h n (record { seen = seen; queue = queue }) (triedBelow n ◌·◌ e h n (record { seen = seen; queue = queue }))
+      → Tried h n (record { seen = seen; queue = queue }) (tried_below n ◌·◌ e h n (record { seen = seen; queue = queue }))
   turn {seen} {queue} h E = tried-below h (record { seen = seen; queue = queue }) (E.known h (E.queued h (here refl))) (take-first h E) n (omega arith)
 
   -- what holds when the queue is empty
@@ -474,7 +474,7 @@ module _ (n : ℕ) (◌·◌ : ℕ → ℕ → ℕ) (e : ℕ) (G : Group n ◌·
               | inl none ↦ absurd none
               | inr S ↦
                   let X = generated-extension h g H l in
-                  let k = generatedSet h g H l in
+                  let k = generated_set h g H l in
                   let new = S g l (λ j. true≢false (sym (listed-member n h g j).1 ∙ o)) in
                   let small = X.subgroup.small in
                   inl (k, X, listed-itself n ◌·◌ e false G (numbers all) k small (seen-number k small (rw (generated-list h g H l) at new)))
@@ -498,23 +498,23 @@ module _ (n : ℕ) (◌·◌ : ℕ → ℕ → ℕ) (e : ℕ) (G : Group n ◌·
   -- ---- the list
 
   -- our list, as lists of elements
-  abbrev pub subgroupLists : List (List ℕ)
-  subgroupLists = map (members n) (subgroupsOf n ◌·◌ e)
+  abbrev pub subgroup_lists : List (List ℕ)
+  subgroup_lists = map (members n) (subgroups_of n ◌·◌ e)
 
   -- the lists of subgroups are in it
-  lists-hold : (s : ℕ) → Subgroup n ◌·◌ e s → Mem (members n s) subgroupLists
+  lists-hold : (s : ℕ) → Subgroup n ◌·◌ e s → Mem (members n s) subgroup_lists
   lists-hold s S = mem-map (members n) (subgroup-listed n ◌·◌ e G s S)
 
   -- and no others
-  lists-known : (x : List ℕ) → Mem x subgroupLists → Known x
-  lists-known x m = let (s, k, p) = mem-of-map (members n) (subgroupsOf n ◌·◌ e) m in (s, only-subgroups n ◌·◌ e G s k, sym p)
+  lists-known : (x : List ℕ) → Mem x subgroup_lists → Known x
+  lists-known x m = let (s, k, p) = mem-of-map (members n) (subgroups_of n ◌·◌ e) m in (s, only-subgroups n ◌·◌ e G s k, sym p)
 
   -- it is in the order of the Rust's sort
-  lists-sorted : Sorted LongerOrSmaller subgroupLists
+  lists-sorted : Sorted LongerOrSmaller subgroup_lists
   lists-sorted = members-in-order n (λ s m. (only-subgroups n ◌·◌ e G s m).small) (subgroups-sorted n ◌·◌ e G)
 
   -- The list that the Rust's search gives is our list of subgroups.
-  pub subgroups-as-enumerated : (l : List (List ℕ)) → EnumeratedSubgroups n ◌·◌ e l → l ≡ map (members n) (subgroupsOf n ◌·◌ e)
+  pub subgroups-as-enumerated : (l : List (List ℕ)) → EnumeratedSubgroups n ◌·◌ e l → l ≡ map (members n) (subgroups_of n ◌·◌ e)
   subgroups-as-enumerated l L = unique LongerOrSmaller longer-strict L.sorted lists-sorted
       (λ x m. let (s, S, q) = E.known x ((L.same x).0 m) in rw q (lists-hold s S))
       (λ x m. let (s, S, q) = lists-known x m in (L.same x).1 (rw q (every-seen L.seen E s S)))
@@ -525,15 +525,15 @@ module _ (n : ℕ) (◌·◌ : ℕ → ℕ → ℕ) (e : ℕ) (G : Group n ◌·
   -- ---- the search ends
 
   -- no more is seen than there are subgroups
-  seen-bounded : {seen queue : List (List ℕ)} → Exploring Idle seen queue → length seen ≤ length (subgroupsOf n ◌·◌ e)
+  seen-bounded : {seen queue : List (List ℕ)} → Exploring Idle seen queue → length seen ≤ length (subgroups_of n ◌·◌ e)
   seen-bounded {seen} E =
-      let q = length-map (subgroupsOf n ◌·◌ e) (members n) in
-      let h = pigeonhole same_list (equality-equivalence same_list lists-decided) E.distinct subgroupLists
+      let q = length-map (subgroups_of n ◌·◌ e) (members n) in
+      let h = pigeonhole same_list (equality-equivalence same_list lists-decided) E.distinct subgroup_lists
       (λ x m. let (s, S, p) = E.known x m in Mem→has same_list (equality-equivalence same_list lists-decided) (rw p (lists-hold s S))) in
       omega arith
 
   -- each turn takes one from the queue, and puts one there only where one more is seen
-  search-from : (fuel : ℕ) (seen queue : List (List ℕ)) → Exploring Idle seen queue → 2 * length (subgroupsOf n ◌·◌ e) + length queue ≤ fuel + 2 * length seen
+  search-from : (fuel : ℕ) (seen queue : List (List ℕ)) → Exploring Idle seen queue → 2 * length (subgroups_of n ◌·◌ e) + length queue ≤ fuel + 2 * length seen
       → (all : List (List ℕ)) × Searched n ◌·◌ e seen queue all
   search-from zero seen [] E enough = (seen, ended)
   search-from zero seen (h ∷ queue) E enough = absurd (let b = seen-bounded E in omega arith)
@@ -543,14 +543,14 @@ module _ (n : ℕ) (◌·◌ : ℕ → ℕ → ℕ) (e : ℕ) (G : Group n ◌·
       let b = seen-bounded (all-tried A) in
       let c = A.balance in
       let d = A.grown in
-      let next = triedBelow n ◌·◌ e h n (record { seen = seen; queue = queue }) in
+      let next = tried_below n ◌·◌ e h n (record { seen = seen; queue = queue }) in
       let (all, S) = search-from fuel next.seen next.queue (all-tried A) (omega arith) in
       (all, taken h S)
 
   -- So there is such a list: the search ends.
-  pub search-ends : EnumeratedSubgroups n ◌·◌ e (map (members n) (subgroupsOf n ◌·◌ e))
+  pub search-ends : EnumeratedSubgroups n ◌·◌ e (map (members n) (subgroups_of n ◌·◌ e))
   search-ends =
-      let (all, S) = search-from (2 * length (subgroupsOf n ◌·◌ e) + 1) ((e ∷ []) ∷ []) ((e ∷ []) ∷ []) explore-start (omega arith) in
+      let (all, S) = search-from (2 * length (subgroups_of n ◌·◌ e) + 1) ((e ∷ []) ∷ []) ((e ∷ []) ∷ []) explore-start (omega arith) in
       let E = search-explored S explore-start in
       record {
         seen = all;

@@ -25,10 +25,10 @@ use Rattle.laws.specs.Indices.{member-at}
 use Rattle.subgroup_laws.specs.Adjoin.{Barred, Extension}
 use Rattle.subgroup_laws.specs.Bounded.{FirstPassing, first-cases}
 use Rattle.subgroup_laws.specs.Conjugation.{conjugate-ones, conjugate-subset, conjugate-set-by-identity, conjugate-set-twice, conjugate-set-back, conjugate-set-forth, conjugate-subgroup, inverse-below}
-use Rattle.subgroup_laws.specs.Groups.{Group, inverseOf}
+use Rattle.subgroup_laws.specs.Groups.{Group, inverse_of}
 use Rattle.subgroup_laws.specs.Lists.{Chosen}
 use Rattle.subgroup_laws.specs.Slots.{Place, packed, bytes_of, moved_up, slot_at, Words, slot-packed, insert_at, inserted}
-use Rattle.subgroup_laws.specs.Subsets.{Subgroup, conjugateOf}
+use Rattle.subgroup_laws.specs.Subsets.{Subgroup, conjugate_of}
 
 -- ---- lists
 
@@ -127,7 +127,7 @@ module _ (n : ℕ) (◌·◌ : ℕ → ℕ → ℕ) (e : ℕ) (classes : Bool) w
     pub listed : Mem set l
     pub conjugator : ℕ
     pub below : conjugator < n
-    pub conjugate : k ≡ conjugateOf n ◌·◌ e set conjugator
+    pub conjugate : k ≡ conjugate_of n ◌·◌ e set conjugator
     pub same : classes ≡ false → conjugator ≡ e
 
   -- the extension of h by g is listed; or it may be passed over, as it holds a new element below g
@@ -278,7 +278,7 @@ module _ (n : ℕ) (◌·◌ : ℕ → ℕ → ℕ) (e : ℕ) (classes : Bool) w
         conjugator : ℕ
         below : conjugator < n
         same : classes ≡ false → conjugator ≡ e
-        within : Subset (conjugateOf n ◌·◌ e set conjugator) S
+        within : Subset (conjugate_of n ◌·◌ e set conjugator) S
 
       -- the trivial subgroup lies inside
       inside-start : Inside
@@ -307,7 +307,7 @@ module _ (n : ℕ) (◌·◌ : ℕ → ℕ → ℕ) (e : ℕ) (classes : Bool) w
 
         -- and the way back
         abbrev back : ℕ
-        back = inverseOf n ◌·◌ e mover
+        back = inverse_of n ◌·◌ e mover
 
         -- the way back is an element
         back_below : back < n
@@ -319,7 +319,7 @@ module _ (n : ℕ) (◌·◌ : ℕ → ℕ → ℕ) (e : ℕ) (classes : Bool) w
 
         -- S moved back
         abbrev behind : ℕ
-        behind = conjugateOf n ◌·◌ e S back
+        behind = conjugate_of n ◌·◌ e S back
 
         -- it is a subgroup
         behind-subgroup : Subgroup n ◌·◌ e behind
@@ -331,24 +331,24 @@ module _ (n : ℕ) (◌·◌ : ℕ → ℕ → ℕ) (e : ℕ) (classes : Bool) w
             (conjugate-subset n ◌·◌ e G _ S back T.small back_below I.within)
 
         -- an element that S, moved back, has more than the listed set
-        abbrev isMore : ℕ → Bool
-        isMore j = member behind j && not (member old j)
+        abbrev is_more : ℕ → Bool
+        is_more j = member behind j && not (member old j)
 
         -- without one the listed set is S, moved back
-        none_more : ((j : ℕ) → j < n → isMore j ≡ false) → S ≡ conjugateOf n ◌·◌ e old mover
+        none_more : ((j : ℕ) → j < n → is_more j ≡ false) → S ≡ conjugate_of n ◌·◌ e old mover
         none_more none =
             sym (conjugate-set-forth n ◌·◌ e G S mover T.small I.below)
-            ∙ ap (λ (s : ℕ). conjugateOf n ◌·◌ e s mover) (subset-antisymmetric behind old
+            ∙ ap (λ (s : ℕ). conjugate_of n ◌·◌ e s mover) (subset-antisymmetric behind old
             (λ j m. held j m (none j (member_below n behind j behind-subgroup.small m))) old-behind)
           where
-            held : (j : ℕ) → member behind j ≡ true → isMore j ≡ false → member old j ≡ true
+            held : (j : ℕ) → member behind j ≡ true → is_more j ≡ false → member old j ≡ true
             held j m f = elim (passes-or-fails (member old j)) [
               | inl i ↦ i
               | inr o ↦ absurd (true≢false (sym (both-and _ _ m (ap not o)) ∙ f))
             ]
 
         -- with a lowest one the extension by it is not passed over, is listed, and lies inside too
-        module _ (i : ℕ) (F : FirstPassing isMore n i) where
+        module _ (i : ℕ) (F : FirstPassing is_more n i) where
           -- it is one of S, moved back
           more-held : member behind i ≡ true
           more-held = (and_both (member behind i) (not (member old i)) F.passes).0
@@ -375,12 +375,12 @@ module _ (n : ℕ) (◌·◌ : ℕ → ℕ → ℕ) (e : ℕ) (classes : Bool) w
               small-set : L.set < 2 ^ n
               small-set = (C.chosen _ L.listed).subgroup.small
 
-              whole : conjugateOf n ◌·◌ e L.set (L.conjugator · mover) ≡ conjugateOf n ◌·◌ e k mover
+              whole : conjugate_of n ◌·◌ e L.set (L.conjugator · mover) ≡ conjugate_of n ◌·◌ e k mover
               whole = sym (conjugate-set-twice n ◌·◌ e G L.set L.conjugator mover small-set L.below I.below)
-                  ∙ ap (λ (s : ℕ). conjugateOf n ◌·◌ e s mover) (sym L.conjugate)
+                  ∙ ap (λ (s : ℕ). conjugate_of n ◌·◌ e s mover) (sym L.conjugate)
 
-              inner : Subset (conjugateOf n ◌·◌ e k mover) S
-              inner = subst (λ (s : ℕ). Subset (conjugateOf n ◌·◌ e k mover) s) (conjugate-set-forth n ◌·◌ e G S mover T.small I.below)
+              inner : Subset (conjugate_of n ◌·◌ e k mover) S
+              inner = subst (λ (s : ℕ). Subset (conjugate_of n ◌·◌ e k mover) s) (conjugate-set-forth n ◌·◌ e G S mover T.small I.below)
                   (conjugate-subset n ◌·◌ e G k behind mover behind-subgroup.small I.below (E.least behind behind-subgroup old-behind more-held))
 
           -- an element that bars the extension would be a lower one
@@ -402,11 +402,11 @@ module _ (n : ℕ) (◌·◌ : ℕ → ℕ → ℕ) (e : ℕ) (classes : Bool) w
 
       -- S is a conjugate of a listed set, and the set itself where no classes are asked for
       abbrev Reached : Type 0
-      Reached = (s x : ℕ) × Mem s l × (x < n) × (S ≡ conjugateOf n ◌·◌ e s x) × (classes ≡ false → x ≡ e)
+      Reached = (s x : ℕ) × Mem s l × (x < n) × (S ≡ conjugate_of n ◌·◌ e s x) × (classes ≡ false → x ≡ e)
 
       -- it is so where S has nothing more, and else a listed set with more members lies inside
       reached-or-more : (I : Inside) → Reached ⊎ ((J : Inside) × (ones I.set < ones J.set))
-      reached-or-more I = elim (first-cases (isMore I) n) [
+      reached-or-more I = elim (first-cases (is_more I) n) [
         | inr (q, none) ↦ inl (I.set, I.conjugator, I.listed, I.below, none_more I none, I.same)
         | inl F ↦ inr (inside-more I _ F)
       ]
@@ -420,15 +420,15 @@ module _ (n : ℕ) (◌·◌ : ℕ → ℕ → ℕ) (e : ℕ) (classes : Bool) w
       pub complete-listed : Chosen n ◌·◌ e classes S → Mem S l
       complete-listed K = let (s, x, m, h, q, f) = reached (ones S) inside-start (omega arith) in choose classes refl s x m h q f
         where
-          choose : (b : Bool) → classes ≡ b → (s x : ℕ) → Mem s l → x < n → S ≡ conjugateOf n ◌·◌ e s x → (classes ≡ false → x ≡ e) → Mem S l
+          choose : (b : Bool) → classes ≡ b → (s x : ℕ) → Mem s l → x < n → S ≡ conjugate_of n ◌·◌ e s x → (classes ≡ false → x ≡ e) → Mem S l
           choose false c s x m h q f =
-              mem-cast (q ∙ ap (conjugateOf n ◌·◌ e s) (f c) ∙ conjugate-set-by-identity n ◌·◌ e G s (C.chosen s m).subgroup.small) m
+              mem-cast (q ∙ ap (conjugate_of n ◌·◌ e s) (f c) ∙ conjugate-set-by-identity n ◌·◌ e G s (C.chosen s m).subgroup.small) m
           choose true c s x m h q f = elim (ℕ_discrete S s) [
             | yes p ↦ mem-cast p m
             | no p ↦ elim (precedes-total S s p) [
               | inl before ↦ absurd ((C.chosen s m).first c x h (subst (λ (z : ℕ). Precedes z s) q before))
-              | inr before ↦ absurd (K.first c (inverseOf n ◌·◌ e x) (inverse-below n ◌·◌ e G x h)
+              | inr before ↦ absurd (K.first c (inverse_of n ◌·◌ e x) (inverse-below n ◌·◌ e G x h)
                   (subst (λ (z : ℕ). Precedes z S) (sym (conjugate-set-back n ◌·◌ e G s x (C.chosen s m).subgroup.small h)
-                  ∙ ap (λ (z : ℕ). conjugateOf n ◌·◌ e z (inverseOf n ◌·◌ e x)) (sym q)) before))
+                  ∙ ap (λ (z : ℕ). conjugate_of n ◌·◌ e z (inverse_of n ◌·◌ e x)) (sym q)) before))
             ]
           ]

@@ -12,7 +12,7 @@ use Rattle.laws.specs.Sets.{member, member_below}
 use Rattle.laws.specs.Truth.{and_both, both-and, asked-passes, passes-asked}
 use Rattle.subgroup_laws.specs.Bounded.{every-passes, passes-every}
 use Rattle.subgroup_laws.specs.Groups.{Group}
-use Rattle.subgroup_laws.specs.Subsets.{Subgroup, holdsRow, isSubgroup}
+use Rattle.subgroup_laws.specs.Subsets.{Subgroup, holds_row, is_subgroup}
 
 -- ---- the elements as a list
 
@@ -69,8 +69,8 @@ module _ (n : ℕ) (◌·◌ : ℕ → ℕ → ℕ) (e : ℕ) (G : Group n ◌·
   }
 
   -- what passes the test is a subgroup
-  pub test-subgroup : (s : ℕ) → isSubgroup n ◌·◌ e s ≡ true → Subgroup n ◌·◌ e s
-  unfolding isSubgroup holdsRow
+  pub test-subgroup : (s : ℕ) → is_subgroup n ◌·◌ e s ≡ true → Subgroup n ◌·◌ e s
+  unfolding is_subgroup holds_row
   test-subgroup s t =
       let (small, rest) = and_both (ltb s (2 ^ n)) _ t in
       let (unit, rows) = and_both (member s e) _ rest in
@@ -79,7 +79,7 @@ module _ (n : ℕ) (◌·◌ : ℕ → ℕ → ℕ) (e : ℕ) (G : Group n ◌·
       (λ x y i j. asked-passes j (every-passes _ n (asked-passes i (every-passes _ n rows x (member_below n s x l i))) y (member_below n s y l j)))
 
   -- a subgroup passes it
-  pub subgroup-test : (s : ℕ) → Subgroup n ◌·◌ e s → isSubgroup n ◌·◌ e s ≡ true
-  unfolding isSubgroup holdsRow
+  pub subgroup-test : (s : ℕ) → Subgroup n ◌·◌ e s → is_subgroup n ◌·◌ e s ≡ true
+  unfolding is_subgroup holds_row
   subgroup-test s S = both-and _ _ (lt-ltb _ _ S.small) (both-and _ _ S.holds-identity
       (passes-every _ n (λ x h. passes-asked (member s x) (λ i. passes-every _ n (λ y k. passes-asked (member s y) (λ j. S.holds-products x y i j))))))

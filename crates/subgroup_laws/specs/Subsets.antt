@@ -2,7 +2,7 @@
 use Rattle.std.specs.Prelude.{◌≡◌, Bool, true, cond, ◌&&◌, ℕ, ◌^◌, ◌<◌, eqb, ltb}
 use Rattle.laws.specs.Sets.{member, set_of}
 use Rattle.subgroup_laws.specs.Bounded.{every, some}
-use Rattle.subgroup_laws.specs.Groups.{inverseOf}
+use Rattle.subgroup_laws.specs.Groups.{inverse_of}
 
 module _ (n : ℕ) (◌·◌ : ℕ → ℕ → ℕ) (e : ℕ) where
   infixl 70 ◌·◌
@@ -16,12 +16,12 @@ module _ (n : ℕ) (◌·◌ : ℕ → ℕ → ℕ) (e : ℕ) where
 module _ (n : ℕ) (◌·◌ : ℕ → ℕ → ℕ) where
   infixl 70 ◌·◌
   -- whether s holds the product of x and each of its members
-  unfoldable pub holdsRow : ℕ → ℕ → Bool
-  holdsRow s x = every (λ y. cond (member s y) (member s (x · y)) true) n
+  unfoldable pub holds_row : ℕ → ℕ → Bool
+  holds_row s x = every (λ y. cond (member s y) (member s (x · y)) true) n
 
   -- whether s is a set of elements that holds the identity and products; inverses follow, as `subgroup-test` shows
-  unfoldable pub isSubgroup : ℕ → ℕ → Bool
-  isSubgroup e s = ltb s (2 ^ n) && (member s e && every (λ x. cond (member s x) (holdsRow s x) true) n)
+  unfoldable pub is_subgroup : ℕ → ℕ → Bool
+  is_subgroup e s = ltb s (2 ^ n) && (member s e && every (λ x. cond (member s x) (holds_row s x) true) n)
 
 -- the set of the values that f has on s
 unfoldable pub image_of : ℕ → (ℕ → ℕ) → ℕ → ℕ
@@ -30,13 +30,13 @@ image_of n f s = set_of n (λ y. some (λ x. member s x && eqb (f x) y) n)
 module _ (n : ℕ) (◌·◌ : ℕ → ℕ → ℕ) (e : ℕ) where
   infixl 70 ◌·◌
   -- g⁻¹ x g
-  unfoldable pub conjugateElement : ℕ → ℕ → ℕ
-  conjugateElement x g = inverseOf n ◌·◌ e g · x · g
+  unfoldable pub conjugate_element : ℕ → ℕ → ℕ
+  conjugate_element x g = inverse_of n ◌·◌ e g · x · g
 
   -- g⁻¹ s g
-  unfoldable pub conjugateOf : ℕ → ℕ → ℕ
-  conjugateOf s g = image_of n (λ x. conjugateElement x g) s
+  unfoldable pub conjugate_of : ℕ → ℕ → ℕ
+  conjugate_of s g = image_of n (λ x. conjugate_element x g) s
 
   -- the elements that conjugate s to itself
-  unfoldable pub normalizerOf : ℕ → ℕ
-  normalizerOf s = set_of n (λ g. eqb (conjugateOf s g) s)
+  unfoldable pub normalizer_of : ℕ → ℕ
+  normalizer_of s = set_of n (λ g. eqb (conjugate_of s g) s)

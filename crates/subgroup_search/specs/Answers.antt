@@ -1,6 +1,6 @@
 -- What is answered on the subgroups of a table's group, and on their classes.
 use Rattle.std.specs.Prelude.{cond, List, ℕ, ◌/◌, ltb, length}
-use Rattle.subgroup_laws.specs.Lists.{subgroupsOf, representativesOf}
+use Rattle.subgroup_laws.specs.Lists.{subgroups_of, representatives_of}
 use Rattle.subgroup_laws.specs.Slots.{written, cleared}
 use Rattle.subgroup_laws.specs.Table.{product}
 use Rattle.table_check.specs.OnGroup.{on_group, on_bytes}
@@ -19,16 +19,16 @@ list_bytes l b = cond (ltb (length b / 8) (length l)) (cleared b) (written l b)
 
 -- the list of subgroups
 abbrev pub subgroups_answer : ℕ → List ℕ → List ℕ → Answer
-subgroups_answer n t b = on_group (check_of n t) (λ e. list_answer (subgroupsOf n (product n t) e) b)
+subgroups_answer n t b = on_group (check_of n t) (λ e. list_answer (subgroups_of n (product n t) e) b)
 
 -- and what the lent bytes hold then
 abbrev pub subgroups_bytes : ℕ → List ℕ → List ℕ → List ℕ
-subgroups_bytes n t b = on_bytes (check_of n t) b (λ e. list_bytes (subgroupsOf n (product n t) e) b)
+subgroups_bytes n t b = on_bytes (check_of n t) b (λ e. list_bytes (subgroups_of n (product n t) e) b)
 
 -- the representatives of the classes
 abbrev pub classes_answer : ℕ → List ℕ → List ℕ → Answer
-classes_answer n t b = on_group (check_of n t) (λ e. list_answer (representativesOf n (product n t) e) b)
+classes_answer n t b = on_group (check_of n t) (λ e. list_answer (representatives_of n (product n t) e) b)
 
 -- and what the lent bytes hold then
 abbrev pub classes_bytes : ℕ → List ℕ → List ℕ → List ℕ
-classes_bytes n t b = on_bytes (check_of n t) b (λ e. list_bytes (representativesOf n (product n t) e) b)
+classes_bytes n t b = on_bytes (check_of n t) b (λ e. list_bytes (representatives_of n (product n t) e) b)

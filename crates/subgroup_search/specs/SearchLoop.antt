@@ -26,7 +26,7 @@ use Rattle.subgroup_laws.specs.Removal.{outside_of, outside-cases, rest_of, rest
 use Rattle.subgroup_laws.specs.Representatives.{Represented}
 use Rattle.subgroup_laws.specs.Search.{Holding, holding-slot, Complete, complete-listed, Settled, TooMany, settled-more, own-extension, listed-itself, extension-precedes}
 use Rattle.subgroup_laws.specs.Slots.{packed, packed-left-over, bytes_of, slot_at, written}
-use Rattle.subgroup_laws.specs.Subsets.{Subgroup, conjugateOf}
+use Rattle.subgroup_laws.specs.Subsets.{Subgroup, conjugate_of}
 use Rattle.element_sets.specs.Insertion.{Inserted, added}
 use Rattle.subgroup_search.specs.Progress.{Progress, counted, overflow, inserted-present, inserted-full, inserted-added}
 use Rattle.element_sets.specs.declared.slots.Found.{Found}
@@ -214,12 +214,12 @@ module _ (n : ℕ) (◌·◌ : ℕ → ℕ → ℕ) (e : ℕ) (classes : Bool) w
 
   module _ (G : Group n ◌·◌ e) (limit : n ≤ 48) where
     -- it is its only conjugate
-    trivial-conjugate : (g : ℕ) → g < n → conjugateOf n ◌·◌ e (2 ^ e) g ≡ 2 ^ e
+    trivial-conjugate : (g : ℕ) → g < n → conjugate_of n ◌·◌ e (2 ^ e) g ≡ 2 ^ e
     trivial-conjugate g h = subset-antisymmetric _ _
         (λ y i. let (x, k, m, q) = conjugate-source n ◌·◌ e G (2 ^ e) g y i in
         rw (← q, singleton-only e x m, conjugate-of-identity n ◌·◌ e G g h) (singleton-self e))
         (λ y i. rw (singleton-only e y i)
-        (subst (λ (z : ℕ). member (conjugateOf n ◌·◌ e (2 ^ e) g) z ≡ true) (conjugate-of-identity n ◌·◌ e G g h)
+        (subst (λ (z : ℕ). member (conjugate_of n ◌·◌ e (2 ^ e) g) z ≡ true) (conjugate-of-identity n ◌·◌ e G g h)
         (conjugate-holds n ◌·◌ e G (2 ^ e) g e (trivial-subgroup n ◌·◌ e G).small h (singleton-self e))))
 
     -- so it is chosen

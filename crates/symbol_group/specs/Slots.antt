@@ -12,7 +12,7 @@ use Rattle.laws.specs.Residue.{residue}
 use Rattle.laws.specs.Closure.{fresh, run, closure}
 use Rattle.laws.specs.SameMatrix.{same_matrix}
 use Rattle.laws.specs.Growth.{place}
-use Rattle.laws.specs.GrowthClosure.{agrees, stepsFrom, steadyFrom}
+use Rattle.laws.specs.GrowthClosure.{agrees, steps_from, steady_from}
 use Rattle.laws.specs.Truth.{all}
 use Rattle.laws.specs.Indices.{at-any}
 use Rattle.operation.specs.Meaning.{entry_of, matrix_of, vector_of, motion_of, digit_above, digit_of, inside, row_inside, all_inside}
@@ -88,7 +88,7 @@ laid head g =
 -- No generators make the identity alone.
 no-generators : outcome_of P [] ≡ group (identity_operation ∷ []) []
 unfolding outcome_of first_off listing is_small same_vector_class on_list operation_of motion_of matrix_of vector_of entry_of digit_above digit_of inside row_inside all_inside
-    agrees stepsFrom steadyFrom place same_matrix fresh run closure all residue unit origin nought one
+    agrees steps_from steady_from place same_matrix fresh run closure all residue unit origin nought one
 no-generators = refl
 
 alone : group_answer P [] ≡ answer_of P 0 (group (identity_operation ∷ []) [])

@@ -60,11 +60,11 @@ there false L x = refl
 
 module _ (n : ℕ) (t : List ℕ) (ask : ℕ → Question) (a b c d : ℕ → Bool) (tested : (e : ℕ) → GroupTable n t e → Tested (ask e) (a e) (b e) (c e) (d e)) where
   -- the answer on the group with identity e
-  abbrev onElement : ℕ → Answer
-  onElement e = by_tests (a e) (b e) (c e) (d e) (ask e).value
+  abbrev on_element : ℕ → Answer
+  on_element e = by_tests (a e) (b e) (c e) (d e) (ask e).value
 
   abbrev whole : told.Answer ℕ told.Nothing
-  whole = table_answer (on_group (check_of n t) onElement)
+  whole = table_answer (on_group (check_of n t) on_element)
 
   -- ---- what is answered is said
   group-says : (e : ℕ) → GroupTable n t e → (a b c d : Bool) → Tested (ask e) a b c d → Says n t ask (table_answer (by_tests a b c d (ask e).value))
@@ -75,7 +75,7 @@ module _ (n : ℕ) (t : List ℕ) (ask : ℕ → Question) (a b c d : ℕ → Bo
   group-says e T true true true true D = refusing 26 (no_room (e, T, D.subgroup, D.element, D.normalizes D.subgroup D.element, D.room))
   group-says e T true true true false D = answering (ask e).value (e, T, D.subgroup, D.element, D.normalizes D.subgroup D.element, D.room, refl)
 
-  says : {check : _} → Verdict n t check → Says n t ask (table_answer (on_group check onElement))
+  says : {check : _} → Verdict n t check → Says n t ask (table_answer (on_group check on_element))
   unfolding number_of place_of
   says (order-refused h) = refusing 21 (no-order h)
   says (cells-refused h k none) = refusing 22 (no_cells (h, k, none))
@@ -85,10 +85,10 @@ module _ (n : ℕ) (t : List ℕ) (ask : ℕ → Question) (a b c d : ℕ → Bo
   says (accepted h C e G) = let T : GroupTable n t e = record { cells = C; group = G } in group-says e T (a e) (b e) (c e) (d e) (tested e T)
 
   -- ---- and nothing else can be said
-  on-verdict : {check : _} → Verdict n t check → whole ≡ table_answer (on_group check onElement)
+  on-verdict : {check : _} → Verdict n t check → whole ≡ table_answer (on_group check on_element)
   on-verdict v = rw (verdict-checked n t v) refl
 
-  on-table : (e : ℕ) → GroupTable n t e → whole ≡ table_answer (onElement e)
+  on-table : (e : ℕ) → GroupTable n t e → whole ≡ table_answer (on_element e)
   on-table e T = on-verdict (accepted (omega (arith, T.group.identity-below)) T.cells e T.group)
 
   for-reason : {k : ℕ} → Reason n t ask k → whole ≡ told.refused k 0 tt
@@ -131,7 +131,7 @@ module _ (n : ℕ) (t : List ℕ) (ask : ℕ → Question) (a b c d : ℕ → Bo
         filled (ask e).value e T (full e) (F e T D.subgroup D.element (D.normalizes D.subgroup D.element) D.room)
 
     lists : {check : _} → Verdict n t check
-        → Left n t width list came (table_answer (on_group check onElement)) (on_bytes check came (λ e. bytes_by_tests (a e) (b e) (c e) (d e) came zeros (full e)))
+        → Left n t width list came (table_answer (on_group check on_element)) (on_bytes check came (λ e. bytes_by_tests (a e) (b e) (c e) (d e) came zeros (full e)))
     unfolding number_of place_of
     lists (order-refused h) = untouched 21 0 (λ z. omega arith)
     lists (cells-refused h k none) = untouched 22 0 (λ z. omega arith)

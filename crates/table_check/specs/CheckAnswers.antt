@@ -1,6 +1,6 @@
 -- What the check of a table's bytes answers (R8): refusals 21 to 25, the first that applies.
 use Rattle.std.specs.Prelude.{◌≡◌, cond, List, ℕ, eqb, ltb}
-use Rattle.subgroup_laws.specs.Groups.{identityOf, hasInverses, associates}
+use Rattle.subgroup_laws.specs.Groups.{identity_of, has_inverses, associates}
 use Rattle.subgroup_laws.specs.Table.{product, good_cells}
 use Rattle.table_check.specs.declared.Checked.{Checked}
 use Rattle.table_check.specs.declared.Checked.TheVariants.{Group as IsGroup, NoGroup}
@@ -12,9 +12,9 @@ check_of n t =
     cond (eqb n 0) (NoGroup Order)
     (cond (ltb 48 n) (NoGroup Order)
     (cond (good_cells n t)
-    (cond (ltb (identityOf n (product n t)) n)
-    (cond (hasInverses n (product n t) (identityOf n (product n t)))
-    (cond (associates n (product n t)) (IsGroup (identityOf n (product n t))) (NoGroup Associativity))
+    (cond (ltb (identity_of n (product n t)) n)
+    (cond (has_inverses n (product n t) (identity_of n (product n t)))
+    (cond (associates n (product n t)) (IsGroup (identity_of n (product n t))) (NoGroup Associativity))
     (NoGroup Inverse))
     (NoGroup Identity))
     (NoGroup NoCells)))

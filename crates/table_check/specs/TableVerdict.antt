@@ -10,7 +10,7 @@ use borrow.Author.Tests.{eq-eqb, ne_eqb, lt-ltb, le-ltb, eqb-false, ltb-true}
 use Rattle.subgroup_laws.specs.Bounded.{every-passes, passes-every, every-fails, fails-every}
 use Rattle.laws.specs.Truth.{passes-or-fails, not-passing}
 use Rattle.subgroup_laws.specs.GroupLaws.{TwoSidedIdentity, TwoSidedInverse, identity-found, found-identity, found-inverse, inverse-found, associative-passes, passes-associative, group-made, group-identity, group-inverses}
-use Rattle.subgroup_laws.specs.Groups.{Group, identityOf, hasInverses, associatesAt, associates}
+use Rattle.subgroup_laws.specs.Groups.{Group, identity_of, has_inverses, associates_at, associates}
 use Rattle.subgroup_laws.specs.Table.{product, Cells, good_cells, GroupTable}
 use Rattle.subgroup_laws.specs.TableCells.{good-cells, cells-good, product-below}
 use Rattle.table_check.specs.CheckAnswers.{check_of, Accepts}
@@ -36,13 +36,13 @@ module _ (n : ℕ) (t : List ℕ) where
     accepted : 0 < n → Cells n t → (e : ℕ) → Group n (product n t) e → Verdict (IsGroup e)
 
   -- inverses for all pass the test
-  all-inverses : (e : ℕ) → AllInverses e → hasInverses n (product n t) e ≡ true
-  unfolding hasInverses
+  all-inverses : (e : ℕ) → AllInverses e → has_inverses n (product n t) e ≡ true
+  unfolding has_inverses
   all-inverses e f = passes-every _ n (λ x h. lt-ltb _ _ (let (y, I) = f x h in inverse-found n (product n t) e x y I))
 
   -- an element without an inverse fails it
-  no-inverse : (e x : ℕ) → x < n → ((y : ℕ) → ¬ TwoSidedInverse n (product n t) e x y) → hasInverses n (product n t) e ≡ false
-  unfolding hasInverses
+  no-inverse : (e x : ℕ) → x < n → ((y : ℕ) → ¬ TwoSidedInverse n (product n t) e x y) → has_inverses n (product n t) e ≡ false
+  unfolding has_inverses
   no-inverse e x h none = fails-every _ n x h (not-passing _ (λ l. none _ (found-inverse n (product n t) e x (ltb-true _ _ l))))
 
   -- a triple that does not associate fails the test
@@ -64,7 +64,7 @@ module _ (n : ℕ) (t : List ℕ) where
         ne_eqb n 0 q,
         le-ltb 48 n C.limit,
         cells-good n t C,
-        not-passing (ltb (identityOf n (product n t)) n) (λ l. none _ (found-identity n (product n t) (ltb-true _ _ l))),
+        not-passing (ltb (identity_of n (product n t)) n) (λ l. none _ (found-identity n (product n t) (ltb-true _ _ l))),
       )
   verdict-checked (inverse-refused h C e I x k none) =
       let q : n ≡ 0 → ⊥ = λ e. omega arith in
@@ -103,7 +103,7 @@ module _ (n : ℕ) (t : List ℕ) where
   -- a product that fails the test of associativity has a triple that does not associate
   triple-found : associates n (product n t) ≡ false
       → (x y z : ℕ) × (x < n) × (y < n) × (z < n) × (product n t (product n t x y) z ≡ product n t x (product n t y z) → ⊥)
-  unfolding associates associatesAt
+  unfolding associates associates_at
   triple-found f =
       let (x, h, g) = every-fails _ n f in
       let (y, k, d) = every-fails _ n g in
@@ -112,8 +112,8 @@ module _ (n : ℕ) (t : List ℕ) where
 
   -- an order, cells and an identity leave the last three cases
   with-identity : 0 < n → Cells n t → (e : ℕ) → TwoSidedIdentity n (product n t) e → (c : Checked) × Verdict c
-  unfolding hasInverses
-  with-identity h C e I = elim (passes-or-fails (hasInverses n (product n t) e)) [
+  unfolding has_inverses
+  with-identity h C e I = elim (passes-or-fails (has_inverses n (product n t) e)) [
     | inr f ↦ let (x, k, g) = every-fails _ n f in
         (NoGroup Inverse, inverse-refused h C e I x k (λ y J. true≢false (sym (lt-ltb _ _ (inverse-found n (product n t) e x y J)) ∙ g)))
     | inl f ↦ elim (passes-or-fails (associates n (product n t))) [
@@ -136,8 +136,8 @@ module _ (n : ℕ) (t : List ℕ) where
         | inr g ↦ (NoGroup NoCells, cells-refused (omega arith) (omega arith) (λ C. true≢false (sym (cells-good n t C) ∙ g)))
         | inl g ↦
             let C = good-cells n t (omega arith) g in
-            elim (dec_lt (identityOf n (product n t)) n) [
-              | yes k ↦ with-identity (omega arith) C (identityOf n (product n t)) (found-identity n (product n t) k)
+            elim (dec_lt (identity_of n (product n t)) n) [
+              | yes k ↦ with-identity (omega arith) C (identity_of n (product n t)) (found-identity n (product n t) k)
               | no k ↦ (
                 NoGroup Identity,
                 identity-refused (omega arith) C

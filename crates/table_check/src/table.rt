@@ -1,7 +1,7 @@
 // The tests of a table that come before associativity: cells, identity, inverses.
 // Ported from subgroup/finite_group.rs of moyo 0.21.0 (`from_table`), and changed: one function a test.
 ghost use Rattle.std.specs.Prelude.{◌≡◌, ◌<◌, ◌≤◌};
-ghost use Rattle.subgroup_laws.specs.Groups.{isIdentity, identityOf, hasInverses};
+ghost use Rattle.subgroup_laws.specs.Groups.{is_identity, identity_of, has_inverses};
 ghost use Rattle.subgroup_laws.specs.Table.{product, Cells, good_cells};
 
 use table_products::inverse;
@@ -35,7 +35,7 @@ pub(crate) fn good_cells(t: &[u8], n: usize) -> bool
 
 fn is_identity(t: &[u8], n: usize, e: usize) -> bool
     requires { (Cells n t.now) × (e < n) }
-    ensures { result ≡ isIdentity n (product n t.now) e }
+    ensures { result ≡ is_identity n (product n t.now) e }
 {
     let mut x = 0usize;
     while x < n {
@@ -53,7 +53,7 @@ fn is_identity(t: &[u8], n: usize, e: usize) -> bool
 // The first two-sided identity, or n.
 pub(crate) fn identity_of(t: &[u8], n: usize) -> usize
     requires { Cells n t.now }
-    ensures { result ≡ identityOf n (product n t.now) }
+    ensures { result ≡ identity_of n (product n t.now) }
 {
     let mut e = 0usize;
     let found = loop {
@@ -70,7 +70,7 @@ pub(crate) fn identity_of(t: &[u8], n: usize) -> usize
 
 pub(crate) fn has_inverses(t: &[u8], n: usize, e: usize) -> bool
     requires { Cells n t.now }
-    ensures { result ≡ hasInverses n (product n t.now) e }
+    ensures { result ≡ has_inverses n (product n t.now) e }
 {
     let mut x = 0usize;
     while x < n {

@@ -12,14 +12,14 @@ use Rattle.laws.specs.Sets.{set_of-below}
 use Rattle.laws.specs.Sorted.{keep, sort-length}
 use Rattle.laws.specs.Truth.{and_both}
 use Rattle.finite_group.specs.Answers.{on_group, list_answer, order_answer, identity_answer, subgroups_answer, classes_answer, conjugate_answer, conjugate_entry, normalizer_answer, normalizer_entry, permutation_answer, permutation_entry, conjugates_answer, conjugates_entry, number_of, place_of, table_answer}
-use Rattle.conjugation.specs.LentConjugates.{tooShort}
-use Rattle.subgroup_laws.specs.Conjugates.{othersOf, isOther, conjugatesOf}
+use Rattle.conjugation.specs.LentConjugates.{too_short}
+use Rattle.subgroup_laws.specs.Conjugates.{others_of, is_other, conjugates_of}
 use Rattle.subgroup_laws.specs.Conjugation.{conjugate-below}
 use Rattle.subgroup_laws.specs.Groups.{Group}
 use Rattle.subgroup_laws.specs.ListedSets.{listed}
-use Rattle.subgroup_laws.specs.Lists.{chosen, subgroupsOf, representativesOf}
+use Rattle.subgroup_laws.specs.Lists.{chosen, subgroups_of, representatives_of}
 use Rattle.subgroup_laws.specs.SubgroupLaws.{below}
-use Rattle.subgroup_laws.specs.Subsets.{isSubgroup, conjugateOf, normalizerOf}
+use Rattle.subgroup_laws.specs.Subsets.{is_subgroup, conjugate_of, normalizer_of}
 use Rattle.subgroup_laws.specs.Table.{product}
 use Rattle.table_check.specs.CheckAnswers.{check_of}
 use Rattle.table_check.specs.TableVerdict.{Verdict, order-refused, cells-refused, identity-refused, inverse-refused, associativity-refused, accepted, checked-verdict}
@@ -100,42 +100,42 @@ module _ (n : ℕ) (times : ℕ → ℕ → ℕ) (e : ℕ) (G : Group n times e)
   conjugate-packable : (s g : ℕ) → Packable (conjugate_answer n times e s g)
   unfolding conjugate_answer
   conjugate-packable s g =
-      either (isSubgroup n times e s) (cond (ltb g n) (Value (conjugateOf n times e s g)) (Refused Element)) (Refused Subgroup)
-      (λ _. either (ltb g n) (Value (conjugateOf n times e s g)) (Refused Element)
-      (λ _. set-low (conjugateOf n times e s g) (conjugate-below n times e G s g)) (refusal-told Element))
+      either (is_subgroup n times e s) (cond (ltb g n) (Value (conjugate_of n times e s g)) (Refused Element)) (Refused Subgroup)
+      (λ _. either (ltb g n) (Value (conjugate_of n times e s g)) (Refused Element)
+      (λ _. set-low (conjugate_of n times e s g) (conjugate-below n times e G s g)) (refusal-told Element))
       (refusal-told Subgroup)
 
   normalizer-packable : (s : ℕ) → Packable (normalizer_answer n times e s)
-  unfolding normalizer_answer normalizerOf
+  unfolding normalizer_answer normalizer_of
   normalizer-packable s =
-      either (isSubgroup n times e s) (Value (normalizerOf n times e s)) (Refused Subgroup)
-      (λ _. set-low (normalizerOf n times e s) (set_of-below n (λ g. eqb (conjugateOf n times e s g) s))) (refusal-told Subgroup)
+      either (is_subgroup n times e s) (Value (normalizer_of n times e s)) (Refused Subgroup)
+      (λ _. set-low (normalizer_of n times e s) (set_of-below n (λ g. eqb (conjugate_of n times e s g) s))) (refusal-told Subgroup)
 
   -- A subgroup has at most as many members as the group.
-  members-few : (s : ℕ) → isSubgroup n times e s ≡ true → ones s ≤ n
-  unfolding isSubgroup
+  members-few : (s : ℕ) → is_subgroup n times e s ≡ true → ones s ≤ n
+  unfolding is_subgroup
   members-few s t = ones-le n s (ltb-true s (2 ^ n) (and_both _ _ t).0)
 
   permutation-packable : (s g : ℕ) (b : List ℕ) → Packable (permutation_answer n times e s g b)
   unfolding permutation_answer
   permutation-packable s g b =
       let slots = cond (ltb (length b) (ones s)) (Refused Slots) (Value (ones s)) in
-      let normal = cond (eqb (conjugateOf n times e s g) s) slots (Refused Normalizer) in
-      either (isSubgroup n times e s) (cond (ltb g n) normal (Refused Element)) (Refused Subgroup)
+      let normal = cond (eqb (conjugate_of n times e s g) s) slots (Refused Normalizer) in
+      either (is_subgroup n times e s) (cond (ltb g n) normal (Refused Element)) (Refused Subgroup)
       (λ t. either (ltb g n) normal (Refused Element)
-      (λ _. either (eqb (conjugateOf n times e s g) s) slots (Refused Normalizer)
+      (λ _. either (eqb (conjugate_of n times e s g) s) slots (Refused Normalizer)
       (λ _. either (ltb (length b) (ones s)) (Refused Slots) (Value (ones s)) (λ _. refusal-told Slots) (omega (arith, members-few s t)))
       (refusal-told Normalizer))
       (refusal-told Element))
       (refusal-told Subgroup)
 
   conjugates-packable : (s : ℕ) (b c : List ℕ) → Packable (conjugates_answer n times e s b c)
-  unfolding conjugates_answer conjugatesOf othersOf
+  unfolding conjugates_answer conjugates_of others_of
   conjugates-packable s b c =
-      let fits = cond (tooShort n times e s b c) (Refused Slots) (Value (length (conjugatesOf n times e s))) in
-      either (isSubgroup n times e s) fits (Refused Subgroup)
-      (λ _. either (tooShort n times e s b c) (Refused Slots) (Value (length (conjugatesOf n times e s)))
-      (λ _. refusal-told Slots) (omega (arith, listed-short n (isOther n times e s), few-sets n limit)))
+      let fits = cond (too_short n times e s b c) (Refused Slots) (Value (length (conjugates_of n times e s))) in
+      either (is_subgroup n times e s) fits (Refused Subgroup)
+      (λ _. either (too_short n times e s b c) (Refused Slots) (Value (length (conjugates_of n times e s)))
+      (λ _. refusal-told Slots) (omega (arith, listed-short n (is_other n times e s), few-sets n limit)))
       (refusal-told Subgroup)
 
 -- ---- on the bytes of a table
@@ -159,15 +159,15 @@ module _ (n : ℕ) (t : List ℕ) where
   table-identity = on-table (λ e. Value e) (λ e G k. identity-packable n (product n t) e G k)
 
   pub table-subgroups : (b : List ℕ) → Packable (subgroups_answer n t b)
-  unfolding subgroupsOf
+  unfolding subgroups_of
   table-subgroups b =
-      on-table (λ e. list_answer (subgroupsOf n (product n t) e) b)
+      on-table (λ e. list_answer (subgroups_of n (product n t) e) b)
       (λ e G k. list-packable n (product n t) e G k (chosen n (product n t) e false) b)
 
   pub table-classes : (b : List ℕ) → Packable (classes_answer n t b)
-  unfolding representativesOf
+  unfolding representatives_of
   table-classes b =
-      on-table (λ e. list_answer (representativesOf n (product n t) e) b)
+      on-table (λ e. list_answer (representatives_of n (product n t) e) b)
       (λ e G k. list-packable n (product n t) e G k (chosen n (product n t) e true) b)
 
   pub table-conjugate : (s g : ℕ) → Packable (conjugate_entry n t s g)

@@ -4,8 +4,8 @@
 #![tactic(auto)]
 
 ghost use Rattle.std.specs.Prelude.{◌≡◌, true, ℕ, ◌<◌, ◌^◌};
-ghost use Rattle.subgroup_laws.specs.Groups.{isInverse, inverseOf};
-ghost use Rattle.subgroup_laws.specs.Subsets.{image_of, conjugateOf};
+ghost use Rattle.subgroup_laws.specs.Groups.{is_inverse, inverse_of};
+ghost use Rattle.subgroup_laws.specs.Subsets.{image_of, conjugate_of};
 ghost use Rattle.subgroup_laws.specs.Table.{product, Cells, GroupTable};
 ghost use Rattle.table_products.specs.Sizes.{Sized};
 
@@ -76,7 +76,7 @@ pub fn image(t: &[u8], n: usize, s: u64, a: usize, b: usize) -> u64
 
 fn is_inverse(t: &[u8], n: usize, e: usize, x: usize, y: usize) -> bool
     requires { (Sized n t.now) × (x < n) × (y < n) }
-    ensures { result ≡ isInverse (product n t.now) e x y }
+    ensures { result ≡ is_inverse (product n t.now) e x y }
 {
     if cell(t, n, x, y) != e {
         return false;
@@ -87,7 +87,7 @@ fn is_inverse(t: &[u8], n: usize, e: usize, x: usize, y: usize) -> bool
 // The first two-sided inverse of x, or n.
 fn inverse_in(t: &[u8], n: usize, e: usize, x: usize) -> usize
     requires { (Sized n t.now) × (x < n) }
-    ensures { result ≡ inverseOf n (product n t.now) e x }
+    ensures { result ≡ inverse_of n (product n t.now) e x }
 {
     let mut y = 0usize;
     let found = loop {
@@ -103,7 +103,7 @@ fn inverse_in(t: &[u8], n: usize, e: usize, x: usize) -> usize
 }
 
 pub fn inverse(t: &[u8], n: usize, e: usize, x: usize) -> usize
-    ensures { Cells n t.now → x < n → result ≡ inverseOf n (product n t.now) e x }
+    ensures { Cells n t.now → x < n → result ≡ inverse_of n (product n t.now) e x }
 {
     if !is_sized(t, n, 0) {
         return n;
@@ -116,7 +116,7 @@ pub fn inverse(t: &[u8], n: usize, e: usize, x: usize) -> usize
 
 // The set of the g⁻¹ x g for the members x of s.
 pub fn conjugate_set(t: &[u8], n: usize, e: usize, s: u64, g: usize) -> u64
-    ensures { GroupTable n t.now e → s < 2 ^ n → g < n → result ≡ conjugateOf n (product n t.now) e s g }
+    ensures { GroupTable n t.now e → s < 2 ^ n → g < n → result ≡ conjugate_of n (product n t.now) e s g }
 {
     image(t, n, s, inverse(t, n, e, g), g)
 }

@@ -1,7 +1,7 @@
 -- The check of the table, then the list.
 use mathlib.Core.Path.{refl, sym, ◌∙◌}
 use borrow.Author.Rules.{rules}
-use Rattle.subgroup_laws.specs.Lists.{subgroupsOf}
+use Rattle.subgroup_laws.specs.Lists.{subgroups_of}
 use Rattle.table_check.specs.TableVerdict.{checked-table}
 use Rattle.subgroup_search.proofs.enumerate_subgroups.Statement.{statement}
 use Rattle.subgroup_search.proofs.enumerate_subgroups.Tie as tie
@@ -22,7 +22,7 @@ same_length : tie.Need-same-length
 same_length c = search rules
 
 returns : tie.Need-returns
-unfolding subgroupsOf
+unfolding subgroups_of
 returns c = simp (sym c.before.before.before.before.before.before.before.from-table.ensures
     ∙ c.before.before.before.before.before.e.given.1) c.before.before.list-sets.ensures
 

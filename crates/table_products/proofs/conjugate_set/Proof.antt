@@ -3,7 +3,7 @@ use mathlib.Core.Path.{ap, ◌∙◌}
 use Prim.Native.Nat.{ℕ}
 use borrow.Author.Rules.{rules}
 use Rattle.subgroup_laws.specs.Conjugation.{inverse-below}
-use Rattle.subgroup_laws.specs.Subsets.{image_of, conjugateElement, conjugateOf}
+use Rattle.subgroup_laws.specs.Subsets.{image_of, conjugate_element, conjugate_of}
 use Rattle.subgroup_laws.specs.Table.{product}
 use Rattle.table_products.proofs.conjugate_set.Statement.{statement}
 use Rattle.table_products.proofs.conjugate_set.Tie as tie
@@ -15,7 +15,7 @@ image-requires : tie.Need-image-requires
 image-requires c κs = search rules
 
 returns : tie.Need-returns
-unfolding conjugateOf conjugateElement
+unfolding conjugate_of conjugate_element
 returns c G small j =
     let a = c.before.before.before.args in
     let i = c.before.inverse.ensures G.cells j in

@@ -6,13 +6,13 @@ use native.Mathlib.Omega.{arith}
 use borrow.Author.Count.{below_more}
 use borrow.Author.Rules.{rules}
 use Rattle.subgroup_laws.specs.Bounded.{first_found, first-none}
-use Rattle.subgroup_laws.specs.Groups.{isInverse, inverseOf}
+use Rattle.subgroup_laws.specs.Groups.{is_inverse, inverse_of}
 use Rattle.subgroup_laws.specs.Table.{product}
 use Rattle.table_products.proofs.inverse_in.Statement.{statement}
 use Rattle.table_products.proofs.inverse_in.Tie as tie
 
 abbrev invariant-loop : tie.invariant-loop
-invariant-loop t n e x y₀ y = (y ≤ n) × ((i : ℕ) → i < y → isInverse (product n t) e x i ≡ false)
+invariant-loop t n e x y₀ y = (y ≤ n) × ((i : ℕ) → i < y → is_inverse (product n t) e x i ≡ false)
 
 abbrev decreases-loop : tie.decreases-loop
 decreases-loop t n e x y₀ y = n - y
@@ -33,7 +33,7 @@ loop-again : tie.Need-loop-preserved invariant-loop decreases-loop
 loop-again c = (omega arith, below_more _ _ c.before.before.before.loop.invariant.1 (sym c.before.is_inverse.ensures ∙ c.if2.false))
 
 returns : tie.Need-returns invariant-loop decreases-loop
-unfolding inverseOf
+unfolding inverse_of
 returns c =
     let l = c.before.loop in
     let n = c.before.before.before.args.n in
@@ -41,7 +41,7 @@ returns c =
     e ∙ sym (first-none _ n (λ k h. l.invariant.1 k (omega arith)))
 
 returns-2 : tie.Need-returns-2 invariant-loop decreases-loop
-unfolding inverseOf
+unfolding inverse_of
 returns-2 c =
     let l = c.before.before.before.loop in
     let n = c.before.before.before.before.before.args.n in

@@ -5,13 +5,13 @@ use native.Mathlib.Omega.{arith}
 use lib.ListN.{length, length-drop}
 use Rattle.laws.specs.LentParts.{tail-part}
 use Rattle.answer_text.specs.Lines.{Plain, line-short}
-use Rattle.answer_text.specs.RecordLines.{linesTo, lines_start, lines_next, lines_end, part-operation}
+use Rattle.answer_text.specs.RecordLines.{lines_to, lines_start, lines_next, lines_end, part-operation}
 use Rattle.placed_text.specs.Placing.{Put}
 use Rattle.answer_text.proofs.operations.put_operations.Statement.{statement}
 use Rattle.answer_text.proofs.operations.put_operations.Tie as tie
 
 abbrev invariant-loop : tie.invariant-loop
-invariant-loop out₀ at bytes n end₀ i₀ out end i = (i ≤ n) × (length out ≡ length out₀) × (end ≤ at + 36 * i) × Put out₀ at (linesTo n bytes i) out end
+invariant-loop out₀ at bytes n end₀ i₀ out end i = (i ≤ n) × (length out ≡ length out₀) × (end ≤ at + 36 * i) × Put out₀ at (lines_to n bytes i) out end
 
 abbrev decreases-loop : tie.decreases-loop
 decreases-loop out₀ at bytes n end₀ i₀ out end i = n - i

@@ -9,8 +9,8 @@ use borrow.Author.Rules.{rules}
 use borrow.Author.Tests.{not-true, not-false}
 use Rattle.laws.specs.Sets.{members, ones_below}
 use Rattle.subgroup_laws.specs.Conjugation.{inverse-below}
-use Rattle.subgroup_laws.specs.Permutations.{position_of, permutationOf, permuted, permuted-in, permuted-out, count-in, count-out, count_room}
-use Rattle.subgroup_laws.specs.Subsets.{conjugateElement}
+use Rattle.subgroup_laws.specs.Permutations.{position_of, permutation_of, permuted, permuted-in, permuted-out, count-in, count-out, count_room}
+use Rattle.subgroup_laws.specs.Subsets.{conjugate_element}
 use Rattle.subgroup_laws.specs.Table.{product}
 use Rattle.conjugation.proofs.permutation.permute.Statement.{statement}
 use Rattle.conjugation.proofs.permutation.permute.Tie as tie
@@ -99,7 +99,7 @@ loop-less-2 : tie.Need-loop-smaller-2 invariant-loop decreases-loop
 loop-less-2 c = omega arith
 
 loop-again-2 : tie.Need-loop-preserved-2 invariant-loop decreases-loop
-unfolding position_of conjugateElement
+unfolding position_of conjugate_element
 loop-again-2 c =
     let l = c.before.before.before.before.before.before.loop in
     let a = c.before.before.before.before.before.before.before.before.before.before.args in
@@ -126,13 +126,13 @@ same_length : tie.Need-same-length invariant-loop decreases-loop
 same_length c = c.before.loop.invariant.2
 
 returns : tie.Need-returns invariant-loop decreases-loop
-unfolding permutationOf
+unfolding permutation_of
 returns c =
     let l = c.before.loop in
     let a = c.before.before.before.before.before.args in
     let q : l.x ≡ a.n = omega arith in
     l.invariant.3 ∙ ap (λ (x : ℕ). permuted a.n (product a.n a.t.now) a.e a.s a.g x a.list.now) q
-    ∙ ap (λ (k : ℕ). permutationOf a.n (product a.n a.t.now) a.e a.s a.g ++ drop k a.list.now) (sym
+    ∙ ap (λ (k : ℕ). permutation_of a.n (product a.n a.t.now) a.e a.s a.g ++ drop k a.list.now) (sym
     (ones_below a.n a.s c.before.before.before.before.before.requires.1))
 
 pub permute-spec : {M : Type 1} → statement M

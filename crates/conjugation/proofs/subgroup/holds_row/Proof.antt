@@ -8,7 +8,7 @@ use borrow.Author.Rules.{rules}
 use borrow.Author.Tests.{not-true, not-false}
 use Rattle.laws.specs.Sets.{member}
 use Rattle.subgroup_laws.specs.Bounded.{fails-every, passes-every}
-use Rattle.subgroup_laws.specs.Subsets.{holdsRow}
+use Rattle.subgroup_laws.specs.Subsets.{holds_row}
 use Rattle.subgroup_laws.specs.Table.{product}
 use Rattle.conjugation.proofs.subgroup.holds_row.Statement.{statement}
 use Rattle.conjugation.proofs.subgroup.holds_row.Tie as tie
@@ -26,7 +26,7 @@ holds-product-requires : tie.Need-holds-product-requires invariant-loop decrease
 holds-product-requires c κs = search rules
 
 returns : tie.Need-returns invariant-loop decreases-loop
-unfolding holdsRow
+unfolding holds_row
 returns c =
     let l = c.before.before.before.loop in
     let n = c.before.before.before.before.before.args.n in
@@ -43,7 +43,7 @@ loop-again : tie.Need-loop-preserved invariant-loop decreases-loop
 loop-again c = (omega arith, below_more _ _ c.before.before.before.loop.invariant.1 (sym c.before.holds-product.ensures ∙ not-false _ c.if1.false))
 
 returns-2 : tie.Need-returns-2 invariant-loop decreases-loop
-unfolding holdsRow
+unfolding holds_row
 returns-2 c = sym (passes-every _ _ (λ i h. c.before.loop.invariant.1 i (omega arith)))
 
 pub holds-row-spec : {M : Type 1} → statement M

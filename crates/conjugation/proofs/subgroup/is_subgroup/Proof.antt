@@ -10,13 +10,13 @@ use borrow.Author.Tests.{not-true, not-false, lt-ltb, le-ltb}
 use Rattle.laws.specs.Sets.{member, shifted_one}
 use Rattle.laws.specs.Truth.{and-fails-left, and-fails, both-and}
 use Rattle.subgroup_laws.specs.Bounded.{fails-every, passes-every}
-use Rattle.subgroup_laws.specs.Subsets.{holdsRow, isSubgroup}
+use Rattle.subgroup_laws.specs.Subsets.{holds_row, is_subgroup}
 use Rattle.subgroup_laws.specs.Table.{product}
 use Rattle.conjugation.proofs.subgroup.is_subgroup.Statement.{statement}
 use Rattle.conjugation.proofs.subgroup.is_subgroup.Tie as tie
 
 abbrev invariant-loop : tie.invariant-loop
-invariant-loop t n e s x₀ x = (x ≤ n) × ((i : ℕ) → i < x → cond (member s i) (holdsRow n (product n t) s i) true ≡ true)
+invariant-loop t n e s x₀ x = (x ≤ n) × ((i : ℕ) → i < x → cond (member s i) (holds_row n (product n t) s i) true ≡ true)
 
 abbrev decreases-loop : tie.decreases-loop
 decreases-loop t n e s x₀ x = n - x
@@ -25,7 +25,7 @@ shl-if1 : tie.Need-overflow-shl-if1 invariant-loop decreases-loop
 shl-if1 c = let h = c.before.requires.0.limit in omega arith
 
 returns : tie.Need-returns invariant-loop decreases-loop
-unfolding isSubgroup
+unfolding is_subgroup
 returns c =
     let a = c.before.before.args in
     let h : a.n < 64 = let k = c.before.before.requires.0.limit in omega arith in
@@ -35,7 +35,7 @@ contains-requires : tie.Need-contains-requires invariant-loop decreases-loop
 contains-requires c κs = search rules
 
 returns-2 : tie.Need-returns-2 invariant-loop decreases-loop
-unfolding isSubgroup
+unfolding is_subgroup
 returns-2 c =
     let a = c.before.before.before.before.args in
     sym (and-fails (ltb a.s (2 ^ a.n)) _ (and-fails-left _ _
@@ -49,7 +49,7 @@ holds-products-requires : tie.Need-holds-products-requires invariant-loop decrea
 holds-products-requires c κs = (c.before.before.before.before.before.before.requires.0, c.loop-test.true)
 
 returns-3 : tie.Need-returns-3 invariant-loop decreases-loop
-unfolding isSubgroup
+unfolding is_subgroup
 returns-3 c =
     let a = c.before.before.before.before.before.before.before.before.args in
     let l = c.before.before.before.loop in
@@ -66,7 +66,7 @@ loop-again : tie.Need-loop-preserved invariant-loop decreases-loop
 loop-again c = (omega arith, below_more _ _ c.before.before.before.loop.invariant.1 (sym c.before.holds-products.ensures ∙ not-false _ c.if3.false))
 
 returns-4 : tie.Need-returns-4 invariant-loop decreases-loop
-unfolding isSubgroup
+unfolding is_subgroup
 returns-4 c =
     let a = c.before.before.before.before.before.before.args in
     let h : a.n < 64 = let k = c.before.before.before.before.before.before.requires.0.limit in omega arith in

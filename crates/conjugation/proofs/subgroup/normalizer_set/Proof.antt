@@ -9,14 +9,14 @@ use lib.Dec.{eqb}
 use borrow.Author.Rules.{rules}
 use borrow.Author.Tests.{eq-eqb, ne_eqb}
 use Rattle.laws.specs.Sets.{set_of, set_of-in, set_of-out, set_of-room, shifted_one}
-use Rattle.subgroup_laws.specs.Subsets.{conjugateOf, normalizerOf}
+use Rattle.subgroup_laws.specs.Subsets.{conjugate_of, normalizer_of}
 use Rattle.subgroup_laws.specs.Table.{product}
 use Rattle.conjugation.proofs.subgroup.normalizer_set.Statement.{statement}
 use Rattle.conjugation.proofs.subgroup.normalizer_set.Tie as tie
 
 -- whether g conjugates s to itself
 abbrev keeps : List ℕ → ℕ → ℕ → ℕ → ℕ → Bool
-keeps t n e s g = eqb (conjugateOf n (product n t) e s g) s
+keeps t n e s g = eqb (conjugate_of n (product n t) e s g) s
 
 abbrev invariant-loop : tie.invariant-loop
 invariant-loop t n e s found₀ g₀ found g = (g ≤ n) × (found ≡ set_of g (keeps t n e s))
@@ -75,7 +75,7 @@ loop-again c =
     )
 
 returns : tie.Need-returns invariant-loop decreases-loop
-unfolding normalizerOf
+unfolding normalizer_of
 returns c =
     let a = c.before.before.before.args in
     let e : c.before.loop.g ≡ a.n = omega arith in

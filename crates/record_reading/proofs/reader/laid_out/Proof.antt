@@ -5,12 +5,12 @@ use native.Mathlib.Omega.{arith}
 use borrow.Author.Rules.{rules}
 use Rattle.record_items.specs.Items.{operation-there}
 use Rattle.record_reading.specs.Found.{laid_out}
-use Rattle.record_reading.specs.Slots.{filledTo, filled_next, filled-start, filled-end}
+use Rattle.record_reading.specs.Slots.{filled_to, filled_next, filled-start, filled-end}
 use Rattle.record_reading.proofs.reader.laid_out.Statement.{statement}
 use Rattle.record_reading.proofs.reader.laid_out.Tie as tie
 
 abbrev invariant-loop : tie.invariant-loop
-invariant-loop bytes answer edition sign n operations₀ i₀ operations i = (i ≤ n) × (operations ≡ filledTo edition n bytes i)
+invariant-loop bytes answer edition sign n operations₀ i₀ operations i = (i ≤ n) × (operations ≡ filled_to edition n bytes i)
 
 abbrev decreases-loop : tie.decreases-loop
 decreases-loop bytes answer edition sign n operations₀ i₀ operations i = n - i

@@ -10,7 +10,7 @@ use borrow.Author.Tests.{ne_eqb}
 use Rattle.laws.specs.Sets.{member, member_below, member-empty}
 use Rattle.subgroup_laws.specs.Bounded.{fails-every}
 use Rattle.subgroup_laws.specs.Generators.{Middle, generators-associate}
-use Rattle.subgroup_laws.specs.Groups.{associatesAt, associates}
+use Rattle.subgroup_laws.specs.Groups.{associates_at, associates}
 use Rattle.subgroup_laws.specs.Removal.{without-cases, without-less}
 use Rattle.subgroup_laws.specs.Table.{product}
 use Rattle.subgroup_laws.specs.TableCells.{product-below}
@@ -145,7 +145,7 @@ returns c =
     (λ j m. elim (l.invariant.2 j m) [ inl i ↦ absurd (true≢false (sym i ∙ ap (λ (z : ℕ). member z j) none ∙ member-empty j)) | inr f ↦ f ]))
 
 returns-2 : tie.Need-returns-2 invariant-loop2 decreases-loop2 invariant-loop decreases-loop invariant-search decreases-search
-unfolding associates associatesAt
+unfolding associates associates_at
 returns-2 c =
     let n = c.before.before.before.before.before.before.before.before.before.before.before.before.before.before.before.args.n in
     let t = c.before.before.before.before.before.before.before.before.before.before.before.before.before.before.before.args.t.now in

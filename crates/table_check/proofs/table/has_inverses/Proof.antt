@@ -8,13 +8,13 @@ use borrow.Author.Count.{below_more}
 use borrow.Author.Rules.{rules}
 use borrow.Author.Tests.{lt-ltb, le-ltb}
 use Rattle.subgroup_laws.specs.Bounded.{fails-every, passes-every}
-use Rattle.subgroup_laws.specs.Groups.{inverseOf, hasInverses}
+use Rattle.subgroup_laws.specs.Groups.{inverse_of, has_inverses}
 use Rattle.subgroup_laws.specs.Table.{product}
 use Rattle.table_check.proofs.table.has_inverses.Statement.{statement}
 use Rattle.table_check.proofs.table.has_inverses.Tie as tie
 
 abbrev invariant-loop : tie.invariant-loop
-invariant-loop t n e x₀ x = (x ≤ n) × ((i : ℕ) → i < x → ltb (inverseOf n (product n t) e i) n ≡ true)
+invariant-loop t n e x₀ x = (x ≤ n) × ((i : ℕ) → i < x → ltb (inverse_of n (product n t) e i) n ≡ true)
 
 abbrev decreases-loop : tie.decreases-loop
 decreases-loop t n e x₀ x = n - x
@@ -26,7 +26,7 @@ inverse-requires : tie.Need-inverse-requires invariant-loop decreases-loop
 inverse-requires c κs = search rules
 
 returns : tie.Need-returns invariant-loop decreases-loop
-unfolding hasInverses
+unfolding has_inverses
 returns c =
     let l = c.before.before.before.loop in
     let n = c.before.before.before.before.before.args.n in
@@ -48,7 +48,7 @@ loop-again c =
     )
 
 returns-2 : tie.Need-returns-2 invariant-loop decreases-loop
-unfolding hasInverses
+unfolding has_inverses
 returns-2 c = sym (passes-every _ _ (λ i h. c.before.loop.invariant.1 i (omega arith)))
 
 pub has-inverses-spec : {M : Type 1} → statement M

@@ -6,13 +6,13 @@ use native.Mathlib.Omega.{arith}
 use borrow.Author.Count.{below_more}
 use borrow.Author.Rules.{rules}
 use Rattle.subgroup_laws.specs.Bounded.{first_found, first-none}
-use Rattle.subgroup_laws.specs.Groups.{isIdentity, identityOf}
+use Rattle.subgroup_laws.specs.Groups.{is_identity, identity_of}
 use Rattle.subgroup_laws.specs.Table.{product}
 use Rattle.table_check.proofs.table.identity_of.Statement.{statement}
 use Rattle.table_check.proofs.table.identity_of.Tie as tie
 
 abbrev invariant-loop : tie.invariant-loop
-invariant-loop t n e₀ e = (e ≤ n) × ((i : ℕ) → i < e → isIdentity n (product n t) i ≡ false)
+invariant-loop t n e₀ e = (e ≤ n) × ((i : ℕ) → i < e → is_identity n (product n t) i ≡ false)
 
 abbrev decreases-loop : tie.decreases-loop
 decreases-loop t n e₀ e = n - e
@@ -33,7 +33,7 @@ loop-again : tie.Need-loop-preserved invariant-loop decreases-loop
 loop-again c = (omega arith, below_more _ _ c.before.before.before.loop.invariant.1 (sym c.before.is-identity.ensures ∙ c.if2.false))
 
 returns : tie.Need-returns invariant-loop decreases-loop
-unfolding identityOf
+unfolding identity_of
 returns c =
     let l = c.before.loop in
     let n = c.before.before.before.args.n in
@@ -41,7 +41,7 @@ returns c =
     q ∙ sym (first-none _ n (λ k h. l.invariant.1 k (omega arith)))
 
 returns-2 : tie.Need-returns-2 invariant-loop decreases-loop
-unfolding identityOf
+unfolding identity_of
 returns-2 c =
     let l = c.before.before.before.loop in
     let n = c.before.before.before.before.before.args.n in

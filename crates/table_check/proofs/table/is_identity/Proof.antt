@@ -9,7 +9,7 @@ use borrow.Author.Rules.{rules}
 use borrow.Author.Tests.{eq-eqb, ne_eqb}
 use Rattle.subgroup_laws.specs.Bounded.{fails-every, passes-every}
 use Rattle.laws.specs.Truth.{and-fails, and-fails-left, both-and}
-use Rattle.subgroup_laws.specs.Groups.{isIdentity}
+use Rattle.subgroup_laws.specs.Groups.{is_identity}
 use Rattle.subgroup_laws.specs.Table.{product}
 use Rattle.table_check.proofs.table.is_identity.Statement.{statement}
 use Rattle.table_check.proofs.table.is_identity.Tie as tie
@@ -27,7 +27,7 @@ cell-requires : tie.Need-cell-requires invariant-loop decreases-loop
 cell-requires c κs = search rules
 
 returns : tie.Need-returns invariant-loop decreases-loop
-unfolding isIdentity
+unfolding is_identity
 returns c =
     let l = c.before.before.before.loop in
     let n = c.before.before.before.before.before.args.n in
@@ -38,7 +38,7 @@ cell-requires-2 : tie.Need-cell-requires-2 invariant-loop decreases-loop
 cell-requires-2 c κs = search rules
 
 returns-2 : tie.Need-returns-2 invariant-loop decreases-loop
-unfolding isIdentity
+unfolding is_identity
 returns-2 c =
     let l = c.before.before.before.before.before.loop in
     let n = c.before.before.before.before.before.before.before.args.n in
@@ -61,7 +61,7 @@ loop-again c =
     (omega arith, below_more _ _ l.invariant.1 (both-and _ _ left right))
 
 returns-3 : tie.Need-returns-3 invariant-loop decreases-loop
-unfolding isIdentity
+unfolding is_identity
 returns-3 c = sym (passes-every _ _ (λ i h. c.before.loop.invariant.1 i (omega arith)))
 
 pub is-identity-spec : {M : Type 1} → statement M
