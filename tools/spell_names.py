@@ -39,7 +39,10 @@ LEMMAS = {
     "operation.specs.Composed": "product_inside",
     "catalogue.specs.Calls": "in_a_row",
     "space_group_theorems.specs.Acceptance": "first_off",
+    "record_report.specs.Differences": "in_both",
 }
+# A constructor that has the name of a definition: its older spelling tells them apart.
+CONSTRUCTORS = {"in_both": "in-both"}
 # A constructor and a field, which no file has beside the definition.
 APART = {"noRoom", "sameBytes", "tooShort"}
 
@@ -64,8 +67,8 @@ def files(root, endings):
 
 
 def with_lemma(text, name):
-    """The lemma `name` with `_lem` behind it; the words of a path stay."""
-    return re.sub(rf"(?<![\w.'-]){name}(?![\w.'-])", name + "_lem", text)
+    """The lemma `name` with `_lem` behind it, or a constructor with its older spelling; the words of a path stay."""
+    return re.sub(rf"(?<![\w.'-]){name}(?![\w.'-])", CONSTRUCTORS.get(name, name + "_lem"), text)
 
 
 def lemmas(path, text):

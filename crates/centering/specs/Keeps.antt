@@ -77,6 +77,8 @@ filled_at zero (p ∷ l) zero d h = refl
 filled_at zero (p ∷ l) (suc i) d h = filled_at zero l i d (omega arith)
 filled_at (suc n) (p ∷ l) zero d h = refl
 filled_at (suc n) (p ∷ l) (suc i) d h = filled_at n l i d (omega arith)
+filled_at zero mathlib.Core.List.[] i d h = elim h [ ]
+filled_at (suc n) mathlib.Core.List.[] i d h = elim h [ ]
 
 module _ {A : Type 0} (test : A → Bool) (l : List A) (z : A) where
   -- One test less to make; a test that fails; none left.

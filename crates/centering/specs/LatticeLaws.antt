@@ -64,6 +64,7 @@ smallest-same c s t =
 at_each : {A B : Type 0} (f g : A → B) (l : List A) → map f l ≡ map g l → (a : A) → Mem a l → f a ≡ g a
 at_each f g (b ∷ l) e a (here p) = ap f p ∙ (cc) ∙ ap g (sym p)
 at_each f g (b ∷ l) e a (there m) = at_each f g l (cc) a m
+at_each {A = A} {B = B} f g [] e a x'' = elim x'' [ ]
 
 letters-by-byte : map (λ c. letter_of (byte_of c)) letters ≡ map Is letters
 unfolding letter_of letter_among

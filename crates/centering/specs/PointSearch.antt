@@ -46,6 +46,7 @@ pub found : (l : List Translation) (u : Triple) (d : Translation) (i : ℕ) → 
 unfolding has
 found (t ∷ l) u d zero h e = rw e refl
 found (t ∷ l) u d (suc i) h e = or-holds-right (same_triple u (triple_of t)) _ (found l u d i (omega arith) e)
+found [] u d i h e = elim h [ ]
 
 pub fourth : (l : List Translation) (u : Triple) (d : Translation) → length l ≡ 4 → same_triple u (triple_of (get_or l 0 d)) ≡ false
     → same_triple u (triple_of (get_or l 1 d)) ≡ false → same_triple u (triple_of (get_or l 2 d)) ≡ false

@@ -58,6 +58,8 @@ same_true : (a b : Bool) → T (same a b) → a ≡ b
 unfolding same
 same_true true true t = refl
 same_true false false t = refl
+same_true false true t = elim t [ ]
+same_true true false t = elim t [ ]
 
 same_at : Centering → ℕ → ℕ → ℕ → Bool
 same_at c x y z = same (has same_triple (point x y z) (points_of c)) (in_phase c (point x y z))

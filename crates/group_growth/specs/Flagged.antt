@@ -25,6 +25,8 @@ same_flag false false = true
 same_flag_lem : (a b : Bool) → T (same_flag a b) → a ≡ b
 same_flag_lem true true t = refl
 same_flag_lem false false t = refl
+same_flag_lem false true t = elim t [ ]
+same_flag_lem true false t = elim t [ ]
 
 flag_same : (a b : Bool) → a ≡ b → T (same_flag a b)
 flag_same true true p = tt

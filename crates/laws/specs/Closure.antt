@@ -62,6 +62,7 @@ module _ {A : Type 0} (same : A → A → Bool) where
   fresh-candidate (old t f) m = there (fresh-candidate f m)
   fresh-candidate (new h f) (here p) = here p
   fresh-candidate (new h f) (there m) = there (fresh-candidate f m)
+  fresh-candidate (done {l = l}) m = elim m [ ]
 
   module _ (E : Equivalence same) where
     -- the list stays without repeats
@@ -76,6 +77,7 @@ module _ {A : Type 0} (same : A → A → Bool) where
     fresh-has (old t f) (there m) = fresh-has f m
     fresh-has (new {x = y} {l} {r = r} h f) {x} (here p) = has_append_right same x l (y ∷ r) (Mem→has same E (here p))
     fresh-has (new {x = y} {l} {r = r} h f) (there m) = rw (append_snoc l y r) at (fresh-has f m)
+    fresh-has (done {l = l}) {x = x} x10 = elim x10 [ ]
 
 -- when x goes over to what was taken and r comes to what waits, r comes behind all that was found
 pub regroup : {A : Type 0} (taken waiting r : List A) (x : A) → (taken ++ x ∷ []) ++ (waiting ++ r) ≡ (taken ++ x ∷ waiting) ++ r

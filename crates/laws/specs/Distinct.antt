@@ -43,6 +43,7 @@ module _ {A : Type 0} (same : A → A → Bool) where
   unfolding has
   has_append_left x (y ∷ l) m t = elim (or_cases (same x y) (has x l) t)
       [ inl h ↦ or_left (same x y) _ h | inr h ↦ or_right (same x y) _ (has_append_left x l m h) ]
+  has_append_left x [] m t = elim t [ ]
 
   -- what the second of two lists has, both together have
   pub has_append_right : (x : A) (l m : List A) → T (has x m) → T (has x (l ++ m))
@@ -66,12 +67,14 @@ module _ {A : Type 0} (same : A → A → Bool) where
     | inl h ↦ ([], l, y, refl, h)
     | inr h ↦ let (before, after, z, p, s) = has_split x l h in (y ∷ before, after, z, ap (λ r. y ∷ r) p, s)
   ]
+  has_split x [] t = elim t [ ]
 
   -- a list that has x has a member equivalent to x
   pub has-member : (x : A) (l : List A) → T (has x l) → (y : A) × Mem y l × T (same x y)
   unfolding has
   has-member x (y ∷ l) t = elim (or_cases (same x y) (has x l) t)
       [ inl h ↦ (y, here refl, h) | inr h ↦ let (z, m, s) = has-member x l h in (z, there m, s) ]
+  has-member x [] t = elim t [ ]
 
   -- two lists without repeats that share nothing make one
   pub distinct_append : {l m : List A} → Distinct l → Distinct m → ((x : A) → Mem x l → ¬ T (has x m)) → Distinct (l ++ m)
@@ -98,6 +101,7 @@ module _ {A : Type 0} (same : A → A → Bool) where
     unfolding has
     has-respects x y (z ∷ l) h t = elim (or_cases (same y z) (has y l) t)
         [ inl k ↦ or_left (same x z) _ (E.transitive x y z h k) | inr k ↦ or_right (same x z) _ (has-respects x y l h k) ]
+    has-respects x y [] h t = elim t [ ]
 
     -- in a list without repeats two equivalent members are equal
     pub distinct-equal : {l : List A} → Distinct l → {x y : A} → Mem x l → Mem y l → T (same x y) → x ≡ y
@@ -105,6 +109,7 @@ module _ {A : Type 0} (same : A → A → Bool) where
     distinct-equal (cons {x = z} {l} h d) {x} {y} (here p) (there k) s = absurd (h (has-respects z y l (rw p at s) (Mem→has k)))
     distinct-equal (cons {x = z} {l} h d) {x} {y} (there m) (here q) s = absurd (h (has-respects z x l (rw q at (E.symmetric x y s)) (Mem→has m)))
     distinct-equal (cons h d) (there m) (there k) s = distinct-equal d m k s
+    distinct-equal nil {x = x} {y = y} x10 _ s = elim x10 [ ]
 
     -- a list without repeats may be lengthened by what it does not have
     pub distinct_snoc : {l : List A} → Distinct l → (x : A) → ¬ T (has x l) → Distinct (l ++ x ∷ [])
@@ -194,3 +199,4 @@ has-true {A} same x l = ((λ e. let (y, m, t) = has-member same x l (holds.1 e) 
     found : (l : List A) {y : A} → Mem y l → T (same x y) → T (has same x l)
     found (z ∷ l) (here e) t = or_left (same x z) _ (rw e at t)
     found (z ∷ l) (there m) t = or_right (same x z) _ (found l m t)
+    found [] {y = y} x3 t = elim x3 [ ]

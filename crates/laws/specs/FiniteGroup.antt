@@ -82,6 +82,7 @@ module _ {A : Type 0} (◌·◌ : A → A → A) where
   unfolding powers
   powers-member x (suc n) (here p) = (n, omega arith, p)
   powers-member x (suc n) (there m) = let (k, h, p) = powers-member x n m in (k, omega arith, p)
+  powers-member x zero {y = y} x'' = elim x'' [ ]
 
 module _ {A : Type 0} (same : A → A → Bool) (◌·◌ : A → A → A) (unit : A) {elements : List A} (G : Group same ◌·◌ unit elements) where
   infixl 70 ◌·◌
@@ -97,6 +98,8 @@ module _ {A : Type 0} (same : A → A → Bool) (◌·◌ : A → A → A) (unit
   power-cancel x m zero (suc n) h p = (n, unit-unique same ◌·◌ unit G (power ◌·◌ x n) x (power-member m n) m p)
   power-cancel x m (suc k) (suc n) h p =
       power-cancel x m k n (omega arith) (cancel_right same ◌·◌ unit G x (power ◌·◌ x n) (power ◌·◌ x k) m (power-member m n) (power-member m k) p)
+  power-cancel x m zero zero h p = elim h [ ]
+  power-cancel x m (suc k) zero h p = elim h [ ]
 
   module _ (D : DecidesEquality same) where
     -- the first n powers are without repeats, or some power is the unit

@@ -51,6 +51,7 @@ module _ {A : Type 0} (same : A → A → Bool) where
           → cond b zero (suc (place same x (l ++ r))) ≡ cond b zero (suc (place same x l))
       by-test true stays u = refl
       by-test false stays u = ap suc (stays u)
+  place-stays x [] r t = elim t [ ]
 
   -- the place of an element that the list does not have is behind it
   pub place-behind : (x : A) (l : List A) → ¬ T (has same x l) → place same x l ≡ length l
@@ -82,6 +83,7 @@ module _ {A : Type 0} (same : A → A → Bool) where
           → T (same x (get_or (y ∷ l) (cond b zero (suc (place same x l))) d))
       by-test true e later u = true-T e
       by-test false e later u = later u
+  place_same x [] d t = elim t [ ]
 
   -- what is fresh is determined
   fresh-unique : {l candidates r q : List A} → Fresh same l candidates r → Fresh same l candidates q → r ≡ q

@@ -15,7 +15,7 @@ member-at (x ∷ l) zero d h = here refl
 member-at (x ∷ l) (suc i) d h = there (member-at l i d (omega arith))
 
 -- and every member stands at one
-pub member-index : {A : Type 0} {l : List A} {x : A} (d : A) → Mem x l → (i : ℕ) × (i < length l) × (get_or l i d ≡ x)
+pub member-index : {A : Type 0} {x : A} {l : List A} (d : A) → Mem x l → (i : ℕ) × (i < length l) × (get_or l i d ≡ x)
 member-index d (here p) = (0, omega arith, sym p)
 member-index d (there m) = let (i, h, p) = member-index d m in (suc i, omega arith, p)
 

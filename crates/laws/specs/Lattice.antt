@@ -178,6 +178,7 @@ least-rank-le : (l : List Triple) (t : Triple) {p : Triple} → Mem p l → leas
 unfolding least_rank
 least-rank-le (q ∷ l) t (here e) = rw e (omega arith)
 least-rank-le (q ∷ l) t (there m) = let h = least-rank-le l t m in omega arith
+least-rank-le [] t {p = p} x' = elim x' [ ]
 
 least-rank-at : (l : List Triple) (t : Triple) → ((p : Triple) × Mem p l × (least_rank l t ≡ rank (t ⊕ p))) ⊎ (least_rank l t ≡ 1728)
 unfolding least_rank
@@ -300,6 +301,7 @@ has-filled (suc n) (p ∷ l) t h = elim (or_cases (same_triple t p) _ h) [
   | inl s ↦ or_left (same_triple t p) _ s
   | inr r ↦ or_right (same_triple t p) _ (has-filled n l t r)
 ]
+has-filled (suc n) [] t h = elim h [ ]
 
 least-rank-filled-le : (n : ℕ) (l : List Triple) (t : Triple) → least_rank (filled n l) t ≤ least_rank l t
 unfolding filled least_rank

@@ -46,6 +46,7 @@ module _ {A : Type 0} (same : A → A → Bool) (◌≺◌ : A → A → Type 0)
     where
       ahead : (u x : A) → Mem u (l ++ z ∷ []) → Mem x candidates → u ≺ x
       ahead u x k n = elim (mem-append-cases l k) [ inl o ↦ before u x o (there n) | inr o ↦ rw (mem-singleton o) (first x n) ]
+  fresh-least E (done {l = l}) _ before {x = x} x19 = elim x19 [ ]
 
 module _ {A G : Type 0} (◌·◌ : A → G → A) (◌≺◌ : A → A → Type 0) (◌⊏◌ : G → G → Type 0) where
   infixl 70 ◌·◌

@@ -23,6 +23,8 @@ integer-same (negsuc a) = eqb_refl a
 pub same-integer : (a b : ℤ) → T (same_integer a b) → a ≡ b
 same-integer (pos a) (pos b) t = ap pos (eqb→eq a b t)
 same-integer (negsuc a) (negsuc b) t = ap negsuc (eqb→eq a b t)
+same-integer (pos a) (negsuc b) t = elim t [ ]
+same-integer (negsuc a) (pos b) t = elim t [ ]
 
 -- the test as an equation
 pub integer-exact : (a b : ℤ) → (same_integer a b ≡ true) ↔ (a ≡ b)

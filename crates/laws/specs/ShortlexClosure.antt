@@ -42,6 +42,7 @@ module _ {G : Type 0} where
   numbered-position (g ∷ gens) (there m) =
       let (q, k, e) = mem-of-map later (numbered gens) m in
       rw (← e) (numbered-position gens k)
+  numbered-position [] {p = p} x' = elim x' [ ]
 
   -- each place is numbered
   position-numbered : (gens : List G) (i : ℕ) (g : G) → get_elem? gens i ≡ some g → Mem (i, g) (numbered gens)
@@ -98,9 +99,9 @@ module _ {A G : Type 0} (same : A → A → Bool) (◌·◌ : A → G → A) (un
   along-pair : {x : A} {u : Word} → ReachedWith (x, u) → (w : Word) {y : A} → along ◌·◌ unit gens x w ≡ some y → ReachedWith (y, u ++ w)
   unfolding along
   along-pair {x} {u} r [] {y} p = let h : x ≡ y = cc in rw (← h, append-nil) r
-  along-pair {x} {u} r (i ∷ w) p =
+  along-pair {x = x} {u = u} r (i ∷ w) {y = y} p =
       let (g, e, q) = (bind-eq-some_iff (get_elem? gens i) (λ g. along ◌·◌ unit gens (x · g) w)).0 p in
-      rw (append_snoc u i w) at (along-pair (step r (position-numbered gens i g e)) w q)
+      rw (append_snoc u i w) at (along-pair {x = (step-word (x, u) (i, ((bind-eq-some_iff {B = A} (get_elem? gens i) (λ g'. along ◌·◌ unit gens (x · g') w) {x = y}).0 p).0)).0} (step r (position-numbered gens i g e)) w q)
 
   -- the element of a pair that is reached is reached
   pair-element : {p : A × Word} → ReachedWith p → Reached ◌·◌ unit gens p.0

@@ -12,6 +12,7 @@ use mathlib.Core.List.{List, [], ◌∷◌, Memᴰ as Mem}
 -- a test that holds is true
 pub T_true : {b : Bool} → T b → b ≡ true
 T_true {b = true} t = refl
+T_true {b = false} t = elim t [ ]
 
 -- and the other way round
 pub true-T : {b : Bool} → b ≡ true → T b
@@ -64,14 +65,17 @@ same_truth a b f g = same_test a b (λ t. true-T (f (T_true t))) (λ t. true-T (
 -- an "and" that holds: its first test does,
 pub and_left : (a b : Bool) → T (a && b) → T a
 and_left true b t = tt
+and_left false b t = elim t [ ]
 
 -- and its second;
 pub and_right : (a b : Bool) → T (a && b) → T b
 and_right true b t = t
+and_right false b t = elim t [ ]
 
 -- two tests that hold make one that does
 pub both : (a b : Bool) → T a → T b → T (a && b)
 both true b t u = u
+both false b t u = elim t [ ]
 
 -- an "and" is true exactly if both tests are
 pub both_true : (a b : Bool) → (a && b ≡ true) ↔ ((a ≡ true) × (b ≡ true))
@@ -98,6 +102,7 @@ and-fails-left false b e = refl
 -- an "or" holds if its first test does,
 pub or_left : (a b : Bool) → T a → T (a || b)
 or_left true b t = tt
+or_left false b t = elim t [ ]
 
 -- and if its second does;
 pub or_right : (a b : Bool) → T b → T (a || b)
@@ -143,10 +148,11 @@ all test [] = true
 all test (a ∷ l) = test a && all test l
 
 -- then each does,
-pub all-member : {A : Type 0} (test : A → Bool) {l : List A} {a : A} → T (all test l) → Mem a l → T (test a)
+pub all-member : {A : Type 0} (test : A → Bool) {a : A} {l : List A} → T (all test l) → Mem a l → T (test a)
 unfolding all
 all-member test {l = b ∷ l} t (here e) = rw e (and_left (test b) _ t)
 all-member test {l = b ∷ l} t (there m) = all-member test (and_right (test b) _ t) m
+all-member {A = A} test {a = a} {l = []} t x5 = elim x5 [ ]
 
 -- and if each does, all do
 pub member-all : {A : Type 0} (test : A → Bool) (l : List A) → ((a : A) → Mem a l → T (test a)) → T (all test l)

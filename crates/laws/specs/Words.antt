@@ -33,6 +33,7 @@ Shortlex w v = (length w < length v) ⊎ ((length w ≡ length v) × LowerAtDiff
 difference-irreflexive : (w : Word) → ¬ LowerAtDifference w w
 difference-irreflexive (i ∷ w) (differ h) = omega arith
 difference-irreflexive (i ∷ w) (agree p d) = difference-irreflexive w d
+difference-irreflexive [] x' = elim x' [ ]
 
 -- of two differences the earlier decides
 difference-transitive : {w v u : Word} → LowerAtDifference w v → LowerAtDifference v u → LowerAtDifference w u
@@ -116,9 +117,9 @@ module _ {A G : Type 0} (◌·◌ : A → G → A) (unit : A) (gens : List G) wh
   along-reached : {x : A} → Reached ◌·◌ unit gens x → (w : Word) {y : A} → along x w ≡ some y → Reached ◌·◌ unit gens y
   unfolding along
   along-reached {x} r [] {y} p = let h : x ≡ y = cc in rw h at r
-  along-reached {x} r (i ∷ w) p =
+  along-reached {x = x} r (i ∷ w) {y = y} p =
       let (g, e, q) = (bind-eq-some_iff (get_elem? gens i) (λ g. along (x · g) w)).0 p in
-      along-reached (step r (position-member gens i e)) w q
+      along-reached {x = x · ((bind-eq-some_iff {B = A} (get_elem? gens i) (λ g'. along (x · g') w) {x = y}).0 p).0} (step r (position-member gens i e)) w q
 
   -- a word with one more position
   pub along-snoc : (x : A) (w : Word) {y : A} → along x w ≡ some y → (i : ℕ) {g : G} → get_elem? gens i ≡ some g → along x (w ++ i ∷ []) ≡ some (y · g)

@@ -79,6 +79,7 @@ pairs-known t d = ((λ (p, m, x, y). rw (x, y) (forth p m)), back t d)
     forth p (there (there (there (there (there (there (there (here h)))))))) = rw h (down-to-minus-three 0 (omega arith))
     forth p (there (there (there (there (there (there (there (there (here h))))))))) = rw h (down-to-minus-three 1 (omega arith))
     forth p (there (there (there (there (there (there (there (there (there (here h)))))))))) = rw h (down-to-minus-three 2 (omega arith))
+    forth p (there (there (there (there (there (there (there (there (there (there x40)))))))))) = elim x40 [ ]
 
     back : (t d : ℤ) → Known t d → Has t d pairs
     back t d minus_one = (_, there (here refl), refl, refl)

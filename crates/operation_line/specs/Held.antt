@@ -105,6 +105,7 @@ range p q (least, less, there (here e)) = rw e (omega arith, omega arith)
 range p q (least, less, there (there (here e))) = rw e (omega arith, omega arith)
 range p q (least, less, there (there (there (here e)))) = rw e (omega arith, omega arith)
 range p q (least, less, there (there (there (there (here e))))) = rw e (omega arith, omega arith)
+range p q (least, less, there (there (there (there (there x21))))) = elim x21 [ ]
 
 signed_range : (n : Bool) (p q : ℕ) → Proper (fraction p q) → (1 ≤ fraction_twelfths n p q) × (fraction_twelfths n p q ≤ 11)
 signed_range true p q h = let r = range p q h in (omega arith, omega arith)

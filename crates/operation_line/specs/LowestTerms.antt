@@ -35,6 +35,7 @@ is-in : (n : ℕ) (l : List ℕ) → Mem n l → is_in n l ≡ true
 unfolding is_in
 is-in n (m ∷ l) (here e) = rw (eq-eqb n m e) refl
 is-in n (m ∷ l) (there h) = either (eqb n m) (is_in n l) (is-in n l h)
+is-in n [] x' = elim x' [ ]
 
 first-or-later : (n m : ℕ) (l : List ℕ) (t b : Bool) → eqb n m ≡ t → (b ≡ true → Mem n l) → cond t true b ≡ true → Mem n (m ∷ l)
 first-or-later n m l true b h later k = here (eqb-true n m h)
@@ -75,6 +76,7 @@ at-most-twelve q (there (here e)) = omega arith
 at-most-twelve q (there (there (here e))) = omega arith
 at-most-twelve q (there (there (there (here e)))) = omega arith
 at-most-twelve q (there (there (there (there (here e))))) = omega arith
+at-most-twelve q (there (there (there (there (there x20))))) = elim x20 [ ]
 
 tested-lowest : (p q : ℕ) → is_lowest p q ≡ true → Lowest p q
 unfolding is_lowest parted

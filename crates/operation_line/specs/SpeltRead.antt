@@ -136,6 +136,7 @@ module _ (done : List (List Term)) (ts : List Term) (n : Bool) (m : ℕ) where
   over-read d (there (there (here e))) = subst Over (sym e) (λ less. rw (lt-ltb m 4 less))
   over-read d (there (there (there (here e)))) = subst Over (sym e) (λ less. rw (lt-ltb m 6 less))
   over-read d (there (there (there (there (here e))))) = subst Over (sym e) (λ less. rw (lt-ltb m 12 less))
+  over-read d (there (there (there (there (there x20))))) = elim x20 [ ]
 
 slash-read : (done : List (List Term)) (ts : List Term) (n : Bool) (m : ℕ) → step (state done ts (Numerator n m)) 47 ≡ at (state done ts (Behind n m))
 unfolding step_by after_numerator symbol_of symbol_in

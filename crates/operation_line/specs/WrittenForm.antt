@@ -69,6 +69,20 @@ letters-told ts (then (then (one o X) m Y x-y) n Z y-z) = ap₂ ◌++◌ (term_t
 letters-told ts (then (then (one o Y) m Z y-z) n l b) = absurd (none-behind b)
 letters-told ts (then (then (then a o Y b) m Z y-z) n l c) = absurd (none-behind c)
 letters-told ts (then (then (then a o Z b) m k c) n l d) = absurd (none-behind c)
+letters-told _ (then {m = m} {k = X} (one _ _) n X b) = elim b [ ]
+letters-told _ (then {m = m} {k = Y} (one _ _) n X b) = elim b [ ]
+letters-told _ (then {m = m} {k = Y} (one _ _) n Y b) = elim b [ ]
+letters-told _ (then {m = m} {k = Z} (one _ _) n l b) = elim b [ ]
+letters-told _ (then {m = m} {k = X} (then {k = k} (one _ _) _ _ c) n l b) = elim c [ ]
+letters-told _ (then {m = m} {k = Y} (then {k = X} (one _ _) _ _ x-y) n X b) = elim b [ ]
+letters-told _ (then {m = m} {k = Y} (then {k = X} (one _ _) _ _ x-y) n Y b) = elim b [ ]
+letters-told _ (then {m = m} {k = Y} (then {k = Y} (one _ _) _ _ c) n l b) = elim c [ ]
+letters-told _ (then {m = m} {k = Y} (then {k = Z} (one _ _) _ _ c) n l b) = elim c [ ]
+letters-told _ (then {m = m} {k = Z} (then {k = X} (one _ _) _ _ c) n l b) = elim b [ ]
+letters-told _ (then {m = m} {k = Z} (then {k = Z} (one _ _) _ _ c) n l b) = elim c [ ]
+letters-told _ (then {m = m} {k = k} (then {k = X} (then {ts = ts} a _ _ b) _ _ _) n l c) = elim b [ ]
+letters-told _ (then {m = m} {k = X} (then {k = Y} (then {k = k} {ts = ts} a _ _ b) _ _ c') n l c) = elim c' [ ]
+letters-told _ (then {m = m} {k = Y} (then {k = Y} (then {k = k} {ts = ts} a _ _ b) _ _ c') n l c) = elim c' [ ]
 
 letters-rest : (ts : List Term) → Ascending ts → twelfths_in ts ≡ 0
 unfolding twelfths_in twelfths_then

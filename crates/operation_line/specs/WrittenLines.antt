@@ -200,6 +200,14 @@ unused-letter (form.one n X) Y x-y = refl
 unused-letter (form.one n X) Z x-z = refl
 unused-letter (form.one n Y) Z y-z = refl
 unused-letter (form.then a n Y x-y) Z y-z = unused-letter a Z x-z
+unused-letter (form.one n X) X x10 = elim x10 [ ]
+unused-letter (form.one n Y) X x11 = elim x11 [ ]
+unused-letter (form.one n Y) Y x12 = elim x12 [ ]
+unused-letter (form.one n Z) l x11 = elim x11 [ ]
+unused-letter (form.then {m = m} {k = k} {ts = ts} a n X x11) l _ = elim x11 [ ]
+unused-letter (form.then {m = m} {ts = ts} a n Y x-y) X x17 = elim x17 [ ]
+unused-letter (form.then {m = m} {ts = ts} a n Y x-y) Y x18 = elim x18 [ ]
+unused-letter (form.then {m = m} {k = k} {ts = ts} a n Z _) l x14 = elim x14 [ ]
 
 unused-fraction : (p q : ℕ) {ts : List Term} → Ascending ts → used (fraction p q) ts ≡ false
 unfolding used

@@ -43,13 +43,13 @@ module _ (same : Translation → Translation → Bool) where
   pub data Found (f s : List Item) : Entry → Type 0 where
     first-only : (i : Item) → Mem i f → ((j : Item) → Mem j s → ¬ (i.code ≡ j.code)) → Found f s (first_only i)
     second-only : (j : Item) → Mem j s → ((i : Item) → Mem i f → ¬ (i.code ≡ j.code)) → Found f s (second_only j)
-    in_both : (i j : Item) → Mem i f → Mem j s → i.code ≡ j.code → same i.translation j.translation ≡ false → Found f s (in_both i j)
+    in-both : (i j : Item) → Mem i f → Mem j s → i.code ≡ j.code → same i.translation j.translation ≡ false → Found f s (in_both i j)
 
   -- It has the code of an item of one of them.
   found-code : {f s : List Item} {e : Entry} → Found f s e → ((i : Item) × Mem i f × (i.code ≡ e.code)) ⊎ ((j : Item) × Mem j s × (j.code ≡ e.code))
   found-code (first-only i m apart) = inl (i, m, refl)
   found-code (second-only j m apart) = inr (j, m, refl)
-  found-code (in_both i j m n q d) = inl (i, m, refl)
+  found-code (in-both i j m n q d) = inl (i, m, refl)
 
   -- It holds of longer lists too, if what they have more has other codes.
   widened : {f s f' s' : List Item} {e : Entry} → ((i : Item) → Mem i f → Mem i f') → ((j : Item) → Mem j s → Mem j s')
@@ -57,7 +57,7 @@ module _ (same : Translation → Translation → Bool) where
       → Found f s e → Found f' s' e
   widened into onto left right (first-only i m apart) = first-only i (into i m) (λ j n q. apart j (left i j m n q) q)
   widened into onto left right (second-only j m apart) = second-only j (onto j m) (λ i n q. apart i (right i j n m q) q)
-  widened into onto left right (in_both i j m n q d) = in_both i j (into i m) (onto j n) q d
+  widened into onto left right (in-both i j m n q d) = in-both i j (into i m) (onto j n) q d
 
   -- The heads: the first's is lower,
   module _ (i j : Item) (f s : List Item) (F : Ascending (i ∷ f)) (S : Ascending (j ∷ s)) where
@@ -124,7 +124,7 @@ module _ (same : Translation → Translation → Bool) where
             elim (append_cases (of_pair same i j) m) [
               | inl n ↦
                   let (r, d) = listed-pair i j e (same i.translation j.translation) refl n in
-                  subst (Found (i ∷ f) (j ∷ s)) (sym r) (in_both i j (here refl) (here refl) one d)
+                  subst (Found (i ∷ f) (j ∷ s)) (sym r) (in-both i j (here refl) (here refl) one d)
               | inr n ↦ both-wide i j f s F S one (rest s (tail-sorted Lower S) e n)
             ]
 
@@ -144,7 +144,7 @@ module _ (same : Translation → Translation → Bool) where
     unfolding against of_pair
     found-against [] S e (first-only k m apart) = elim (cases m) [ inl q ↦ here (ap first_only q) | inr n ↦ there (rest [] S _ (first-only k n apart)) ]
     found-against [] S e (second-only l n apart) = absurd (not-nil n)
-    found-against [] S e (in_both k l m n q d) = absurd (not-nil n)
+    found-against [] S e (in-both k l m n q d) = absurd (not-nil n)
     found-against (j ∷ s) S e found = by (λ d n. found-against s (tail-sorted Lower S) d n) (ltb i.code j.code) (ltb j.code i.code) refl refl e
         found
       where
@@ -155,23 +155,23 @@ module _ (same : Translation → Translation → Bool) where
         by below true u p q e (first-only k m apart) = elim (cases m)
             [ inl r ↦ here (ap first_only r) | inr n ↦ there (rest (j ∷ s) S _ (first-only k n apart)) ]
         by below true u p q e (second-only l n apart) = there (rest (j ∷ s) S _ (second-only l n (λ k m. apart k (there m))))
-        by below true u p q e (in_both k l m n r d) = elim (cases m) [
+        by below true u p q e (in-both k l m n r d) = elim (cases m) [
           | inl z ↦
               let lower = ltb-true i.code j.code p in
               let high = at_least S n in
               let one : k.code ≡ i.code = ap (λ (x : Item). x.code) z in
               absurd (omega arith)
-          | inr o ↦ there (rest (j ∷ s) S _ (in_both k l o n r d))
+          | inr o ↦ there (rest (j ∷ s) S _ (in-both k l o n r d))
         ]
         by below false true p q e (first-only k m apart) = there (below _ (first-only k m (λ l n. apart l (there n))))
         by below false true p q e (second-only l n apart) = elim (cases n) [ inl r ↦ here (ap second_only r) | inr o ↦ there (below _ (second-only l o apart)) ]
-        by below false true p q e (in_both k l m n r d) = elim (cases n) [
+        by below false true p q e (in-both k l m n r d) = elim (cases n) [
           | inl z ↦
               let lower = ltb-true j.code i.code q in
               let high = at_least F m in
               let one : l.code ≡ j.code = ap (λ (x : Item). x.code) z in
               absurd (omega arith)
-          | inr o ↦ there (below _ (in_both k l m o r d))
+          | inr o ↦ there (below _ (in-both k l m o r d))
         ]
         by below false false p q e (first-only k m apart) = elim (cases m) [
           | inl z ↦
@@ -189,7 +189,7 @@ module _ (same : Translation → Translation → Bool) where
               absurd (apart i (here refl) (omega arith))
           | inr o ↦ mem-right (of_pair same i j) (rest s (tail-sorted Lower S) _ (second-only l o (λ k m. apart k (there m))))
         ]
-        by below false false p q e (in_both k l m n r d) =
+        by below false false p q e (in-both k l m n r d) =
             let low = ltb-false i.code j.code p in
             let high = ltb-false j.code i.code q in
             elim (cases m) [
@@ -206,7 +206,7 @@ module _ (same : Translation → Translation → Bool) where
                     let higher = head_first Lower F k v in
                     let one : l.code ≡ j.code = ap (λ (x : Item). x.code) w in
                     absurd (omega arith)
-                | inr o ↦ mem-right (of_pair same i j) (rest s (tail-sorted Lower S) _ (in_both k l v o r d))
+                | inr o ↦ mem-right (of_pair same i j) (rest s (tail-sorted Lower S) _ (in-both k l v o r d))
               ]
             ]
 
@@ -214,7 +214,7 @@ module _ (same : Translation → Translation → Bool) where
   unfolding differences
   found-listed [] s F S e (first-only i m apart) = absurd (not-nil m)
   found-listed [] s F S e (second-only j m apart) = mem-map second_only m
-  found-listed [] s F S e (in_both i j m n q d) = absurd (not-nil m)
+  found-listed [] s F S e (in-both i j m n q d) = absurd (not-nil m)
   found-listed (i ∷ f) s F S e found = found-against i f F (λ t T d n. found-listed f t (tail-sorted Lower F) T d n) s S e found
 
   -- ---- their order

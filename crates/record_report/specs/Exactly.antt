@@ -26,7 +26,7 @@ use Rattle.group_record.specs.OperationItems.{item_of}
 use Rattle.group_record.specs.declared.items.Item.{Item}
 use Rattle.record_report.specs.Sheets.{operations_in, sheet_of}
 use Rattle.record_report.specs.Report.{Entry, entries_of}
-use Rattle.record_report.specs.Differences.{EntryLower, Found, first-only, second-only, in_both, listed_found, found-listed, ascends, only-list}
+use Rattle.record_report.specs.Differences.{EntryLower, Found, first-only, second-only, in-both, listed_found, found-listed, ascends, only-list}
 use Rattle.record_report.specs.Lent.{Read, read-form, read-good, sheet-items}
 
 -- The set of motions of a list, with L added, has a motion with this rotation.
@@ -101,7 +101,7 @@ module _ (c d : Centering) (l k : List Operation) (F : Form c l) (G : Form d k) 
       let (f, o, z) = turns-listed c l (motion_of g).rotation t in
       apart (item_of f) (mem-map item_of o) (turn-code f g (F.entries f o) (G.entries g n) z ∙ ap (λ (x : Item). x.code) q))
       (record { its-kind = refl; its-code = sym (ap (λ (x : Item). x.code) q); its-first = refl; its-second = sym (ap (λ (x : Item). x.translation) q) })
-  found-difference e (in_both i j m n same differ) =
+  found-difference e (in-both i j m n same differ) =
       let (f, o, q) = mem-of-map item_of l m in
       let (g, p, r) = mem-of-map item_of k n in
       let codes : code_of f.rotation ≡ code_of g.rotation = ap (λ (x : Item). x.code) q ∙ same ∙ sym (ap (λ (x : Item). x.code) r) in
@@ -122,7 +122,7 @@ module _ (c d : Centering) (l k : List Operation) (F : Form c l) (G : Form d k) 
       apart (subst (Turns c l) (code-turn f g (F.entries f o) (G.entries g m) (ap (λ (x : Item). x.code) r ∙ q)) (listed-turns c l f o))))
   difference-found e (both-differ f g m n turn differ says) =
       subst (Found (congruent_of c) (map item_of l) (map item_of k)) (said e 3 f f.translation g.translation says)
-      (in_both (item_of f) (item_of g) (mem-map item_of m) (mem-map item_of n) (turn-code f g (F.entries f m) (G.entries g n) turn)
+      (in-both (item_of f) (item_of g) (mem-map item_of m) (mem-map item_of n) (turn-code f g (F.entries f m) (G.entries g n) turn)
       ((not-congruent c f g).1 differ))
 
 -- ---- two records

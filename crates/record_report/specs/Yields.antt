@@ -37,7 +37,7 @@ use Rattle.record_report.specs.Sheets.{Sheet, sheet_of}
 use Rattle.record_report.specs.Report.{Entry, first_only, second_only, in_both, entry_bytes, differences, letters_report, entries_of, report_of}
 use Rattle.record_report.specs.Cursors.{nine-bytes}
 use Rattle.record_report.specs.Lent.{Read, read-good, read-few, congruent-equal, sheet-letter, record-bytes, record-items}
-use Rattle.record_report.specs.Differences.{Lower, Ascending, EntryLower, Found, first-only, second-only, in_both, listed_found, found-listed, ascends, differences-most}
+use Rattle.record_report.specs.Differences.{Lower, Ascending, EntryLower, Found, first-only, second-only, in-both, listed_found, found-listed, ascends, differences-most}
 use Rattle.record_report.specs.Taking.{entry_in, entries_in, entry_codes, stays, brings, brought, lower, taken_items, record_bytes, taken}
 
 -- ---- lists that ascend
@@ -99,7 +99,7 @@ module _ (same : Translation → Translation → Bool) (f s : List Item) (F : As
   stayed z m h = elim (among s z.code) [
     | inl (j, n, q) ↦ elim (passes-or-fails (same z.translation j.translation)) [
       | inl e ↦ mem-cast (item≡ (sym q) (exact z j m n e)) n
-      | inr e ↦ absurd (spoken (in_both z j) (found-listed same f s F S _ (in_both z j m n (sym q) e)) z refl h)
+      | inr e ↦ absurd (spoken (in_both z j) (found-listed same f s F S _ (in-both z j m n (sym q) e)) z refl h)
     ]
     | inr none ↦ absurd (spoken (first_only z) (found-listed same f s F S _ (first-only z m (λ j n q. none j n (sym q)))) z refl h)
   ]
@@ -108,7 +108,7 @@ module _ (same : Translation → Translation → Bool) (f s : List Item) (F : As
   come : (e : Entry) → Found same f s e → brings e ≡ true → Mem (brought e) s
   come e (first-only i m none) h = absurd (true≢false (sym h))
   come e (second-only j m none) h = m
-  come e (in_both i j m n q d) h = mem-cast (item≡ q refl) n
+  come e (in-both i j m n q d) h = mem-cast (item≡ q refl) n
 
   into : (z : Item) → Mem z (keep (stays D) f ++ map brought (keep brings D)) → Mem z s
   into z m = elim (append_cases (keep (stays D) f) m) [
@@ -128,7 +128,7 @@ module _ (same : Translation → Translation → Bool) (f s : List Item) (F : As
       → ¬ (e.code ≡ z.code)
   shared i z m n q h e (first-only k o none) r = none z n r
   shared i z m n q h e (second-only l o none) r = none i m (q ∙ sym r)
-  shared i z m n q h e (in_both k l o p r d) w =
+  shared i z m n q h e (in-both k l o p r d) w =
       let one = told F m o (q ∙ sym w) in
       let two = told S n p (sym w ∙ r) in
       true≢false (sym h ∙ ap₂ (λ (a b : Item). same a.translation b.translation) one two ∙ d)
@@ -140,7 +140,7 @@ module _ (same : Translation → Translation → Bool) (f s : List Item) (F : As
           let one : i ≡ z = item≡ q (exact i z m n h) in
           mem-left {s = keep (stays D) f} (map brought (keep brings D))
           (member-kept (stays D) f (mem-cast (sym one) m) (unspoken z (λ e o. shared i z m n q h e (listed_found same f s F S e o))))
-      | inr h ↦ bring (in_both i z) z (in_both i z m n q h) refl (item≡ q refl)
+      | inr h ↦ bring (in_both i z) z (in-both i z m n q h) refl (item≡ q refl)
     ]
     | inr none ↦ bring (second_only z) z (second-only z n none) refl refl
   ]
@@ -184,7 +184,7 @@ self-same same f F reflexive = no-members (differences same f f) (λ e m. by e (
     by : (e : Entry) → ¬ (Found same f f e)
     by e (first-only i m none) = none i m refl
     by e (second-only j m none) = none j m refl
-    by e (in_both i j m n q d) =
+    by e (in-both i j m n q d) =
         let one = told F m n q in
         true≢false (sym (reflexive i m) ∙ ap (λ (x : Item). same i.translation x.translation) one ∙ d)
 

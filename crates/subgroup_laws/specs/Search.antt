@@ -36,6 +36,7 @@ use Rattle.subgroup_laws.specs.Subsets.{Subgroup, conjugate_of}
 pub mem-place : (l : List ℕ) {x : ℕ} → Mem x l → (i : ℕ) × (i < length l) × (get_or l i 0 ≡ x)
 mem-place (y ∷ l) (here e) = (zero, omega arith, sym e)
 mem-place (y ∷ l) (there m) = let (i, h, e) = mem-place l m in (suc i, omega arith, e)
+mem-place [] x3 = elim x3 [ ]
 
 -- an old member stays when one is put in
 pub insert-member : (p m : ℕ) (l : List ℕ) {x : ℕ} → Mem x l → Mem x (insert_at p m l)

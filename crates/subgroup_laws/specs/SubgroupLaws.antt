@@ -32,6 +32,7 @@ pub member-below-list : (n x : ℕ) → Mem x (below n) → x < n
 unfolding below
 member-below-list (suc n) x (here p) = omega arith
 member-below-list (suc n) x (there m) = let h = member-below-list n x m in omega arith
+member-below-list zero x x3 = elim x3 [ ]
 
 -- each once
 pub below-distinct : (n : ℕ) → Distinct eqb (below n)

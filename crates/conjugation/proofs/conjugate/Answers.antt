@@ -1,0 +1,13 @@
+-- The check of the table, then the answer on its group.
+use mathlib.Core.Path.{sym, ◌∙◌}
+use Rattle.table_check.specs.TableVerdict.{checked-table}
+use Rattle.conjugation.proofs.conjugate.Goals as goal
+
+pub conjugate_in-requires : goal.conjugate_in-requires
+conjugate_in-requires c = checked-table _ _ _ (sym c.from_table.ensures ∙ c.in-Group.is)
+
+pub returns-in-Group : goal.returns-in-Group
+returns-in-Group c = c.conjugate_in.ensures ∙ simp (sym c.from_table.ensures ∙ c.in-Group.is)
+
+pub returns-in-NoGroup : goal.returns-in-NoGroup
+returns-in-NoGroup c = simp (sym c.from_table.ensures ∙ c.in-NoGroup.is)

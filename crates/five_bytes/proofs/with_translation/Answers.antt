@@ -1,0 +1,9 @@
+-- By cases of what the code stands for.
+use mathlib.Core.Path.{sym, ap}
+use Rattle.five_bytes.specs.FiveBytes.{with_translation}
+use Rattle.five_bytes.proofs.with_translation.Goals as goal
+
+pub returns-in-Inside : goal.returns-in-Inside
+returns-in-Inside c =
+    let a = c.args in
+    sym (ap (λ d. with_translation d a.translation) c.in-Inside.is)

@@ -1,0 +1,16 @@
+-- The invariant: the members still to come, and, if the cells are elements, the values of the others.
+use mathlib.Core.List.{List}
+use Prim.Native.Nat.{ℕ, ◌^◌, ◌<◌}
+use Rattle.subgroup_laws.specs.ImageLoop.{Imaging}
+use Rattle.subgroup_laws.specs.Table.{product, Cells}
+use Rattle.table_products.proofs.image_in.Given as goal
+
+-- (a x) b
+abbrev value : List ℕ → ℕ → ℕ → ℕ → ℕ → ℕ
+value t n a b x = product n t (product n t a x) b
+
+abbrev pub invariant-loop-left : goal.invariant-loop-left
+invariant-loop-left l = (l.left < 2 ^ l.n) × (Cells l.n l.t → Imaging l.n (value l.t l.n l.a l.b) l.s l.left l.found)
+
+abbrev pub decreases-loop-left : goal.decreases-loop-left
+decreases-loop-left l = l.left
