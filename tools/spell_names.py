@@ -44,7 +44,7 @@ LEMMAS = {
 # A constructor that has the name of a definition: its older spelling tells them apart.
 CONSTRUCTORS = {"in_both": "in-both"}
 # A constructor and a field, which no file has beside the definition.
-APART = {"noRoom", "sameBytes", "tooShort"}
+APART = {"noRoom", "sameBytes", "tooShort", "byTests", "nextPlace", "rowInside", "tooFew"}
 
 
 def snake(name):

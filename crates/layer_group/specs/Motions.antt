@@ -81,11 +81,13 @@ level-points c (inl e) t m = in_p (rw e at m)
   where
     in_p : Mem t (points_of P) → t.z ≡ 0
     in_p (here p) = ap (λ (t : Triple). t.z) p
+    in_p (there x6) = elim x6 [ ]
 level-points c (inr e) t m = in_c (rw e at m)
   where
     in_c : Mem t (points_of C) → t.z ≡ 0
     in_c (here p) = ap (λ (t : Triple). t.z) p
     in_c (there (here p)) = ap (λ (t : Triple). t.z) p
+    in_c (there (there x10)) = elim x10 [ ]
 
 same-level : (a b : ℤ) → residue (a +ℤ neg_ℤ b) ≡ 0 → residue a ≡ residue b
 same-level a b e =

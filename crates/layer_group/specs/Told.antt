@@ -73,6 +73,7 @@ front-all (p ∷ l) h o m = go (is_layer p) refl h m (λ k. front-all l k o)
     go true e h (here q) later = ap is_layer q ∙ e
     go true e h (there m) later = later (omega arith) m
     go false e h m later = absurd (omega arith)
+front-all [] h o m = elim m [ ]
 
 all-front : (l : List Operation) → ((o : Operation) → Mem o l → is_layer o ≡ true) → length l ≤ front l
 unfolding front

@@ -85,6 +85,7 @@ module _ (same : Translation → Translation → Bool) (f s : List Item) (F : As
     where
       not-both : (b : Bool) → T b → ¬ (not b ≡ true)
       not-both true t h = true≢false (sym h)
+      not-both false t h = elim t [ ]
 
   -- What no entry speaks of stays.
   unspoken : (i : Item) → ((e : Entry) → Mem e D → ¬ (e.code ≡ i.code)) → stays D i ≡ true

@@ -24,6 +24,7 @@ use Rattle.symbol_group.specs.declared.Answer.TheVariants.{Group, Refused}
 reduced-small : (gens : List Operation) → AllReduced gens → SmallGenerators gens
 reduced-small (g ∷ gens) h o (here p) = rw p ((digits-entries g.rotation).0 h.0.digits)
 reduced-small (g ∷ gens) h o (there m) = reduced-small gens h.1 o m
+reduced-small mathlib.Core.List.[] h o x'' = elim x'' [ ]
 
 pub symbol-small : (bytes : List ℕ) (c : Centering) (gens : List Operation) → Spells bytes c gens → SmallGenerators gens
 symbol-small bytes c gens s = reduced-small gens (symbol-reduced bytes c gens s)

@@ -1,0 +1,16 @@
+-- The reading from the first token on is the reading from the token reached on, with what has been found; each way out of the loop is a step of the reader.
+use mathlib.Core.Bool.{true}
+use Prim.Native.Nat.{◌-◌}
+use lib.ListN.{length, drop}
+use Rattle.hall_symbol.specs.Tokens.{tokens_from}
+use Rattle.hall_symbol.specs.Listed.{list_of}
+use Rattle.hall_symbol.specs.Reader.{operations, no_previous}
+use Rattle.hall_symbol.specs.Walk.{Reached}
+use Rattle.hall_symbol.proofs.parse.Given as goal
+
+abbrev pub invariant-loop-list : goal.invariant-loop-list
+invariant-loop-list l =
+    Reached l.text l.centering (operations (length l.text) l.centering (list_of l.initial.list) no_previous (tokens_from l.initial.at true (drop l.initial.at l.text))) l.at l.list l.previous
+
+abbrev pub decreases-loop-list : goal.decreases-loop-list
+decreases-loop-list l = length l.text - l.at

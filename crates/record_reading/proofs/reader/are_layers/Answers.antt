@@ -1,0 +1,11 @@
+-- Nothing is asked under a capital letter.
+use mathlib.Core.Path.{sym, ◌∙◌}
+use Rattle.layer_group.specs.Layers.{is_layer}
+use Rattle.record_reading.specs.Slots.{all-operations}
+use Rattle.record_reading.proofs.reader.are_layers.Goals as goal
+
+pub returns-then-not-small : goal.returns-then-not-small
+returns-then-not-small c = rw c.if-not-small.true
+
+pub returns : goal.returns
+returns c = rw c.if-not-small.false (c.all_layers.ensures ∙ sym (all-operations is_layer _))

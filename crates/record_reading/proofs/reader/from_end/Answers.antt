@@ -1,0 +1,8 @@
+-- The definition, byte for byte.
+use Rattle.group_record.specs.Editions.{from_end}
+use mathlib.Core.Path.{refl}
+use Rattle.record_reading.proofs.reader.from_end.Goals as goal
+
+pub returns : goal.returns
+unfolding from_end
+returns c = refl

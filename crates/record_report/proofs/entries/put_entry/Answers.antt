@@ -1,0 +1,34 @@
+-- Nine stores at the front.
+use native.Mathlib.Omega.{arith}
+use lib.ListN.{length-set}
+use Rattle.record_report.specs.Report.{entry_bytes}
+use Rattle.record_report.specs.Writing.{put-nine}
+use Rattle.record_report.proofs.entries.put_entry.Goals as goal
+
+pub bounds-out-1 : goal.bounds-out-1
+bounds-out-1 c = simp length-set (omega arith)
+
+pub bounds-out-2 : goal.bounds-out-2
+bounds-out-2 c = simp length-set (omega arith)
+
+pub bounds-out-3 : goal.bounds-out-3
+bounds-out-3 c = simp length-set (omega arith)
+
+pub bounds-out-4 : goal.bounds-out-4
+bounds-out-4 c = simp length-set (omega arith)
+
+pub bounds-out-5 : goal.bounds-out-5
+bounds-out-5 c = simp length-set (omega arith)
+
+pub bounds-out-6 : goal.bounds-out-6
+bounds-out-6 c = simp length-set (omega arith)
+
+pub bounds-out-7 : goal.bounds-out-7
+bounds-out-7 c = simp length-set (omega arith)
+
+pub bounds-out-8 : goal.bounds-out-8
+bounds-out-8 c = simp length-set (omega arith)
+
+pub returns : goal.returns
+unfolding entry_bytes
+returns c = put-nine c.args.out.now _ _ _ _ _ _ _ _ _ c.requires.0

@@ -1,0 +1,5 @@
+-- The common part, with the edition chosen.
+use Rattle.record_writing.proofs.copier.copy_record.Goals as goal
+
+pub returns : goal.returns
+returns c = c.write_read.ensures
