@@ -39,6 +39,9 @@ note_gate() {
 # Whether what stands in crates/*/out is what a passed `rt ci` built of these sources.
 gate_stands() { [ -f target/gate-passed ] && { state_of crates.txt crates && left_by_gate; } | cmp -s - target/gate-passed; }
 
+# Static libraries are built for every x86-64 processor. With no such words they need one with SSE4.2 and POPCNT, and do not look whether it is one.
+processor=(--cpu x86-64)
+
 # Proves the static library NAME and builds it over the libraries that `rt ci` has left; `rt lib` would prove each of those once more.
 build_over_gate() ( # NAME
     kit=$(dirname "$(rt doc)")
@@ -50,13 +53,13 @@ build_over_gate() ( # NAME
         words+=(-L "dependency=$folder")
     done
     words+=(--antt-project "$kit/rattle/logic/antt-project.json" --logic-built "$kit/logic_built" --jobs "$(($(nproc) > 1 ? 2 : 1))")
-    words+=(--links "$1=" --crate-type staticlib --toolchain "$kit/toolchain" --backend llvm)
+    words+=(--links "$1=" --crate-type staticlib "${processor[@]}" --toolchain "$kit/toolchain" --backend llvm)
     mkdir -p "crates/$1/out" && cd "crates/$1" && "$kit/bin/rattle" build "${words[@]}" -o "out/lib$1.a"
 )
 
 # Proves the static library NAME and writes crates/NAME/out/libNAME.a.
 build_archive() { # NAME
-    { gate_stands && build_over_gate "$1"; } || (cd "crates/$1" && rt lib)
+    { gate_stands && build_over_gate "$1"; } || (cd "crates/$1" && rt lib "${processor[@]}")
 }
 
 # Proves the program NAME and writes crates/NAME/out/NAME, which a passed `rt ci` has left there. Its input is empty, so it writes nothing.

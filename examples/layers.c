@@ -3,7 +3,7 @@
  * subgroups, which the symbol alone decides, so a drawing made today has the layers of one made last year. Conjugate subgroups look alike and get one
  * colour: the number of their class.
  *
- * Build: (cd crates/calls && rt lib)
+ * Build: (cd crates/calls && rt lib --cpu x86-64)
  *        gcc -std=c99 -static -I include examples/layers.c crates/calls/out/libcalls.a -o crates/calls/out/layers
  * Use:   crates/calls/out/layers '-P 4 2 3'
  */

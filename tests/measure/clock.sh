@@ -3,8 +3,9 @@
 #
 #   tests/measure/clock.sh BEFORE AFTER
 #
-# Each is a folder with libcalls.a, libtest_tables.a and libtest_products.a as `rt lib` writes them in the folders of these crates; a commit before test_products
-# is given that room, which needs nothing but `operation`. Elsewhere than on x86-64 the programs are emulated, and a time would be the emulator's, so none is taken.
+# Each is a folder with libcalls.a, libtest_tables.a and libtest_products.a as `rt lib --cpu x86-64` writes them in the folders of these crates; a commit before
+# test_products is given that room, which needs nothing but `operation`. Elsewhere than on x86-64 the programs are emulated, and a time would be the emulator's,
+# so none is taken.
 set -euo pipefail
 if [ $# -ne 2 ]; then
     echo "usage: clock.sh BEFORE AFTER" >&2

@@ -196,9 +196,9 @@ def of_others(calls):
 # ---- what they cost ----
 
 def counted(folder, calls, options=""):
-    """What the program and the plugin write. The program runs without an environment and on the least processor that the kit builds for
-    (x86-64-v2), so that nothing of this machine is counted."""
-    command = [shutil.which("qemu-x86_64"), "-cpu", "Nehalem", "-plugin", "./count.so,out=counted" + options, "./measure"]
+    """What the program and the plugin write. The program runs without an environment and on a processor without extensions, so that nothing of this
+    machine is counted."""
+    command = [shutil.which("qemu-x86_64"), "-cpu", "qemu64", "-plugin", "./count.so,out=counted" + options, "./measure"]
     lines = "".join(call.line() for call in calls).encode()
     said = subprocess.run(command, input=lines, stdout=subprocess.PIPE, cwd=folder, env={}, check=True).stdout.decode().splitlines()
     with open(os.path.join(folder, "counted"), encoding="utf-8") as counts:
