@@ -3,10 +3,9 @@
  * subgroups, which the symbol alone decides, so a drawing made today has the layers of one made last year. Conjugate subgroups look alike and get one
  * colour: the number of their class.
  *
- * Build: rt staticlib calls
- *        gcc -std=c99 -static -I include examples/layers.c target/staticlib/libcalls.a -o target/layers-example   (elsewhere than on x86-64:
- *        x86_64-linux-gnu-gcc)
- * Use:   target/layers-example '-P 4 2 3'   (there: qemu-x86_64 target/layers-example '-P 4 2 3')
+ * Build: (cd crates/calls && rt lib --cpu x86-64)
+ *        gcc -std=c99 -static -I include examples/layers.c crates/calls/out/libcalls.a -o crates/calls/out/layers
+ * Use:   crates/calls/out/layers '-P 4 2 3'
  */
 #include <stdio.h>
 #include <string.h>

@@ -1,6 +1,6 @@
 /*
  * Groups of crystal symmetry, from C or C++: what a Hall symbol, a group record or a table of products says, and the subgroups of such a group.
- * Link with libcalls.a, which `rt staticlib calls` makes for x86-64 under target/staticlib. examples/layers.c is a small client. docs/RULES.md has all rules,
+ * Link with libcalls.a, which `rt lib --cpu x86-64` makes in crates/calls, under out. examples/layers.c is a small client. docs/RULES.md has all rules,
  * among them how symbols are spelt (R1, R2), what a record is (R5) and every refusal (R8).
  *
  * Every function is a pure one: the same arguments get the same answer, on every day and every machine. Nothing is kept between calls but what the

@@ -3,7 +3,7 @@
 
     python3 tests/compare_program.py PROGRAM [--emulator COMMAND]
 
-PROGRAM is the proved program, target/bin/hall; COMMAND is what runs it where it does not run by itself. Its input is a pipe, fed whole or cut into
+PROGRAM is the proved program, crates/hall/out/hall; COMMAND is what runs it where it does not run by itself. Its input is a pipe, fed whole or cut into
 pieces at chosen places, with a pause behind each piece so that it is read by itself. The lines are the recorded symbols and the damaged ones, every
 byte in a line of its own and within one, lines around 80 bytes and over 4,096, and last lines with and without byte 10. The file that the gate
 gives the program, crates/hall/stdin, is asked too, and crates/hall/stdout is held to the model. Prints 'N passed, M failed'.

@@ -13,10 +13,11 @@ if [ $# -ne 1 ]; then
 fi
 rust=$(cd "$1" && pwd)
 cd "$(dirname "$0")/.."
+. client/proved.sh
 . tests/needed.sh
 need_rustc
 
 oracle/build.sh "$rust" "$scratch/oracle"
-quietly rt staticlib calls
-"${tools}gcc" -O1 -Wall -static tests/entries.c target/staticlib/libcalls.a -o "$scratch/entries"
+quietly build_archive calls
+"${tools}gcc" -O1 -Wall -static tests/entries.c crates/calls/out/libcalls.a -o "$scratch/entries"
 python3 tests/compare_rust.py "$scratch/entries" "$scratch/oracle/harness" --emulator "$emulator"

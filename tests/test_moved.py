@@ -10,7 +10,7 @@ TOOL = os.path.join(os.path.dirname(os.path.abspath(__file__)), "measure", "move
 FILES = {
     "crates/weights/specs/Lib.antt": "pub mod Weights\n",
     "crates/weights/specs/Weights.antt": """-- Weights.
-use Prim.Native.Nat.{ℕ, _+_}
+use Rattle.std.specs.Prelude.{ℕ, ◌+◌, ◌≤◌, ◌≡◌}
 
 -- twice a weight
 unfoldable pub twice : ℕ → ℕ
@@ -29,7 +29,10 @@ unfolding twice
 twice-nothing = refl
 """,
     "crates/weights/src/lib.rt": """// Weights.
-ghost use Rattle·weights·specs.specs.Weights.{twice};
+#![tactic(auto)]
+
+ghost use Rattle.std.specs.Prelude.{◌≡◌};
+ghost use Rattle.weights.specs.Weights.{twice};
 
 pub struct Weight {
     pub grams: u8,
@@ -38,7 +41,9 @@ pub struct Weight {
 impl Weight {
     // twice the weight, with a brace b'{' in its way
     pub fn doubled(self) -> u16
-        ensures { λ r. ⌜ r ≡ twice (self .grams) ⌝ }
+        requires { self.grams ≤ 200 }
+        ensures told { result ≡ twice self.grams }
+        ensures even { result % 2 ≡ 0 }
     {
         let brace = b'{';
         (self.grams as u16) * 2
@@ -49,12 +54,13 @@ fn unused(x: u8) -> u8 {
     x
 }
 """,
-    "crates/weights/proofs/Weight/doubled/Proof.antt": "-- a proof\nanswer = omega arith\n",
+    "crates/weights/proofs/Weight/doubled/Answers.antt": "-- a proof\npub returns : goal.returns\nreturns c = omega arith\n",
+    "crates/weights/proofs/Weight/doubled/Invariants.antt": "-- no loop\n",
     "crates/still/specs/Lib.antt": "pub mod Still\n",
     "crates/still/specs/Still.antt": "pub still : 0 ≡ 0\nstill = refl\n",
 }
 
-SPECS, SOURCE, PROOF = "crates/weights/specs/Weights.antt", "crates/weights/src/lib.rt", "crates/weights/proofs/Weight/doubled/Proof.antt"
+SPECS, SOURCE, PROOF = "crates/weights/specs/Weights.antt", "crates/weights/src/lib.rt", "crates/weights/proofs/Weight/doubled/Answers.antt"
 STILL = "crates/still/specs/Still.antt"
 # (what changes: file, old text, new text), the lines that are to be said of the crate
 CASES = [
@@ -66,11 +72,13 @@ CASES = [
     ([(SPECS, "-- twice a weight", "-- two times a weight")], []),
     ([(SPECS, "pub twice-nothing :", "twice-nothing :")], []),
     ([(SPECS, "twice n = n + n", "twice n =\n    n + n")], []),
-    ([(SOURCE, "twice (self .grams)", "twice (self .grams) + 0")], ["functions whose contract moved (1): Weight::doubled"]),
+    ([(SOURCE, "twice self.grams", "twice self.grams + 0")], ["functions whose contract moved (1): Weight::doubled"]),
+    ([(SOURCE, "% 2 ≡ 0", "% 2 ≡ 1")], ["functions whose contract moved (1): Weight::doubled"]),
+    ([(SOURCE, "≤ 200", "≤ 100")], ["functions whose contract moved (1): Weight::doubled"]),
     ([(SOURCE, "as u16) * 2", "as u16) * 3")], ["functions of which only the body moved (1): Weight::doubled"]),
     ([(SOURCE, "pub grams: u8", "pub grams: u16")], ["definitions moved (1): Weight"]),
     ([(SOURCE, "unused(x", "used(x")], ["functions gone (1): unused", "functions new (1): used"]),
-    ([(PROOF, "omega", "search")], ["proof files moved (1): Weight/doubled"]),
+    ([(PROOF, "omega", "search")], ["proof files moved (1): Weight/doubled/Answers"]),
 ]
 
 

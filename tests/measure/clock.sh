@@ -3,8 +3,9 @@
 #
 #   tests/measure/clock.sh BEFORE AFTER
 #
-# Each is a folder with libcalls.a, libtable_calls.a and libtest_products.a as `rt staticlib` writes them; a commit before test_products is given that room,
-# which needs nothing but `operation`. Elsewhere than on x86-64 the programs are emulated, and a time would be the emulator's, so none is taken.
+# Each is a folder with libcalls.a, libtest_tables.a and libtest_products.a as `rt lib --cpu x86-64` writes them in the folders of these crates; a commit before
+# test_products is given that room, which needs nothing but `operation`. Elsewhere than on x86-64 the programs are emulated, and a time would be the emulator's,
+# so none is taken.
 set -euo pipefail
 if [ $# -ne 2 ]; then
     echo "usage: clock.sh BEFORE AFTER" >&2
@@ -19,7 +20,7 @@ for build in "${builds[@]}"; do
     shift
     mkdir "$scratch/$build"
     quietly gcc -O2 -Wall -Wextra -shared -fPIC -fvisibility=hidden "$here/count.c" -o "$scratch/$build/count.so"
-    quietly "${tools}gcc" -O2 -Wall -Wextra -static -no-pie "$here/measure.c" "$here/product.c" "$libraries"/lib{calls,table_calls,test_products}.a \
+    quietly "${tools}gcc" -O2 -Wall -Wextra -static -no-pie "$here/measure.c" "$here/product.c" "$libraries"/lib{calls,test_tables,test_products}.a \
         -o "$scratch/$build/measure"
 done
 python3 "$here/clock.py" "$scratch/before" "$scratch/after" ${emulator:+--emulated}

@@ -1,52 +1,44 @@
-"""The gate's time by crate, as Markdown: seconds to prove it, its must-fail edits and theirs.
+"""The gate's time by crate, as Markdown: how long after its start each crate was proved, how many must-fail edits it has, and when all was done.
 
-    .ci/run >FILE && python3 tests/measure/gate_time.py FILE
-    python3 tests/measure/gate_time.py                        by what the last gate left in target/
+    .ci/run | python3 tests/measure/gate_time.py
 
-The seconds are those that `rt` says, of work that runs beside other work: their sum is more than the gate's own time.
+`rt` says no seconds, so each line is timed as it comes. A crate of an earlier run on this machine is not proved anew and gets no time; `rt ci --anew` in the
+place of `.ci/run` proves all.
 """
 
-import glob
 import os
 import re
 import sys
-from collections import defaultdict
+import time
+from collections import Counter
 
 ROOT = os.path.join(os.path.dirname(os.path.abspath(__file__)), "..", "..")
-LEFT = ("target/log/*.out", "target/must-fail/*/*.out")
-PROVED = re.compile(r"rt: (\w+) proved \((\d+) s\)")
-REFUSED = re.compile(r"rt: must-fail (\w+)/\S+: refused, as it must be \((?:.*; )?(\d+) s\)")
-
-
-def lines(files):
-    for name in files:
-        with open(name, encoding="utf-8") as file:
-            yield from (line.rstrip("\n") for line in file)
+PROVED = re.compile(r"rt: (\w+) proved")
+REFUSED = re.compile(r"rt: must-fail (\w+)/\S+: refused, as it must be.*")
+VERDICT = re.compile(r"\d+ passed, 0 failed")
 
 
 def row(*cells):
     print("| " + " | ".join("{:,}".format(cell) if isinstance(cell, int) else cell for cell in cells) + " |")
 
 
-def main(*files):
-    proved, edits = {}, defaultdict(list)
-    for line in lines(files or [name for form in LEFT for name in sorted(glob.glob(os.path.join(ROOT, form)))]):
+def main():
+    began, proved, edits, line = time.monotonic(), {}, Counter(), ""
+    for line in map(str.rstrip, sys.stdin):
         if found := PROVED.fullmatch(line):
-            proved[found[1]] = int(found[2])
+            proved[found[1]] = round(time.monotonic() - began)
         elif found := REFUSED.fullmatch(line):
-            edits[found[1]].append(int(found[2]))
+            edits[found[1]] += 1
+    if not VERDICT.fullmatch(line):
+        sys.exit("the gate did not pass: " + line)
+    row("crate", "proved after, s", "edits")
+    print("|---|---:|---:|")
     # Crates in the order of crates.txt.
-    listed = [line.split(":")[0] for line in lines([os.path.join(ROOT, "crates.txt")]) if ":" in line and not line.startswith("#")]
-    missing = [name for name in listed if name not in proved]
-    if missing:
-        sys.exit("no time of %s: the gate did not prove it anew" % ", ".join(missing))
-    row("crate", "proved, s", "edits", "their time, s", "longest, s", "together, s")
-    print("|---|---:|---:|---:|---:|---:|")
-    for name in listed:
-        row("`%s`" % name, proved[name], len(edits[name]), sum(edits[name]), max(edits[name], default=0), proved[name] + sum(edits[name]))
-    every = [took for some in edits.values() for took in some]
-    row("all", sum(proved.values()), len(every), sum(every), max(every, default=0), sum(proved.values()) + sum(every))
+    with open(os.path.join(ROOT, "crates.txt"), encoding="utf-8") as listed:
+        for name in (line.split()[0].rstrip(":") for line in listed if ":" in line and not line.startswith("#")):
+            row("`%s`" % name, proved.get(name, "kept"), edits[name])
+    row("all", round(time.monotonic() - began), sum(edits.values()))
 
 
 if __name__ == "__main__":
-    main(*sys.argv[1:])
+    main()

@@ -3,7 +3,7 @@
 
 A definition (abbrev, unfoldable, record, data, ruleset; struct, enum, const of the source) is held by its text; a theorem by its statement, the sections around
 it included, and apart from that by its proof; a function by its contract, its parameters included, and apart from that by its body; a proof file by its
-text. Comments, imports and white space count for nothing. `moved.py --counts COMMIT` counts what there is.
+text, one of answers apart from one of invariants. Comments, imports and white space count for nothing. `moved.py --counts COMMIT` counts what there is.
 """
 import re
 import subprocess

@@ -1,4 +1,4 @@
-// What a Hall symbol is read as, in numbers for C: a test library, so that tests/generators.c can hold the reader to other programs.
+// What a Hall symbol is read as, in numbers: a test library, for test_generators_c, which hands it to C.
 #![tactic(auto)]
 
 ghost use Rattle.std.specs.Prelude.{◌≡◌};
@@ -9,8 +9,7 @@ use hall_symbol::{Answer, HallSymbol};
 use operation::code::rotation_code;
 
 // Letter·256 + count modulo 256 below 65536; or number·65536 + place modulo 65536.
-#[unsafe(no_mangle)]
-pub extern "C" fn hall_symbol_answer(text: &[u8]) -> u64
+pub fn hall_symbol_answer(text: &[u8]) -> u64
     ensures { result ≡ packed_answer (answer_of (read_symbol text.now)) }
 {
     let symbol = HallSymbol::new(text);
@@ -28,8 +27,7 @@ pub extern "C" fn hall_symbol_answer(text: &[u8]) -> u64
 }
 
 // Rotation code·4096 + x·256 + y·16 + z of a generator, each coordinate modulo 16; of the identity past the slots.
-#[unsafe(no_mangle)]
-pub extern "C" fn hall_symbol_generator(text: &[u8], index: u64) -> u64
+pub fn hall_symbol_generator(text: &[u8], index: u64) -> u64
     ensures { result ≡ packed_generator (answer_of (read_symbol text.now)) index }
 {
     let symbol = HallSymbol::new(text);
