@@ -11,8 +11,8 @@ ghost use Rattle.hall.specs.Answers.{Writable};
 
 use answer_text::AnswerText;
 use answers::{answer_next, last_text};
-use libc::{STDERR_FILENO, STDIN_FILENO, STDOUT_FILENO};
 use lines::{Kept, fresh};
+use std::io::Read;
 
 // The line that is being read, and whether there may be more to read.
 #[derive(Clone, Copy)]
@@ -22,20 +22,21 @@ struct Step {
 }
 
 // Answers whether all of it was written.
-fn write_text(answer: AnswerText) -> bool
+fn write_text<R: Print + Eprint>(rt: &R, answer: AnswerText) -> bool
     requires { Writable answer }
 {
     let size = answer.length;
     let text = answer.bytes;
-    if io::write_all(STDOUT_FILENO, &text[..size]) {
+    if rt.write_all(&text[..size]).is_ok() {
         return true;
     }
-    io::write_all(STDERR_FILENO, b"hall: the output cannot be written\n");
+    // Where that cannot be written either, nobody is left to tell.
+    let _ = rt.eprintln("hall: the output cannot be written");
     false
 }
 
 // Where nothing can be written any more, nothing more is read.
-fn answer_piece(kept: Kept, piece: &[u8]) -> Step
+fn answer_piece<R: Print + Eprint>(rt: &R, kept: Kept, piece: &[u8]) -> Step
     ensures { result.more ≡ true → held result.kept ≡ kept_behind (held kept) piece.now }
 {
     let mut line = kept;
@@ -45,7 +46,7 @@ fn answer_piece(kept: Kept, piece: &[u8]) -> Step
         let text = answered.text;
         let taken = answered.taken;
         line = answered.kept;
-        if !write_text(text) {
+        if !write_text(rt, text) {
             return Step {
                 kept: fresh(),
                 more: false,
@@ -59,34 +60,36 @@ fn answer_piece(kept: Kept, piece: &[u8]) -> Step
     }
 }
 
-fn read_some(kept: Kept) -> Step {
-    let mut buffer = io::buffer();
-    let got = libc::read(STDIN_FILENO, &mut buffer);
-    let n = io::count(got, &buffer);
+// A read that fails ends the input, as one that gives nothing does.
+fn read_some<R: Print + Eprint, I: Read>(rt: &R, input: &mut I, kept: Kept) -> Step {
+    let mut buffer = [0u8; 4096];
+    let Ok(n) = input.read(&mut buffer) else {
+        return Step { kept, more: false };
+    };
     if n == 0 {
         return Step { kept, more: false };
     }
-    answer_piece(kept, &buffer[..n])
+    answer_piece(rt, kept, &buffer[..n])
 }
 
-// Reads and answers to the end; what is left is a last line that byte 10 does not end. A proved loop has to end, and nothing says that the input does: so it
-// counts its turns down, from a number that no run uses up.
-fn read_all() -> Kept {
+// Reads and answers to the end; what is left is a last line that byte 10 does not end. A proved loop has to end, and nothing says that the input does: so its
+// turns are counted, up to a number that no run uses up.
+fn read_all<R: Print + Eprint, I: Read>(rt: &R, input: &mut I) -> Kept {
     let mut kept = fresh();
-    let mut turns = u64::MAX;
-    while turns > 0 {
-        let step = read_some(kept);
+    for _ in 0..u64::MAX {
+        let step = read_some(rt, input, kept);
         let more = step.more;
         let next = step.kept;
         if !more {
             return next;
         }
         kept = next;
-        turns -= 1;
     }
     kept
 }
 
-fn main() {
-    write_text(last_text(read_all()));
+fn main(rt: HostRuntime) {
+    let mut input = rt.stdin();
+    let kept = read_all(&rt, &mut input);
+    write_text(&rt, last_text(kept));
 }
