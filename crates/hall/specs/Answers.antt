@@ -1,6 +1,6 @@
 -- What is to be written after a part of the input, and at its end: the texts of the lines that are handed over then, in the room of one text.
 use Rattle.std.specs.Prelude.{◌≡◌, refl, cond, List, [], ◌∷◌, ◌++◌, ℕ, ◌+◌, ◌-◌, ◌≤◌, ◌<◌, length, take, drop, replicate}
-use Rattle.std.proofs.Common.{sym, ◌∙◌, append-nil, arith, length-drop, take-append-drop, take_all, take_at, drop-drop}
+use Rattle.std.proofs.Common.{sym, ◌∙◌, append-nil, append_assoc, arith, length-drop, take-append-drop, take_all, take_at, drop-drop}
 use Rattle.std.proofs.Math.Path.{ap, ap₂}
 use Rattle.std.proofs.lemmas.List.{length-replicate}
 use Rattle.std.proofs.Math.Seq.{drop-length}
@@ -8,19 +8,25 @@ use Rattle.answer_text.specs.Text.{text_of, text_answer}
 use Rattle.answer_text.specs.Answering.{answer-size}
 use Rattle.answer_text.specs.declared.AnswerText.{AnswerText}
 use Rattle.lines.specs.Lines.{last_line, in_a_row, last-once}
-use Rattle.lines.specs.Feeding.{kept_behind, handed_over, taken_of, kept-parts, taken-within, taken-some}
+use Rattle.lines.specs.Feeding.{kept_behind, handed_over, taken_of, kept-parts, handed-parts, taken-within, taken-some}
 use Rattle.lines.specs.Keeping.{held, stored, zeros, line_in, any_line, first_line, taken_from, last_of}
 use Rattle.lines.specs.Storing.{handy-length, stored-whole, held-stored, held-handy}
 use Rattle.lines.specs.Taking.{kept-handy, handed-once}
 use Rattle.lines.specs.declared.Kept.{Kept}
 use Rattle.lines.specs.declared.Taken.{Taken}
 use Rattle.lines.specs.declared.Last.{Last}
-use Rattle.hall.specs.Output.{texts_of}
+use Rattle.hall.specs.Output.{texts_of, texts-joined}
 use Rattle.hall.specs.declared.answers.Answered.{Answered}
 
 -- A text in the room of an answer: zeros stand behind it.
 unfoldable pub in_room : List ℕ → AnswerText
 in_room text = record { length = length text; bytes = text ++ replicate (1814 - length text) 0 }
+
+-- The places of it that are in use.
+pub room-text : (a : AnswerText) (text : List ℕ) → a ≡ in_room text → take a.length a.bytes ≡ text
+unfolding in_room
+room-text a text e =
+    ap (λ (r : AnswerText). take r.length r.bytes) e ∙ take_at text (replicate (1814 - length text) 0) (length text) refl
 
 -- The texts of lines.
 abbrev pub texts_in_room : List (List ℕ) → AnswerText
@@ -139,15 +145,56 @@ module _ (piece : List ℕ) (from : ℕ) where
         let some = taken-some left (omega arith) in
         omega (arith, counted)
 
-    pub next-kept : kept_behind (held r.kept) (drop (from + r.taken) piece) ≡ kept_behind (held k) (drop from piece)
-    next-kept =
+    text_then : r.text ≡ texts_in_room (handed_over (held k) part)
+    unfolding answered_from
+    text_then = ap (λ (a : Answered). a.text) e
+
+    held-then : held r.kept ≡ kept_behind (held k) part
+    held-then =
         let behind = kept_behind (held k) part in
         let handy = kept-handy (held k) part (held-handy k places) in
-        ap₂ kept_behind (ap held kept_then ∙ held-stored k.bytes places behind handy)
-        (sym (drop-drop r.taken from piece) ∙ ap₂ drop counted (sym left-whole))
-        ∙ kept-parts (held k) part (drop (taken_of left) left) ∙ ap (kept_behind (held k)) (take-append-drop (taken_of left) left ∙ left-whole)
+        ap held kept_then ∙ held-stored k.bytes places behind handy
+
+    rest-then : drop (from + r.taken) piece ≡ drop (taken_of left) left
+    rest-then = sym (drop-drop r.taken from piece) ∙ ap₂ drop counted (sym left-whole)
+
+    whole-again : part ++ drop (taken_of left) left ≡ drop from piece
+    whole-again = take-append-drop (taken_of left) left ∙ left-whole
+
+    -- What is kept of the part goes on as what was kept before it.
+    pub next-kept : kept_behind (held r.kept) (drop (from + r.taken) piece) ≡ kept_behind (held k) (drop from piece)
+    next-kept =
+        ap₂ kept_behind held-then rest-then
+        ∙ kept-parts (held k) part (drop (taken_of left) left) ∙ ap (kept_behind (held k)) whole-again
+
+    -- The part's text, and the texts of what is left behind it, are those of what was left before it,
+    next-texts : take r.text.length r.text.bytes ++ texts_of (handed_over (held r.kept) (drop (from + r.taken) piece)) ≡ texts_of (handed_over (held k) (drop from piece))
+    next-texts =
+        let rest = drop (taken_of left) left in
+        ap₂ (λ (t : List ℕ) (lines : List (List ℕ)). t ++ texts_of lines)
+        (room-text r.text (texts_of (handed_over (held k) part)) text_then)
+        (ap₂ handed_over held-then rest-then)
+        ∙ texts-joined (handed_over (held k) part) (handed_over (kept_behind (held k) part) rest)
+        ∙ ap texts_of (handed-parts (held k) part rest ∙ ap (handed_over (held k)) whole-again)
+
+    -- so what is written, with what is left, stays the same.
+    pub next-written : (written all : List ℕ) → written ++ texts_of (handed_over (held k) (drop from piece)) ≡ all
+        → (written ++ take r.text.length r.text.bytes) ++ texts_of (handed_over (held r.kept) (drop (from + r.taken) piece)) ≡ all
+    next-written written all e =
+        append_assoc written (take r.text.length r.text.bytes) (texts_of (handed_over (held r.kept) (drop (from + r.taken) piece)))
+        ∙ ap (λ (l : List ℕ). written ++ l) next-texts ∙ e
 
 -- Nothing of it is left.
 pub kept_whole : (piece : List ℕ) (from : ℕ) (kept : List ℕ) → from ≡ length piece → kept ≡ kept_behind kept (drop from piece)
 unfolding kept_behind
 kept_whole piece from kept e = rw (e, drop-length piece)
+
+-- So all is written.
+no-texts : (piece : List ℕ) (from : ℕ) (kept : List ℕ) → from ≡ length piece → texts_of (handed_over kept (drop from piece)) ≡ []
+unfolding handed_over in_a_row
+no-texts piece from kept e = rw (e, drop-length piece)
+
+pub written_whole : (piece : List ℕ) (from : ℕ) (kept written all : List ℕ) → from ≡ length piece → written ++ texts_of (handed_over kept (drop from piece)) ≡ all
+    → written ≡ all
+written_whole piece from kept written all e f =
+    sym (append-nil written) ∙ ap (λ (l : List ℕ). written ++ l) (sym (no-texts piece from kept e)) ∙ f

@@ -1,4 +1,5 @@
 -- What the program writes for the lines that it reads.
 pub mod Output
 pub mod Answers
+pub mod Moved
 pub mod Example

@@ -1,6 +1,6 @@
 -- What is written for a whole input, and that it is written however the input is cut into pieces.
 use Rattle.std.specs.Prelude.{◌≡◌, refl, Bool, true, false, List, [], ◌∷◌, ◌++◌, map, ℕ, leb, length, take}
-use Rattle.std.proofs.Common.{◌∙◌, ap, ap₂, arith, take_at, length-take-le, leb-true, leb-false}
+use Rattle.std.proofs.Common.{◌∙◌, ap, ap₂, append_assoc, arith, take_at, length-take-le, leb-true, leb-false}
 use Rattle.answer_text.specs.Text.{text_of}
 use Rattle.answer_text.specs.FirstBytes.{long-alike}
 use Rattle.lines.specs.Lines.{lines_of, in_a_row}
@@ -14,6 +14,19 @@ texts_of lines = in_a_row (map text_of lines)
 unfoldable pub output_of : List ℕ → List ℕ
 output_of text = texts_of (lines_of text)
 
+-- Texts of lines, one behind the other.
+rows-joined : (a b : List (List ℕ)) → in_a_row a ++ in_a_row b ≡ in_a_row (a ++ b)
+unfolding in_a_row
+rows-joined [] b = refl
+rows-joined (t ∷ a) b = append_assoc t (in_a_row a) (in_a_row b) ∙ ap (λ (l : List ℕ). t ++ l) (rows-joined a b)
+
+map-joined : (a b : List (List ℕ)) → map text_of a ++ map text_of b ≡ map text_of (a ++ b)
+map-joined [] b = refl
+map-joined (t ∷ a) b = ap (λ (l : List (List ℕ)). text_of t ∷ l) (map-joined a b)
+
+pub texts-joined : (a b : List (List ℕ)) → texts_of a ++ texts_of b ≡ texts_of (a ++ b)
+texts-joined a b = rows-joined (map text_of a) (map text_of b) ∙ ap in_a_row (map-joined a b)
+
 -- The text of a line that is shortened is the text of the line.
 shortened-text : (line : List ℕ) → text_of (shortened line) ≡ text_of line
 shortened-text line = by_length (leb (length line) 80) refl
@@ -26,7 +39,7 @@ shortened-text line = by_length (leb (length line) 80) refl
         let full = length-take-le 80 line (omega arith) in
         long-alike (shortened line) line (omega arith) long (ap (take 80) (long-shortened line long) ∙ take_at (take 80 line) (0 ∷ []) 80 full)
 
-shortened-texts : (lines : List (List ℕ)) → texts_of (map shortened lines) ≡ texts_of lines
+pub shortened-texts : (lines : List (List ℕ)) → texts_of (map shortened lines) ≡ texts_of lines
 unfolding in_a_row
 shortened-texts [] = refl
 shortened-texts (line ∷ lines) = ap₂ ◌++◌ (shortened-text line) (shortened-texts lines)

@@ -4,9 +4,9 @@
 
 ghost use Rattle.std.specs.Prelude.{◌<◌};
 
-use libc::STDOUT_FILENO;
 use operation::code::{Decoded, rotation_of_code};
 use operation::rotation_type::{Identified, RotationType, identify_rotation_type};
+use std::io;
 
 fn entry(digit: u8) -> i32 {
     match digit {
@@ -52,18 +52,19 @@ fn character(code: u32) -> u8 {
     }
 }
 
-fn write_line(first: u32)
+fn write_line<R: Print>(rt: &R, first: u32) -> io::Result<()>
     requires { first < 19683 }
 {
     let mut line = [b'\n'; 82];
     for i in 0..81 {
         line[i] = character(first + i as u32);
     }
-    io::write_all(STDOUT_FILENO, &line);
+    rt.write_all(&line)
 }
 
-fn main() {
+fn main(rt: HostRuntime) -> io::Result<()> {
     for line in 0..243 {
-        write_line(line * 81);
+        write_line(&rt, line * 81)?;
     }
+    Ok(())
 }
