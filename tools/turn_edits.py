@@ -36,16 +36,13 @@ def words(text):
 
 
 def bare(text):
+    """The words of a text but those that today's has nowhere."""
     return [word for word, _, _ in words(text) if word not in DROPPED]
 
 
 def matched(left, right):
+    """How two lists answer each other: equal parts, replaced ones and so on, each with its places in both."""
     return difflib.SequenceMatcher(None, left, right, autojunk=False).get_opcodes()
-
-
-def blocks(left, right):
-    """Parts of two lists of lines that answer each other, as (from, to, from, to); the equal ones too."""
-    return [(a, b, c, d, tag) for tag, a, b, c, d in matched(left, right)]
 
 
 def spine(text, end):
@@ -116,7 +113,7 @@ class Spelling:
     def learn(self, name, older, today):
         left, right = ([line for line in text.split("\n") if not IMPORT.match(line)] for text in (older, today))
         seen = [self.line(name, line) for line in left]
-        for a, b, c, d, _ in blocks(seen, [" ".join(bare(line)) for line in right]):
+        for _, a, b, c, d in matched(seen, [" ".join(bare(line)) for line in right]):
             first, second = bare("\n".join(left[a:b])), bare("\n".join(right[c:d]))
             spelled = [self.word(name, word) for word in first]
             for tag, i, j, k, m in matched(spelled, second):
@@ -181,6 +178,7 @@ def fits(crate, text):
 
 
 def written(parts):
+    """An edit's text."""
     lines = []
     for part in parts:
         if part[0] == "pair":
@@ -191,7 +189,7 @@ def written(parts):
 
 
 def changed(old, new):
-    """What differs between two texts, by words: (how many words before, the old words, the new text's span)."""
+    """What differs between two texts: from which word to which in the one, and in the other."""
     left, right = words(old), words(new)
     a = 0
     while a < min(len(left), len(right)) and left[a][0] == right[a][0]:
@@ -203,20 +201,17 @@ def changed(old, new):
 
 
 def once_round(text, start, end):
-    """The part of a line that stands once in the text and holds a place of it."""
+    """The line that holds a place of a text, if it stands there once."""
     first = text.rfind("\n", 0, start) + 1
     last = text.find("\n", end)
     last = len(text) if last < 0 else last
     if "\n" in text[start:end]:
         return None
-    spans = words(text[first:last])
-    starts = sorted({first + s for _, s, _ in spans if first + s <= start} | {start, first}, reverse=True)
-    ends = sorted({first + e for _, _, e in spans if first + e >= end} | {end, last})
-    # The whole line from its first word on is the plainest; a shorter part only where it must be.
+    # From the line's first word on, or the line with the spaces before it.
     indent = first + len(text[first:last]) - len(text[first:last].lstrip())
-    for s, e in ((min(indent, start), last), (first, last)):
-        if text.count(text[s:e]) == 1:
-            return s, e
+    for begin in (indent, first):
+        if text.count(text[begin:last]) == 1:
+            return begin, last
     return None
 
 
@@ -229,18 +224,16 @@ def place_today(spelling, name, older, today, start, end):
     left, right = older.split("\n"), today.split("\n")
     seen = [spelling.line(name, line) for line in left]
     first, last = older.count("\n", 0, start), older.count("\n", 0, end)
-    low, high = first, last + 1
     offset_left, offset_right = [0], [0]
     for line in left:
         offset_left.append(offset_left[-1] + len(line) + 1)
     for line in right:
         offset_right.append(offset_right[-1] + len(line) + 1)
-    ops = blocks(seen, [" ".join(bare(line)) for line in right])
+    ops = matched(seen, [" ".join(bare(line)) for line in right])
     # The block of lines round the place, with one equal block on either side.
-    hit = [n for n, (a, b, c, d, _) in enumerate(ops) if a < high and b > low]
-    lowest, highest = max(hit[0] - 1, 0), min(hit[-1] + 1, len(ops) - 1)
-    a, c = ops[lowest][0], ops[lowest][2]
-    b, d = ops[highest][1], ops[highest][3]
+    hit = [n for n, (_, a, b, _, _) in enumerate(ops) if a <= last and b > first]
+    _, a, _, c, _ = ops[max(hit[0] - 1, 0)]
+    _, _, b, _, d = ops[min(hit[-1] + 1, len(ops) - 1)]
     part_left, part_right = older[offset_left[a]: offset_left[b]], today[offset_right[c]: offset_right[d]]
     first_words = [w for w in words(part_left) if w[0] not in DROPPED]
     second_words = words(part_right)
