@@ -4,11 +4,15 @@
 `python3 tests/edits/try.py [--gate] [CRATE...]`: all of them, or those of the crates named; with --gate those of the crates' own must-fail/, which are then judged
 by all that the prover says. It works in copies of the repository, one for each processor; `rt` begins there with what earlier checks on this machine kept. In a
 copy a crate is proved once over the folder in which the prover keeps what it has checked; with an edit it then checks only what the edit touches, so an edit takes
-seconds where the gate proves the whole crate. Each edit starts from the folder of the unchanged crate. One line each, and 'N passed, M failed' at the end.
+seconds where the gate proves the whole crate. Each edit starts from the folder of the unchanged crate. A goal has its name from the condition that it stands
+under, as `returns-then-status-ge80`: where an edit changes that, the answers in the proof files are given to the goals that stand in their place, so that they
+are refused by what they do not prove and not by a name. One line each, and 'N passed, M failed' at the end.
 """
+import difflib
 import glob
 import os
 import queue
+import re
 import shutil
 import subprocess
 import sys
@@ -56,6 +60,22 @@ def proved(copy, crate):
     return run.returncode, run.stdout
 
 
+# A name of a proof file that the edit took away, and the names that the prover has in its place or asks for.
+GONE = re.compile(r"^(?:\./)?(proofs/[^:]*\.antt):\d+:\d+: error: [^\n]*? has no (?:field )?`([^`]+)`(?:[^\n]*\(nearest: ([^)\n]*)\))?", re.M)
+ASKED = re.compile(r"^note: src/[^\n]*it is not proved that [^\n]*\(`([^`]+)`\)", re.M)
+
+
+def renamed(log, texts, read):
+    """The proof files in which names that are gone are those that stand in their place now, over the texts that are changed already."""
+    made = dict(texts)
+    for path, name, nearest in GONE.findall(log):
+        close = difflib.get_close_matches(name, [word.strip(" .`") for word in nearest.split(",") if word] + ASKED.findall(log), 1)
+        if close:
+            text = made.get(path) or read(path)
+            made[path] = re.sub(rf"(?<![\w-]){re.escape(name)}(?![\w-])", close[0], text)
+    return made
+
+
 def tried(copy, crate, edit):
     """Whether an edit of a crate is refused because a fact fails, and that in words."""
     folder = os.path.join(copy, "crates", crate)
@@ -63,10 +83,20 @@ def tried(copy, crate, edit):
         texts = edited(folder, edit)
     except Unfit as wrong:
         return False, f"does not fit: {wrong}"
-    before = {name: open(os.path.join(folder, name)).read() for name in texts}
-    for name, text in texts.items():
-        open(os.path.join(folder, name), "w").write(text)
-    status, log = proved(copy, crate)
+    before = {}
+
+    def read(name):
+        return open(os.path.join(folder, name)).read()
+
+    for _ in range(4):
+        for name, text in texts.items():
+            before.setdefault(name, read(name))
+            open(os.path.join(folder, name), "w").write(text)
+        status, log = proved(copy, crate)
+        again = renamed(log, texts, read)
+        if status == 0 or judged(log)[0] or again == texts:
+            break
+        texts = again
     for name, text in before.items():
         open(os.path.join(folder, name), "w").write(text)
     if status == 0:
