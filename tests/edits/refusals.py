@@ -1,39 +1,64 @@
 #!/usr/bin/env python3
-"""Says of each must-fail edit that `rt` tried in a repository whether it was refused because a fact fails: `refusals.py [REPOSITORY]`.
+"""Says of each must-fail edit of the gate whether it was refused because a fact fails: `rt ci 2>&1 | tee SAID; refusals.py SAID [REPOSITORY]`.
 
-`rt` counts an edit as refused where the crate is no longer proved. That shows nothing if the proof file merely no longer fits the code, as its first
-error then says, or if a name is missing. One line each, and 'N passed, M failed' at the end.
+SAID is what `rt ci` or `rt must-fail` wrote. `rt` counts an edit as refused where the crate is no longer proved. That shows nothing if a proof file merely names
+what the edit took away, if a name is missing, or if the prover came to a limit of its own; and an edit that does not fit or cannot be read is no more than a
+remark there. Here each of these fails, and so does an edit of which SAID has no line. One line each, and 'N passed, M failed' at the end.
 """
 import glob
 import os
 import re
 import sys
 
-UNFIT = re.compile(r"has no `Need-|is not in scope|no such (?:module|name)|unknown name|cannot find")
-
-# A function that has no file is proved by the prover's own search: it says which fact that does not reach.
-NOT_REACHED = re.compile(r"^fn (\S+): no proof: .*`search` does not close `([^`]+)`", re.M)
+# A proof file no longer fits the code, or a name is missing.
+UNFIT = re.compile(r"has no `|has no field|is not in scope|was not admitted|no such (?:module|name)|unknown name|cannot find")
+PLACE = r"(?:\./)?((?:src|specs|proofs)/[^ :]*\.(?:antt|rt):\d+)"
+# An error of a declaration, by its name: one without it says that a text cannot be read, or that something rests on a declaration that fails.
+ERROR = re.compile(rf"^{PLACE}:\d+: error: `[^`]+`: ")
+# A goal that has no answer is proved by the prover's own search: it says which fact that does not reach.
+NOT_REACHED = re.compile(rf"^note: {PLACE}:\d+: (it is not proved that .*)")
+# It found values at which a goal is false.
+FALSE = "the facts known there allow values"
+LINE = re.compile(r"^(?:rt: )?must-fail ([^/ ]+/[^ ]+)\.edit: (.*)")
+REFUSED = "refused, as it must be: "
 
 
 def judged(log):
     """Whether what the prover said of a crate that it did not prove shows a fact that fails, and that in words."""
-    first = next((line.strip() for line in log.split("\n") if ": error" in line), "")
-    left = NOT_REACHED.search(log)
-    if not first and left:
-        return True, f"refused, {left.group(2)} of {left.group(1)} does not hold"
-    if not first or UNFIT.search(first):
+    lines = log.split("\n")
+    first = next((line.strip() for line in lines if ": error" in line), "")
+    left = [found for found in map(NOT_REACHED.match, lines) if found]
+    false = next((found for found in left if FALSE in found[2]), None)
+    found = ERROR.match(first)
+    if found and not UNFIT.search(first):
+        return True, f"refused at {found[1]}"
+    if left and (false or not first):
+        found = false or left[0]
+        return True, f"refused at {found[1]}, {found[2][:200]}"
+    return False, f"refused, but not by a fact: {first[:300]}"
+
+
+def told(verdict):
+    """The same of the line that `rt` wrote of an edit, which has the first thing of the prover's words that is not a name that the edit took away."""
+    if not verdict.startswith(REFUSED):
+        return False, verdict[:300]
+    first = verdict[len(REFUSED):]
+    found = ERROR.match(first) or NOT_REACHED.match(first)
+    if not found or UNFIT.search(first):
         return False, f"refused, but not by a fact: {first[:300]}"
-    place = re.search(r"((?:src|specs|proofs)/[^ ]*?\.(?:antt|rt)):(\d+)", first)
-    return True, f"refused at {place.group(1)}:{place.group(2)}" if place else "refused"
+    return True, f"refused at {found[1]}"
 
 
 def main(words):
-    root = words[0] if words else "."
+    with open(words[0], errors="replace") as said:
+        verdicts = dict(found.groups() for found in map(LINE.match, said) if found)
+    root = words[1] if len(words) > 1 else os.path.join(os.path.dirname(os.path.abspath(__file__)), "..", "..")
+    edits = sorted(glob.glob(os.path.join(root, "crates/*/must-fail/*.edit")))
     failed = passed = 0
-    for result in sorted(glob.glob(os.path.join(root, "target/must-fail/*/*.res"))):
-        name = "/".join(result[: -len(".res")].split(os.sep)[-2:])
-        with open(result) as said, open(os.path.join(result[: -len(".res")], ".log"), errors="replace") as log:
-            good, words = judged(log.read()) if said.read().strip() == "refused" else (False, "NOT REFUSED")
+    for edit in edits:
+        parts = edit[: -len(".edit")].split(os.sep)
+        name = f"{parts[-3]}/{parts[-1]}"
+        good, words = told(verdicts[name]) if name in verdicts else (False, "it was not tried")
         passed, failed = passed + good, failed + (not good)
         print(f"{name}: {words}")
     print(f"{passed} passed, {failed} failed")
