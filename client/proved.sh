@@ -25,8 +25,8 @@ left_by_gate() {
     { sha256sum crates/*/out/rlib/stamp crates/*/out/rlib/*.rlib/format crates/hall/out/hall 2>/dev/null || true; } | sha256sum
 }
 
-# Notes that `rt ci` has just passed, so that what it built can be used. Where other commands of `rt` had been at work before, it has given their libraries
-# back and they stand in the place of its own; then nothing is noted.
+# Notes that `rt ci` has just passed, so that what it built can be used. It gives back the libraries that stood before it in the place of its own: the caller
+# sees to it that none stood, or only those of these sources. Where another command of `rt` had left some, which have a stamp, nothing is noted.
 note_gate() {
     mkdir -p target
     if compgen -G 'crates/*/out/rlib/stamp' >/dev/null; then
