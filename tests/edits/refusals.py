@@ -21,6 +21,8 @@ NOT_REACHED = re.compile(rf"^note: {PLACE}:\d+: (it is not proved that .*)")
 FALSE = "the facts known there allow values"
 LINE = re.compile(r"^(?:rt: )?must-fail ([^/ ]+/[^ ]+)\.edit: (.*)")
 REFUSED = "refused, as it must be: "
+# The line in which a function begins.
+HEAD = re.compile(r"(?! *//).*?\bfn (\w+)")
 
 
 def judged(log):
@@ -38,12 +40,32 @@ def judged(log):
     return False, f"refused, but not by a fact: {first[:300]}"
 
 
-def told(verdict):
-    """The same of the line that `rt` wrote of an edit, which has the first thing of the prover's words that is not a name that the edit took away."""
+def answered(crate, place):
+    """Whether proofs/ has answers of the function that stands at this place of the crate's src/ (an edit moves no line), or of another of its name."""
+    path, line = place.rsplit(":", 1)
+    with open(os.path.join(crate, path)) as text:
+        lines = text.read().split("\n")
+    at = int(line)
+    # A place may be that of an attribute, which stands before its function.
+    while lines[at - 1].lstrip().startswith("#["):
+        at += 1
+    heads = [found[1] for found in map(HEAD.match, lines[:at]) if found]
+    found = [glob.glob(os.path.join(crate, "proofs/**", name, file), recursive=True) for name in heads[-1:] for file in ("Answers.antt", "Proof.antt")]
+    return not heads or any(found)
+
+
+def told(verdict, crate):
+    """The same of the line that `rt` wrote of an edit of the crate in this folder: the first of the prover's words that is not a name that the edit took away.
+
+    A note that a goal is not proved counts only if it shows values at which the goal is false, or if the function has no answers in proofs/: where it has some,
+    the edit may have given the goal another name, and its answer is merely missing.
+    """
     if not verdict.startswith(REFUSED):
         return False, verdict[:300]
     first = verdict[len(REFUSED):]
-    found = ERROR.match(first) or NOT_REACHED.match(first)
+    found, left = ERROR.match(first), NOT_REACHED.match(first)
+    if left and (FALSE in left[2] or not answered(crate, left[1])):
+        found = left
     if not found or UNFIT.search(first):
         return False, f"refused, but not by a fact: {first[:300]}"
     return True, f"refused at {found[1]}"
@@ -58,7 +80,7 @@ def main(words):
     for edit in edits:
         parts = edit[: -len(".edit")].split(os.sep)
         name = f"{parts[-3]}/{parts[-1]}"
-        good, words = told(verdicts[name]) if name in verdicts else (False, "it was not tried")
+        good, words = told(verdicts[name], os.path.dirname(os.path.dirname(edit))) if name in verdicts else (False, "it was not tried")
         passed, failed = passed + good, failed + (not good)
         print(f"{name}: {words}")
     print(f"{passed} passed, {failed} failed")
