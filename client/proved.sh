@@ -79,7 +79,7 @@ prove_and_build() { # FILE COMMAND...
     if [ -e "$file" ] && cmp -s "$built" "$built.new"; then
         return
     fi
-    echo "$name: proving and building first; that takes minutes, the first time an hour or more" >&2
+    echo "$name: proving and building first; the first time that takes long" >&2
     "$@" </dev/null 2>&1 | tee "$log" | sed -u -n "s/^rt: chose --jobs [0-9]* for \([a-z_]*\)$/$name: proving \1/p" >&2 || {
         cat "$log" >&2
         exit 1

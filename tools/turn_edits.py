@@ -45,19 +45,25 @@ def matched(left, right):
     return difflib.SequenceMatcher(None, left, right, autojunk=False).get_opcodes()
 
 
+def opening(text, stop):
+    """Where the bracket opens that closes right before a place, if it does."""
+    depth, at = 0, stop
+    while at > 0:
+        at -= 1
+        depth += (text[at] in ")}]") - (text[at] in "({[")
+        if depth == 0:
+            return at
+    return None
+
+
 def spine(text, end):
     """Where the application that ends at a place begins, and of how many parts it is."""
     place, parts, start = end, 0, end
     while place > 0:
         stop = place
         if text[stop - 1] in ")}]":
-            depth, at = 0, stop
-            while at > 0:
-                at -= 1
-                depth += (text[at] in ")}]") - (text[at] in "({[")
-                if depth == 0:
-                    break
-            if depth:
+            at = opening(text, stop)
+            if at is None:
                 break
             place = at
             while place > 0 and not text[place - 1].isspace() and text[place - 1] not in "({[,;":
@@ -67,13 +73,7 @@ def spine(text, end):
                 place -= 1
             if place > 0 and text[place] == "." and text[place - 1] in ")}]":
                 # A field of what stands in brackets: one part with it.
-                depth, at = 0, place
-                while at > 0:
-                    at -= 1
-                    depth += (text[at] in ")}]") - (text[at] in "({[")
-                    if depth == 0:
-                        break
-                place = at
+                place = opening(text, place) or 0
         part = text[place:stop]
         if part.endswith((".", ":")) or part in ("let", "in", "λ", "rw") or not PART.match(part):
             break
