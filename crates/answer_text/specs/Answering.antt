@@ -44,7 +44,8 @@ form-plain c form F f m =
     record { digits = (digits-entries f.rotation).1 (F.entries f m); x = omega arith; y = omega arith; z = omega arith }
 
 -- ---- bytes that hold operations in the listed form, then the letter
-module _ (c : Centering) (form : List Operation) (F : Form c form) (n : ℕ) (count : length form ≡ n) (bytes rest : List ℕ) (split : bytes ≡ bytes_of operation_bytes form ++ (byte_of c ∷ rest)) where
+module _ (c : Centering) (form : List Operation) (F : Form c form) (n : ℕ) (count : length form ≡ n) (bytes rest : List ℕ)
+    (split : bytes ≡ bytes_of operation_bytes form ++ (byte_of c ∷ rest)) where
   -- They say these operations,
   pub held-operations : operations_in n bytes ≡ form
   held-operations =
@@ -55,7 +56,8 @@ module _ (c : Centering) (form : List Operation) (F : Form c form) (n : ℕ) (co
   pub held-letter : get_or bytes (item_width * n) 0 ≡ byte_of c
   held-letter =
       ap (λ (b : List ℕ). get_or b (item_width * n) 0) split
-      ∙ get_or_at (bytes_of operation_bytes form) (byte_of c) rest 0 (item_width * n) (bytes-length item_width operation_bytes operation-wide form ∙ ap (λ (k : ℕ). item_width * k) count)
+      ∙ get_or_at (bytes_of operation_bytes form) (byte_of c) rest 0 (item_width * n) (bytes-length item_width operation_bytes operation-wide form
+      ∙ ap (λ (k : ℕ). item_width * k) count)
 
   -- and none has long words.
   pub held_plain : AllPlain n bytes
@@ -181,15 +183,19 @@ module _ (line : List ℕ) where
     module _ (n : ℕ) (bytes : List ℕ) (same : (symbol_answer line).count ≡ n) (p : bytes ≡ symbol_buffer_of line zeros 0) where
       behind : List ℕ
       behind =
-          drop 1 (trailer_bytes item_width edition_number (byte_of letter) (length (listed_form letter listed))) ++ drop (0 + total_length item_width (symbol_answer line).count) zeros
+          drop 1 (trailer_bytes item_width edition_number (byte_of letter) (length (listed_form letter listed)))
+          ++ drop (0 + total_length item_width (symbol_answer line).count) zeros
 
       placed : symbol_buffer_of line zeros 0 ≡ record_of letter listed ++ drop (0 + total_length item_width (symbol_answer line).count) zeros
       unfolding symbol_buffer_of text_record letter listed
-      placed = rw a (all_placed zeros 0 (total_length item_width (symbol_answer line).count) (record_of letter listed) (record-length letter listed ∙ ap (total_length item_width) listed-count) (enough-room a))
+      placed = rw a (all_placed zeros 0 (total_length item_width (symbol_answer line).count) (record_of letter listed)
+          (record-length letter listed ∙ ap (total_length item_width) listed-count) (enough-room a))
 
       split : bytes ≡ bytes_of operation_bytes (listed_form letter listed) ++ (byte_of letter ∷ behind)
       unfolding record_of record_in written_in behind
-      split = p ∙ placed ∙ append_assoc (bytes_of operation_bytes (listed_form letter listed)) (trailer_bytes item_width edition_number (byte_of letter) (length (listed_form letter listed))) (drop (0 + total_length item_width (symbol_answer line).count) zeros)
+      split = p ∙ placed ∙ append_assoc (bytes_of operation_bytes (listed_form letter listed))
+          (trailer_bytes item_width edition_number (byte_of letter) (length (listed_form letter listed)))
+          (drop (0 + total_length item_width (symbol_answer line).count) zeros)
 
       pub group-few : n ≤ 48
       group-few = omega (arith, writable.0)
@@ -235,12 +241,14 @@ drop-zeros n k b h =
     ∙ drop_at (replicate k b) (replicate (n - k) b) k (length-replicate k b)
 
 -- The symbol's line and the answer behind it, written into zeros, are the text with zeros behind it.
-pub answer-put : (line after : List ℕ) (end : ℕ) → Put (replicate 1814 0) 0 ((take 80 line ++ (newline ∷ [])) ++ answer_of line) after end → ◌≡◌ {A = AnswerText} (record { length = end; bytes = after }) (text_answer line)
+pub answer-put : (line after : List ℕ) (end : ℕ) → Put (replicate 1814 0) 0 ((take 80 line ++ (newline ∷ [])) ++ answer_of line) after end
+    → ◌≡◌ {A = AnswerText} (record { length = end; bytes = after }) (text_answer line)
 unfolding text_answer
 answer-put line after end p =
     let q = put-named (symbol-joined line) p in
     let room = length-replicate {A = ℕ} 1814 0 in
-    let filled = q.bytes ∙ put_front (replicate 1814 0) (text_of line) (omega (arith, text-fits line)) ∙ ap (λ (l : List ℕ). text_of line ++ l) (drop-zeros 1814 (length (text_of line)) 0 (text-fits line)) in
+    let filled = q.bytes ∙ put_front (replicate 1814 0) (text_of line) (omega (arith, text-fits line))
+    ∙ ap (λ (l : List ℕ). text_of line ++ l) (drop-zeros 1814 (length (text_of line)) 0 (text-fits line)) in
     ap₂ (λ (n : ℕ) (l : List ℕ). record { length = n; bytes = l }) (q.place ∙ omega arith) filled
 
 -- The length lies within the buffer.

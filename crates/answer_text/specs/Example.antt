@@ -49,6 +49,19 @@ lines_in [] = []
 lines_in (s ∷ lines) = bytes s ++ (newline ∷ lines_in lines)
 
 -- What is written for `-P 1` and for `P 1a`.
-pub example : map (λ s. text_of (bytes s)) ("-P 1" ∷ "P 1a" ∷ []) ≡ lines_in ("-P 1" ∷ "P 2" ∷ "-1 0 0 0 -1 0 0 0 -1 0 0 0" ∷ "1 0 0 0 1 0 0 0 1 0 0 0" ∷ []) ∷ lines_in ("P 1a" ∷ "refused 14 0" ∷ []) ∷ []
-unfolding text_of answer_of group_text refusal_text operation_line line_of signed decimal decimal_within bytes_of listed_form smallest_operation insert sort lattices.smallest_of lattice.smallest lattice.least_rank lattice.rank lattice.unrank ◌⊕◌ symbol_answer outcome_of first_off listing is_small same_vector_class on_list keeps_of letter_among letter_of handedness_by handedness_of operation_of entry_of matrix_of vector_of motion_of digit_above digit_of inside row_inside all_inside code_of agrees steps_from steady_from place same_matrix fresh run closure keeps_points all lattice.same_triple has residue turned product times act plus opposite unit origin determinant nought ◌⊖◌ one whitespace solid allowed unclosed opening runs.run tokens_from letter_token lattice_token shifts.one_digit shifts.two_digits shifts.shift_number shifts.numbers_of shifts.closed_shift shifted_coordinate shifted at_shift at_end operations read_symbol token-reader.read_run token-reader.letter_then token-reader.read_letter token-reader.mark_then token-reader.read_mark token-reader.fold_then token-reader.read_fold token-reader.read_token token-reader.once_then token-reader.moved_then token-letters.occurs token-letters.repeats token-letters.repeat_from token-reader.turn_then token-reader.axis_then token-reader.operation_of_parts token-reader.operation_token token-bytes.value_at token-bytes.fold_of token-bytes.mark_of token-bytes.letter_of token-bytes.run_byte_of token-bytes.passes token-runs.every token-axes.token_place token-matrices.turns token-matrices.is_for token-matrices.turn_among token-matrices.turn_of token-matrices.signed token-translations.screw_right token-translations.front_right token-translations.digits_right token-translations.sum_x token-translations.sum_y token-translations.sum_z token-translations.rise token-translations.translation_of token-translations.moved_by
+pub example : map (λ s. text_of (bytes s)) ("-P 1" ∷ "P 1a" ∷ []) ≡ lines_in ("-P 1" ∷ "P 2" ∷ "-1 0 0 0 -1 0 0 0 -1 0 0 0" ∷ "1 0 0 0 1 0 0 0 1 0 0 0" ∷ []) ∷
+    lines_in ("P 1a" ∷ "refused 14 0" ∷ []) ∷ []
+unfolding text_of answer_of group_text refusal_text operation_line line_of signed decimal decimal_within bytes_of listed_form smallest_operation insert sort
+    lattices.smallest_of lattice.smallest lattice.least_rank lattice.rank lattice.unrank ◌⊕◌ symbol_answer outcome_of first_off listing is_small
+    same_vector_class on_list keeps_of letter_among letter_of handedness_by handedness_of operation_of entry_of matrix_of vector_of motion_of digit_above
+    digit_of inside row_inside all_inside code_of agrees steps_from steady_from place same_matrix fresh run closure keeps_points all lattice.same_triple has
+    residue turned product times act plus opposite unit origin determinant nought ◌⊖◌ one whitespace solid allowed unclosed opening runs.run tokens_from
+    letter_token lattice_token shifts.one_digit shifts.two_digits shifts.shift_number shifts.numbers_of shifts.closed_shift shifted_coordinate shifted at_shift
+    at_end operations read_symbol token-reader.read_run token-reader.letter_then token-reader.read_letter token-reader.mark_then token-reader.read_mark
+    token-reader.fold_then token-reader.read_fold token-reader.read_token token-reader.once_then token-reader.moved_then token-letters.occurs
+    token-letters.repeats token-letters.repeat_from token-reader.turn_then token-reader.axis_then token-reader.operation_of_parts token-reader.operation_token
+    token-bytes.value_at token-bytes.fold_of token-bytes.mark_of token-bytes.letter_of token-bytes.run_byte_of token-bytes.passes token-runs.every
+    token-axes.token_place token-matrices.turns token-matrices.is_for token-matrices.turn_among token-matrices.turn_of token-matrices.signed
+    token-translations.screw_right token-translations.front_right token-translations.digits_right token-translations.sum_x token-translations.sum_y
+    token-translations.sum_z token-translations.rise token-translations.translation_of token-translations.moved_by
 example = refl

@@ -24,7 +24,8 @@ abbrev pub AllPlain : ℕ → List ℕ → Type 0
 AllPlain n bytes = (i : ℕ) → i < n → Plain (operation_in (drop (item_width * i) bytes))
 
 -- The part of the bytes from an operation on is all that is left of them.
-pub part-operation : (bytes : List ℕ) (i : ℕ) (f : Operation) → f ≡ operation_in (take (length bytes - item_width * i) (drop (item_width * i) bytes)) → f ≡ operation_in (drop (item_width * i) bytes)
+pub part-operation : (bytes : List ℕ) (i : ℕ) (f : Operation) → f ≡ operation_in (take (length bytes - item_width * i) (drop (item_width * i) bytes)) → f
+    ≡ operation_in (drop (item_width * i) bytes)
 part-operation bytes i f e = e ∙ ap operation_in (tail-part bytes (item_width * i))
 
 module _ (n : ℕ) (bytes : List ℕ) where
@@ -46,15 +47,19 @@ module _ (n : ℕ) (bytes : List ℕ) where
       ap (λ (k : ℕ). take k (operations_in n bytes)) (add-one i) ∙ take-suc (operations_in n bytes) i identity_operation (omega arith)
       ∙ ap (λ (f : Operation). take i (operations_in n bytes) ++ (f ∷ [])) (item-at item_width operation_in n bytes i identity_operation h) in
       sym (ap (bytes_of operation_line) more ∙ bytes-append operation_line (take i (operations_in n bytes)) (operation_in (drop (item_width * i) bytes) ∷ [])
-      ∙ ap (λ (r : List ℕ). bytes_of operation_line (take i (operations_in n bytes)) ++ r) (append-nil (operation_line (operation_in (drop (item_width * i) bytes)))))
+      ∙ ap (λ (r : List ℕ). bytes_of operation_line (take i (operations_in n bytes))
+      ++ r) (append-nil (operation_line (operation_in (drop (item_width * i) bytes)))))
 
   -- One operation more is written.
-  pub lines_next : (i : ℕ) → i < n → {out now after : List ℕ} {at mid end : ℕ} (f : Operation) → f ≡ operation_in (drop (item_width * i) bytes) → Put out at (lines_to i) now mid → Put now mid (operation_line f) after end → Put out at (lines_to (i + 1)) after end
+  pub lines_next : (i : ℕ) → i < n → {out now after : List ℕ} {at mid end : ℕ} (f : Operation) → f ≡ operation_in (drop (item_width * i) bytes)
+      → Put out at (lines_to i) now mid → Put now mid (operation_line f) after end → Put out at (lines_to (i + 1)) after end
   lines_next i h f e p q = put-named (lines_more i h) (put_then p (put-named (ap operation_line e) q))
 
   -- All of them.
-  pub lines_end : (i : ℕ) → i ≡ n → {out now : List ℕ} {at end : ℕ} → Put out at (lines_to i) now end → Put out at (bytes_of operation_line (operations_in n bytes)) now end
+  pub lines_end : (i : ℕ) → i ≡ n → {out now : List ℕ} {at end : ℕ} → Put out at (lines_to i) now end
+      → Put out at (bytes_of operation_line (operations_in n bytes)) now end
   unfolding lines_to
   lines_end i e p =
-      let whole : take i (operations_in n bytes) ≡ operations_in n bytes = ap (λ (k : ℕ). take k (operations_in n bytes)) (e ∙ sym (items-length item_width operation_in n bytes)) ∙ take-length (operations_in n bytes) in
+      let whole : take i (operations_in n bytes) ≡ operations_in n bytes = ap (λ (k : ℕ). take k (operations_in n bytes))
+      (e ∙ sym (items-length item_width operation_in n bytes)) ∙ take-length (operations_in n bytes) in
       put-named (ap (bytes_of operation_line) whole) p

@@ -56,9 +56,11 @@ within-enough zero most n h k = sym (within-ten most n (omega arith))
 within-enough (suc more) zero n h k = within-ten (suc more) n (omega arith)
 within-enough (suc more) (suc most) n h k = by_size (ltb n 10) refl (λ large. within-enough more most (n / 10) (omega arith) (omega arith))
   where
-    by_size : (b : Bool) → ltb n 10 ≡ b → (10 ≤ n → decimal_within more (n / 10) ≡ decimal_within most (n / 10)) → decimal_within (suc more) n ≡ decimal_within (suc most) n
+    by_size : (b : Bool) → ltb n 10 ≡ b → (10 ≤ n → decimal_within more (n / 10) ≡ decimal_within most (n / 10)) → decimal_within (suc more) n
+        ≡ decimal_within (suc most) n
     by_size true e tens = within-ten (suc more) n (ltb-true n 10 e) ∙ sym (within-ten (suc most) n (ltb-true n 10 e))
-    by_size false e tens = within-tens more n (ltb-false n 10 e) ∙ ap (λ (w : List ℕ). w ++ (digit_byte (n % 10) ∷ [])) (tens (ltb-false n 10 e)) ∙ sym (within-tens most n (ltb-false n 10 e))
+    by_size false e tens = within-tens more n (ltb-false n 10 e) ∙ ap (λ (w : List ℕ). w ++ (digit_byte (n % 10) ∷ [])) (tens (ltb-false n 10 e))
+        ∙ sym (within-tens most n (ltb-false n 10 e))
 
 -- From ten on: the number of tens, and the last digit behind it.
 pub tens-and-digit : (n : ℕ) → 10 ≤ n → decimal n ≡ decimal (n / 10) ++ (digit_byte (n % 10) ∷ [])

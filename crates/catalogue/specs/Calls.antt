@@ -50,7 +50,10 @@ module _ (rooms : ℕ → List ℕ) where
   -- The calls of a caller: `piece` on each piece until it is taken whole, and `end` behind them; and what the caller has of them, in order.
   pub data Calls : Catalogue → ℕ → List (List ℕ) → List (SymbolRecord × List ℕ) → Type 0 where
     ending : (c : Catalogue) (i : ℕ) → Calls c i [] (heard (end_step c (rooms i)).answer (end_room c (rooms i)))
-    handing : (c : Catalogue) (i : ℕ) (piece : List ℕ) (pieces : List (List ℕ)) (later : List (SymbolRecord × List ℕ)) → Calls (piece_step c piece (rooms i)).catalogue (i + length (heard (piece_step c piece (rooms i)).answer (piece_room c piece (rooms i)))) (still_to_come (taken_by (piece_step c piece (rooms i)).answer) piece pieces) later → Calls c i (piece ∷ pieces) (heard (piece_step c piece (rooms i)).answer (piece_room c piece (rooms i)) ++ later)
+    handing : (c : Catalogue) (i : ℕ) (piece : List ℕ) (pieces : List (List ℕ)) (later : List (SymbolRecord × List ℕ))
+        → Calls (piece_step c piece (rooms i)).catalogue (i + length (heard (piece_step c piece (rooms i)).answer (piece_room c piece (rooms i))))
+        (still_to_come (taken_by (piece_step c piece (rooms i)).answer) piece pieces) later
+        → Calls c i (piece ∷ pieces) (heard (piece_step c piece (rooms i)).answer (piece_room c piece (rooms i)) ++ later)
 
   -- The answers for lines, from number i on: of each, what the writing of its record answers, and what it leaves in the room.
   abbrev pub answers_from : ℕ → List (List ℕ) → List (SymbolRecord × List ℕ)
@@ -64,10 +67,12 @@ pub long-answer : (line room : List ℕ) → 80 < length line → (symbol_record
 unfolding symbol_record_of symbol_buffer_of
 long-answer line room h = (rw (long-refused line h), rw (long-refused line h))
 
-pub shortened-answer : (line room : List ℕ) → (symbol_record_of (shortened line) room 0 ≡ symbol_record_of line room 0) × (symbol_buffer_of (shortened line) room 0 ≡ symbol_buffer_of line room 0)
+pub shortened-answer : (line room : List ℕ) → (symbol_record_of (shortened line) room 0 ≡ symbol_record_of line room 0)
+    × (symbol_buffer_of (shortened line) room 0 ≡ symbol_buffer_of line room 0)
 shortened-answer line room = by_length (leb (length line) 80) refl
   where
-    by_length : (t : Bool) → leb (length line) 80 ≡ t → (symbol_record_of (shortened line) room 0 ≡ symbol_record_of line room 0) × (symbol_buffer_of (shortened line) room 0 ≡ symbol_buffer_of line room 0)
+    by_length : (t : Bool) → leb (length line) 80 ≡ t → (symbol_record_of (shortened line) room 0 ≡ symbol_record_of line room 0)
+        × (symbol_buffer_of (shortened line) room 0 ≡ symbol_buffer_of line room 0)
     by_length true e =
         let whole = short-whole line (leb-true (length line) 80 e) in
         (ap (λ (l : List ℕ). symbol_record_of l room 0) whole, ap (λ (l : List ℕ). symbol_buffer_of l room 0) whole)
@@ -111,19 +116,22 @@ module _ (c : Catalogue) (O : Open c) where
 
 -- ---- answers in order
 module _ (rooms : ℕ → List ℕ) where
-  answers-parts : (i : ℕ) (lines more : List (List ℕ)) → answers_from rooms i lines ++ answers_from rooms (i + length lines) more ≡ answers_from rooms i (lines ++ more)
+  answers-parts : (i : ℕ) (lines more : List (List ℕ)) → answers_from rooms i lines ++ answers_from rooms (i + length lines) more
+      ≡ answers_from rooms i (lines ++ more)
   answers-parts i [] more = ap (λ (n : ℕ). answers_from rooms n more) (omega arith)
   answers-parts i (line ∷ lines) more =
       ap (λ (l : List (SymbolRecord × List ℕ)). (symbol_record_of line (rooms i) 0, symbol_buffer_of line (rooms i) 0) ∷ l)
       (ap (λ (n : ℕ). answers_from rooms (suc i) lines ++ answers_from rooms n more) (omega arith) ∙ answers-parts (suc i) lines more)
 
   -- What is heard of at most one line.
-  heard-lines : (i taken : ℕ) (lines : List (List ℕ)) → length lines ≤ 1 → heard (told_by taken lines (rooms i)) (room_by lines (rooms i)) ≡ answers_from rooms i lines
+  heard-lines : (i taken : ℕ) (lines : List (List ℕ)) → length lines ≤ 1 → heard (told_by taken lines (rooms i)) (room_by lines (rooms i))
+      ≡ answers_from rooms i lines
   heard-lines i taken [] h = refl
   heard-lines i taken (line ∷ []) h = refl
   heard-lines i taken (line ∷ other ∷ lines) h = absurd (omega arith)
 
-  heard-count : (i taken : ℕ) (lines : List (List ℕ)) → length lines ≤ 1 → length (heard (told_by taken lines (rooms i)) (room_by lines (rooms i))) ≡ length lines
+  heard-count : (i taken : ℕ) (lines : List (List ℕ)) → length lines ≤ 1 → length (heard (told_by taken lines (rooms i)) (room_by lines (rooms i)))
+      ≡ length lines
   heard-count i taken [] h = refl
   heard-count i taken (line ∷ []) h = refl
   heard-count i taken (line ∷ other ∷ lines) h = absurd (omega arith)
@@ -162,7 +170,8 @@ none_left : (line : List ℕ) → last_line line ≡ all_handed_over line (in_a_
 unfolding all_handed_over handed_over kept_behind in_a_row
 none_left line = refl
 
-in_a_row_lem : (line piece : List ℕ) (pieces : List (List ℕ)) → all_handed_over line (piece ++ in_a_row pieces) ≡ all_handed_over line (in_a_row (piece ∷ pieces))
+in_a_row_lem : (line piece : List ℕ) (pieces : List (List ℕ)) → all_handed_over line (piece ++ in_a_row pieces)
+    ≡ all_handed_over line (in_a_row (piece ∷ pieces))
 unfolding in_a_row
 in_a_row_lem line piece pieces = refl
 
@@ -181,7 +190,8 @@ module _ (rooms : ℕ → List ℕ) where
     piece-heard : heard (piece_step c piece (rooms i)).answer (piece_room c piece (rooms i)) ≡ answers_from rooms i finished-lines
     piece-heard =
         let (step, room) = piece-open c piece (rooms i) fits O.going in
-        ap₂ (λ (s : Step) (r : List ℕ). heard s.answer r) (sym step) (sym room) ∙ heard-lines rooms i (taken_of piece) finished-lines (handed-once (line_so_far c) piece)
+        ap₂ (λ (s : Step) (r : List ℕ). heard s.answer r) (sym step) (sym room)
+        ∙ heard-lines rooms i (taken_of piece) finished-lines (handed-once (line_so_far c) piece)
 
     piece-count : length (heard (piece_step c piece (rooms i)).answer (piece_room c piece (rooms i))) ≡ length finished-lines
     piece-count =
@@ -197,7 +207,8 @@ module _ (rooms : ℕ → List ℕ) where
     piece-next = ap (λ (s : Step). s.catalogue) (sym (piece-open c piece (rooms i) fits O.going).0)
 
   -- From any state of a catalogue on.
-  from-calls : {c : Catalogue} {i : ℕ} {pieces : List (List ℕ)} {answers : List (SymbolRecord × List ℕ)} → Calls rooms c i pieces answers → Open c → AllFit pieces → answers ≡ answers_from rooms i (all_handed_over (line_so_far c) (in_a_row pieces))
+  from-calls : {c : Catalogue} {i : ℕ} {pieces : List (List ℕ)} {answers : List (SymbolRecord × List ℕ)} → Calls rooms c i pieces answers → Open c
+      → AllFit pieces → answers ≡ answers_from rooms i (all_handed_over (line_so_far c) (in_a_row pieces))
   from-calls (ending c i) O fit = end-heard c O i ∙ ap (answers_from rooms i) (none_left (line_so_far c))
   from-calls (handing c i piece pieces later calls) O fit =
       let lines = finished-lines c O i piece fit.0 in
@@ -205,15 +216,19 @@ module _ (rooms : ℕ → List ℕ) where
       let taken = taken_of piece in
       let left = still_to_come (taken_by (piece_step c piece (rooms i)).answer) piece pieces in
       let goes_on = piece-next c O i piece fit.0 in
-      let row : in_a_row left ≡ drop taken piece ++ behind-it = still-in-a-row (taken_by (piece_step c piece (rooms i)).answer) piece pieces ∙ ap (λ (n : ℕ). drop n piece ++ behind-it) (piece-takes c O i piece fit.0) in
+      let row : in_a_row left ≡ drop taken piece ++ behind-it = still-in-a-row (taken_by (piece_step c piece (rooms i)).answer) piece pieces
+      ∙ ap (λ (n : ℕ). drop n piece ++ behind-it) (piece-takes c O i piece fit.0) in
       let line-then : line_so_far (piece_step c piece (rooms i)).catalogue ≡ behind c O piece = ap line_so_far goes_on ∙ next-line c O piece in
-      let rest = from-calls calls (subst Open (sym goes_on) (next-open c O piece)) (still-fit (taken_by (piece_step c piece (rooms i)).answer) piece pieces fit) in
+      let rest = from-calls calls (subst Open (sym goes_on) (next-open c O piece)) (still-fit (taken_by (piece_step c piece (rooms i)).answer) piece pieces
+      fit) in
       ap₂ ◌++◌ (piece-heard c O i piece fit.0)
-      (rest ∙ ap₂ (λ (n : ℕ) (l : List (List ℕ)). answers_from rooms n l) (ap (λ (n : ℕ). i + n) (piece-count c O i piece fit.0)) (ap₂ all_handed_over line-then row))
+      (rest ∙ ap₂ (λ (n : ℕ) (l : List (List ℕ)). answers_from rooms n l) (ap (λ (n : ℕ). i + n) (piece-count c O i piece fit.0))
+      (ap₂ all_handed_over line-then row))
       ∙ answers-parts rooms i lines (all_handed_over (behind c O piece) (drop taken piece ++ behind-it))
       ∙ ap (answers_from rooms i)
       (all-parts (line_so_far c) (part_of piece) (drop taken piece ++ behind-it)
-      ∙ ap (all_handed_over (line_so_far c)) (sym (append_assoc (part_of piece) (drop taken piece) behind-it) ∙ ap (λ (l : List ℕ). l ++ behind-it) (take-append-drop taken piece)) ∙ in_a_row_lem (line_so_far c) piece pieces)
+      ∙ ap (all_handed_over (line_so_far c)) (sym (append_assoc (part_of piece) (drop taken piece) behind-it)
+      ∙ ap (λ (l : List ℕ). l ++ behind-it) (take-append-drop taken piece)) ∙ in_a_row_lem (line_so_far c) piece pieces)
 
   -- A fresh catalogue holds no byte.
   fresh-line : (bytes : List ℕ) → line_so_far (fresh bytes) ≡ []
@@ -221,7 +236,8 @@ module _ (rooms : ℕ → List ℕ) where
   fresh-line bytes = refl
 
   -- However a text is cut into pieces, the answers, each with what is left in its room, are in order those for the lines of the uncut text.
-  pub cut-anywhere : (bytes : List ℕ) → length bytes ≡ 80 → (pieces : List (List ℕ)) → AllFit pieces → (answers : List (SymbolRecord × List ℕ)) → Calls rooms (fresh bytes) 0 pieces answers → answers ≡ answers_from rooms 0 (lines_of (in_a_row pieces))
+  pub cut-anywhere : (bytes : List ℕ) → length bytes ≡ 80 → (pieces : List (List ℕ)) → AllFit pieces → (answers : List (SymbolRecord × List ℕ))
+      → Calls rooms (fresh bytes) 0 pieces answers → answers ≡ answers_from rooms 0 (lines_of (in_a_row pieces))
   cut-anywhere bytes places pieces fit answers calls =
       from-calls calls (record { going = omega arith; places = places }) fit
       ∙ ap (answers_from rooms 0) (ap (λ (l : List ℕ). all_handed_over l (in_a_row pieces)) (fresh-line bytes) ∙ handed-lines (in_a_row pieces))

@@ -25,7 +25,11 @@ use Rattle.catalogue.specs.declared.Answer.TheVariants.{LongPiece, AfterEnd}
 -- What was taken is no refusal.
 pub never-refused : (taken : ℕ) (lines : List (List ℕ)) (out : List ℕ) → (told_by taken lines out ≡ LongPiece → ⊥) × (told_by taken lines out ≡ AfterEnd → ⊥)
 never-refused taken [] out = ((λ e. let z : ◌≡◌ {A = ℕ} 0 1 = cc in absurd (omega arith)), λ e. let z : ◌≡◌ {A = ℕ} 0 1 = cc in absurd (omega arith))
-never-refused taken (line ∷ lines) out = ((λ e. let z : ◌≡◌ {A = ℕ} 0 1 = cc in absurd (omega arith)), λ e. let z : ◌≡◌ {A = ℕ} 0 1 = cc in absurd (omega arith))
+never-refused taken (line ∷ lines) out = (
+  (λ e. let z : ◌≡◌ {A = ℕ} 0 1 = cc in absurd (omega arith)),
+  λ e. let z : ◌≡◌ {A = ℕ} 0 1 = cc in absurd
+      (omega arith),
+)
 
 module _ (c : Catalogue) (piece out : List ℕ) where
   -- 45 for a piece over 4,096 bytes, whatever came before; the catalogue and the room stay.
@@ -54,7 +58,8 @@ module _ (c : Catalogue) (piece out : List ℕ) where
       let short = ltb-false most_at_once (length piece) e in
       let going = ltb-false 81 c.status f in
       let lines = handed_over (line_so_far c) (part_of piece) in
-      let said : (piece_step c piece out).answer ≡ told_by (taken_of piece) lines out = ap (λ (s : Step). s.answer) (sym (piece-open c piece out short going).0) in
+      let said : (piece_step c piece out).answer ≡ told_by (taken_of piece) lines out = ap (λ (s : Step). s.answer)
+      (sym (piece-open c piece out short going).0) in
       let never = never-refused (taken_of piece) lines out in (
         ((λ a. absurd (never.0 (sym said ∙ a))), λ h. absurd (omega arith)),
         ((λ a. absurd (never.1 (sym said ∙ a))), λ h. absurd (omega (arith, h.1))),
@@ -70,7 +75,8 @@ module _ (c : Catalogue) (piece out : List ℕ) where
   -- A call on a piece that is not refused and holds a byte takes at least one: so a caller's loop ends.
   pub takes-some : length piece ≤ most_at_once → c.status ≤ 81 → 0 < length piece → 0 < taken_by (piece_step c piece out).answer
   takes-some short going some =
-      let said = ap (λ (s : Step). taken_by s.answer) (sym (piece-open c piece out short going).0) ∙ taken-told (taken_of piece) (handed_over (line_so_far c) (part_of piece)) out in
+      let said = ap (λ (s : Step). taken_by s.answer) (sym (piece-open c piece out short going).0)
+      ∙ taken-told (taken_of piece) (handed_over (line_so_far c) (part_of piece)) out in
       omega (arith, said, taken-some piece some)
 
 module _ (c : Catalogue) (out : List ℕ) where
@@ -96,7 +102,8 @@ unfolding in_a_row
 row-length piece pieces = length-append piece (in_a_row pieces)
 
 -- It is less behind each call.
-size_less : (taken : ℕ) (piece : List ℕ) (pieces : List (List ℕ)) → (0 < length piece → 0 < taken) → size (still_to_come taken piece pieces) < size (piece ∷ pieces)
+size_less : (taken : ℕ) (piece : List ℕ) (pieces : List (List ℕ)) → (0 < length piece → 0 < taken)
+    → size (still_to_come taken piece pieces) < size (piece ∷ pieces)
 size_less taken piece pieces some = by-test (ltb taken (length piece)) refl
   where
     by-test : (t : Bool) → ltb taken (length piece) ≡ t → size (cond t (drop taken piece ∷ pieces) pieces) < size (piece ∷ pieces)
@@ -109,7 +116,8 @@ size_less taken piece pieces some = by-test (ltb taken (length piece)) refl
 module _ (rooms : ℕ → List ℕ) where
   -- There are such calls where there is at most so much.
   abbrev CallsWithin : ℕ → Type 0
-  CallsWithin n = (c : Catalogue) → Open c → (i : ℕ) (pieces : List (List ℕ)) → AllFit pieces → size pieces ≤ n → (answers : List (SymbolRecord × List ℕ)) × Calls rooms c i pieces answers
+  CallsWithin n = (c : Catalogue) → Open c → (i : ℕ) (pieces : List (List ℕ)) → AllFit pieces → size pieces ≤ n → (answers : List (SymbolRecord × List ℕ))
+      × Calls rooms c i pieces answers
 
   ends_now : CallsWithin 0
   ends_now c O i [] fit few = (heard (end_step c (rooms i)).answer (end_room c (rooms i)), ending c i)
@@ -131,13 +139,16 @@ module _ (rooms : ℕ → List ℕ) where
   calls-within (suc n) = goes_on n (calls-within n)
 
   -- However a catalogue is cut, there are such calls from a fresh start.
-  pub calls-end : (bytes : List ℕ) → length bytes ≡ 80 → (pieces : List (List ℕ)) → AllFit pieces → (answers : List (SymbolRecord × List ℕ)) × Calls rooms (fresh bytes) 0 pieces answers
+  pub calls-end : (bytes : List ℕ) → length bytes ≡ 80 → (pieces : List (List ℕ)) → AllFit pieces → (answers : List (SymbolRecord × List ℕ))
+      × Calls rooms (fresh bytes) 0 pieces answers
   calls-end bytes places pieces fit =
       calls-within (size pieces) (fresh bytes) (record { going = omega arith; places = places }) 0 pieces fit (omega arith)
 
   -- ---- a line over 80 bytes
   -- It is answered 1 once, at its end, the room untouched, and reading resumes behind its byte 10.
-  pub too-long-once : (bytes : List ℕ) → length bytes ≡ 80 → (pieces : List (List ℕ)) → AllFit pieces → (answers : List (SymbolRecord × List ℕ)) → Calls rooms (fresh bytes) 0 pieces answers → (line text : List ℕ) → Unended line → 80 < length line → in_a_row pieces ≡ line ++ (10 ∷ text) → answers ≡ (NotWritten (Text TooLong), rooms 0) ∷ answers_from rooms 1 (lines_of text)
+  pub too-long-once : (bytes : List ℕ) → length bytes ≡ 80 → (pieces : List (List ℕ)) → AllFit pieces → (answers : List (SymbolRecord × List ℕ))
+      → Calls rooms (fresh bytes) 0 pieces answers → (line text : List ℕ) → Unended line → 80 < length line → in_a_row pieces ≡ line ++ (10 ∷ text) → answers
+      ≡ (NotWritten (Text TooLong), rooms 0) ∷ answers_from rooms 1 (lines_of text)
   too-long-once bytes places pieces fit answers calls line text u long e =
       let alike = long-answer line (rooms 0) long in
       cut-anywhere rooms bytes places pieces fit answers calls

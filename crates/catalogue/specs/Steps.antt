@@ -23,11 +23,13 @@ line-bytes line = take_at line (drop (length line) zeros) (length line) refl
 
 -- What is answered for them, and the room, by the lines that are handed over.
 module _ (taken : ℕ) (out : List ℕ) where
-  told-lines : (lines : List (List ℕ)) → cond (any_line lines) (Told taken (symbol_record_of (take (line_in (first_line lines)).length (line_in (first_line lines)).bytes) out 0)) (NoLine taken) ≡ told_by taken lines out
+  told-lines : (lines : List (List ℕ)) → cond (any_line lines) (Told taken (symbol_record_of
+      (take (line_in (first_line lines)).length (line_in (first_line lines)).bytes) out 0)) (NoLine taken) ≡ told_by taken lines out
   told-lines [] = refl
   told-lines (line ∷ lines) = ap (λ (l : List ℕ). Told taken (symbol_record_of l out 0)) (line-bytes line)
 
-  room-lines : (lines : List (List ℕ)) → cond (any_line lines) (symbol_buffer_of (take (line_in (first_line lines)).length (line_in (first_line lines)).bytes) out 0) out ≡ room_by lines out
+  room-lines : (lines : List (List ℕ)) → cond (any_line lines) (symbol_buffer_of (take (line_in (first_line lines)).length (line_in (first_line lines)).bytes)
+      out 0) out ≡ room_by lines out
   room-lines [] = refl
   room-lines (line ∷ lines) = ap (λ (l : List ℕ). symbol_buffer_of l out 0) (line-bytes line)
 
@@ -48,7 +50,11 @@ module _ (c : Catalogue) (piece out : List ℕ) where
     )
 
     -- It is taken.
-    pub piece-open : c.status ≤ 81 → (record { answer = told_by (taken_of piece) (handed_over (line_so_far c) (part_of piece)) out; catalogue = keeping (stored c.bytes (kept_behind (line_so_far c) (part_of piece))) } ≡ piece_step c piece out) × (room_by (handed_over (line_so_far c) (part_of piece)) out ≡ piece_room c piece out)
+    pub piece-open : c.status ≤ 81 → (record {
+      answer = told_by (taken_of piece) (handed_over (line_so_far c) (part_of piece)) out;
+      catalogue = keeping (stored c.bytes (kept_behind (line_so_far c) (part_of piece)));
+    } ≡ piece_step c piece out) × (room_by (handed_over (line_so_far c) (part_of piece)) out
+        ≡ piece_room c piece out)
     unfolding piece_step piece_room
     piece-open h = (
       rw (le-ltb most_at_once (length piece) short, le-ltb 81 c.status h),
@@ -56,16 +62,21 @@ module _ (c : Catalogue) (piece out : List ℕ) where
     )
 
     -- By what the lines' room says of it.
-    pub piece-taken : c.status ≤ 81 → (t : Taken) → t ≡ taken_from (kept_in c) piece → (a : Answer) (left : List ℕ) → a ≡ cond t.finished (Told t.taken (symbol_record_of (take t.line.length t.line.bytes) out 0)) (NoLine t.taken) → left ≡ cond t.finished (symbol_buffer_of (take t.line.length t.line.bytes) out 0) out → (next : Catalogue) → next ≡ keeping t.kept → (record { answer = a; catalogue = next } ≡ piece_step c piece out) × (left ≡ piece_room c piece out)
+    pub piece-taken : c.status ≤ 81 → (t : Taken) → t ≡ taken_from (kept_in c) piece → (a : Answer) (left : List ℕ) → a
+        ≡ cond t.finished (Told t.taken (symbol_record_of (take t.line.length t.line.bytes) out 0)) (NoLine t.taken) → left
+        ≡ cond t.finished (symbol_buffer_of (take t.line.length t.line.bytes) out 0) out → (next : Catalogue) → next ≡ keeping t.kept
+        → (record { answer = a; catalogue = next } ≡ piece_step c piece out) × (left ≡ piece_room c piece out)
     unfolding taken_from
     piece-taken h t e a left told room next kept =
         let (step, behind) = piece-open h in
         let lines = handed_over (line_so_far c) (part_of piece) in (
           ap₂ (λ (b : Answer) (d : Catalogue). record { answer = b; catalogue = d })
-              (told ∙ ap (λ (u : Taken). cond u.finished (Told u.taken (symbol_record_of (take u.line.length u.line.bytes) out 0)) (NoLine u.taken)) e ∙ told-lines (taken_of piece) out lines)
+              (told ∙ ap (λ (u : Taken). cond u.finished (Told u.taken (symbol_record_of (take u.line.length u.line.bytes) out 0)) (NoLine u.taken)) e
+              ∙ told-lines (taken_of piece) out lines)
               (kept ∙ ap (λ (u : Taken). keeping u.kept) e)
               ∙ step,
-          room ∙ ap (λ (u : Taken). cond u.finished (symbol_buffer_of (take u.line.length u.line.bytes) out 0) out) e ∙ room-lines (taken_of piece) out lines ∙ behind,
+          room ∙ ap (λ (u : Taken). cond u.finished (symbol_buffer_of (take u.line.length u.line.bytes) out 0) out) e ∙ room-lines (taken_of piece) out lines
+              ∙ behind,
         )
 
 -- ---- the end, by the test
@@ -76,18 +87,23 @@ module _ (c : Catalogue) (out : List ℕ) where
   end_after h = (rw (lt-ltb 81 c.status h), rw (lt-ltb 81 c.status h))
 
   -- It is announced.
-  pub end-open : c.status ≤ 81 → (record { answer = told_by 0 (last_line (line_so_far c)) out; catalogue = ended_in c.bytes } ≡ end_step c out) × (room_by (last_line (line_so_far c)) out ≡ end_room c out)
+  pub end-open : c.status ≤ 81 → (record { answer = told_by 0 (last_line (line_so_far c)) out; catalogue = ended_in c.bytes } ≡ end_step c out)
+      × (room_by (last_line (line_so_far c)) out ≡ end_room c out)
   unfolding end_step end_room
   end-open h = (rw (le-ltb 81 c.status h), rw (le-ltb 81 c.status h))
 
   -- By what the lines' room says of the last line.
-  pub end-told : c.status ≤ 81 → (l : Last) → l ≡ last_of (kept_in c) → (a : Answer) (left : List ℕ) → a ≡ cond l.finished (Told 0 (symbol_record_of (take l.line.length l.line.bytes) out 0)) (NoLine 0) → left ≡ cond l.finished (symbol_buffer_of (take l.line.length l.line.bytes) out 0) out → (record { answer = a; catalogue = ended_in c.bytes } ≡ end_step c out) × (left ≡ end_room c out)
+  pub end-told : c.status ≤ 81 → (l : Last) → l ≡ last_of (kept_in c) → (a : Answer) (left : List ℕ) → a
+      ≡ cond l.finished (Told 0 (symbol_record_of (take l.line.length l.line.bytes) out 0)) (NoLine 0) → left
+      ≡ cond l.finished (symbol_buffer_of (take l.line.length l.line.bytes) out 0) out → (record { answer = a; catalogue = ended_in c.bytes } ≡ end_step c out)
+      × (left ≡ end_room c out)
   unfolding last_of
   end-told h l e a left told room =
       let (step, behind) = end-open h in
       let lines = last_line (line_so_far c) in (
         ap (λ (b : Answer). record { answer = b; catalogue = ended_in c.bytes })
-            (told ∙ ap (λ (u : Last). cond u.finished (Told 0 (symbol_record_of (take u.line.length u.line.bytes) out 0)) (NoLine 0)) e ∙ told-lines 0 out lines)
+            (told ∙ ap (λ (u : Last). cond u.finished (Told 0 (symbol_record_of (take u.line.length u.line.bytes) out 0)) (NoLine 0)) e
+            ∙ told-lines 0 out lines)
             ∙ step,
         room ∙ ap (λ (u : Last). cond u.finished (symbol_buffer_of (take u.line.length u.line.bytes) out 0) out) e ∙ room-lines 0 out lines ∙ behind,
       )

@@ -71,7 +71,8 @@ unfolding stays_in
 stays-zero c r =
     holds.0 (Mem→has same_triple (equality-equivalence same_triple triple-decides) (mem-cast (zero-stays (matrix_of r)) (points c).holds-zero))
 
-filled_at : (n : ℕ) (l : List Triple) (i : ℕ) (d : Translation) → i < length l → triple_of (get_or (map translation_of (filled n l)) i d) ≡ get_or l i zero_triple
+filled_at : (n : ℕ) (l : List Triple) (i : ℕ) (d : Translation) → i < length l → triple_of (get_or (map translation_of (filled n l)) i d)
+    ≡ get_or l i zero_triple
 unfolding filled
 filled_at zero (p ∷ l) zero d h = refl
 filled_at zero (p ∷ l) (suc i) d h = filled_at zero l i d (omega arith)
@@ -95,7 +96,8 @@ module _ {A : Type 0} (test : A → Bool) (l : List A) (z : A) where
   all_done = rw drop-length
 
 -- (0,0,0) comes first, and there are at most four points.
-first-test : T (all (λ c. same_triple (get_or (points_of c) 0 zero_triple) zero_triple && (leb 1 (length (points_of c)) && leb (length (points_of c)) 4)) letters)
+first-test : T (all (λ c. same_triple (get_or (points_of c) 0 zero_triple) zero_triple && (leb 1 (length (points_of c)) && leb (length (points_of c)) 4))
+    letters)
 unfolding all same_triple
 first-test = tt
 

@@ -18,7 +18,16 @@ unfoldable pub use Rattle.conjugation.specs.Answers.{
   conjugates_bytes,
   conjugators_bytes,
 }
-pub use Rattle.conjugation.specs.Answers.{of_normalizer, conjugate_entry, normalizer_entry, permutation_entry, permutation_list, conjugates_entry, conjugates_list, conjugators_list}
+pub use Rattle.conjugation.specs.Answers.{
+  of_normalizer,
+  conjugate_entry,
+  normalizer_entry,
+  permutation_entry,
+  permutation_list,
+  conjugates_entry,
+  conjugates_list,
+  conjugators_list,
+}
 
 -- the numbers of the refusals
 unfoldable pub number_of : Refusal → ℕ

@@ -185,7 +185,8 @@ module _ (n : ℕ) (t : List ℕ) (e : ℕ) (accepted : Accepts n t e) where
             ∙ ap (λ (x : ℕ). get_or (members n h) x 0) (sym (entry d u));
       }
         where
-          entry : (i : ℕ) → i < ones h → get_or (permutation_of n (product n t) e h g ++ drop (ones h) b) i 0 ≡ get_or (permutation_of n (product n t) e h g) i 0
+          entry : (i : ℕ) → i < ones h → get_or (permutation_of n (product n t) e h g ++ drop (ones h) b) i 0
+              ≡ get_or (permutation_of n (product n t) e h g) i 0
           entry i m = get_or-append (permutation_of n (product n t) e h g) (drop (ones h) b) 0 i
               (let q = permutation-length n (product n t) e h g H.small in omega arith)
 

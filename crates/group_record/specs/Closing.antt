@@ -155,7 +155,8 @@ module _ (c : Centering) (items : List Item) where
       abbrev sought : SpaceMotion
       sought = compose (motion_of f) (motion_of g)
 
-      product-hit : (p : Product) → product_of f g ≡ p → product_at c items p < length items → Alike c sought (motion_of (listed_at listed (product_at c items p)))
+      product-hit : (p : Product) → product_of f g ≡ p → product_at c items p < length items
+          → Alike c sought (motion_of (listed_at listed (product_at c items p)))
       unfolding motion_of
       product-hit Outside e low = absurd (omega arith)
       product-hit (Inside k) e low =
@@ -192,7 +193,8 @@ module _ (c : Centering) (items : List Item) where
 module _ (c : Centering) (l : List Operation) (g : Operation) where
   -- One more product found stands in the column.
   pub column-next : (columns : List ℕ) (at i k : ℕ) → at + i < length columns → ((j : ℕ) → j < i → Leads c l g columns at j) → k < length l
-      → Alike c (compose (motion_of (listed_at l i)) (motion_of g)) (motion_of (listed_at l k)) → (j : ℕ) → j < i + 1 → Leads c l g (set columns (at + i) k) at j
+      → Alike c (compose (motion_of (listed_at l i)) (motion_of g)) (motion_of (listed_at l k)) → (j : ℕ) → j < i + 1
+      → Leads c l g (set columns (at + i) k) at j
   column-next columns at i k inside before h found j lt = elim (ℕ_discrete j i) [
     | yes e ↦ rw (e, get_or-set_same columns (at + i) k 0 inside) (h, found)
     | no e ↦ rw (get_or-set_other columns (at + i) (at + j) k 0 (λ (q : at + j ≡ at + i). e (omega arith))) (before j (omega arith))
@@ -279,7 +281,8 @@ module _ (c : Centering) (items : List Item) where
   AllListed = (i j : Item) → Mem i items → Mem j items → pair_listed c items i j ≡ true
 
   -- What is allowed, in three parts.
-  allowed-parts : (is_allowed c items ≡ true) ↔ ((has (alike_items c) (item_of identity_operation) items ≡ true) × (all (keeps_item c) items ≡ true) × AllListed)
+  allowed-parts : (is_allowed c items ≡ true) ↔ ((has (alike_items c) (item_of identity_operation) items ≡ true) × (all (keeps_item c) items ≡ true)
+      × AllListed)
   unfolding is_allowed member_allowed
   allowed-parts = (
     (λ e.
@@ -324,7 +327,8 @@ module _ (c : Centering) (items : List Item) where
         let unit = listed_at (map operation_of_item items) e in
         let near : Alike c (motion_of identity_operation) (motion_of unit) =
         rw at (place-alike c items G identity_operation identity-entries (omega (arith, at))) in
-        let moved = compose-alike c (motion_of f) (motion_of f) (motion_of identity_operation) (motion_of unit) (into f m) (alike-reflexive c (motion_of f)) near in
+        let moved = compose-alike c (motion_of f) (motion_of f) (motion_of identity_operation) (motion_of unit) (into f m) (alike-reflexive c (motion_of f))
+        near in
         let back = alike-symmetric c _ _ moved in
         (f, m, subst (Alike c (compose (motion_of f) (motion_of unit))) (ap (compose (motion_of f)) identity-motion ∙ compose-identity (motion_of f)) back)
 

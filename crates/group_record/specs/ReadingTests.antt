@@ -158,7 +158,10 @@ alike-test c f g = (
 listed-test : (c : Centering) (l : List Operation) (f : Operation)
     → (has (alike_items c) (item_of f) (map item_of l) ≡ true) ↔ ((g : Operation) × Mem g l × (code_of f.rotation ≡ code_of g.rotation)
     × Congruent (points_of c) (vector_of f.translation) (vector_of g.translation))
-listed-test c l f = (forth, λ (g, m, p, q). (has-true (alike_items c) (item_of f) (map item_of l)).1 (item_of g, mem-map item_of m, (alike-test c f g).1 (p, q)))
+listed-test c l f = (
+  forth,
+  λ (g, m, p, q). (has-true (alike_items c) (item_of f) (map item_of l)).1 (item_of g, mem-map item_of m, (alike-test c f g).1 (p, q)),
+)
   where
     forth : has (alike_items c) (item_of f) (map item_of l) ≡ true
         → (g : Operation) × Mem g l × (code_of f.rotation ≡ code_of g.rotation)
@@ -327,7 +330,8 @@ allowed-test c l F some few = (forth, back)
               rw (← e) ((member-test c l F.entries f k).1 (A.keeps (motion_of f) (mem-map motion_of k), products f k))),
         )
       where
-        products : (f : Operation) → Mem f l → (g : Operation) → Mem g l → (h : Operation) × Mem h l × Alike c (compose (motion_of f) (motion_of g)) (motion_of h)
+        products : (f : Operation) → Mem f l → (g : Operation) → Mem g l → (h : Operation) × Mem h l
+            × Alike c (compose (motion_of f) (motion_of g)) (motion_of h)
         products f m g k =
             let (a, n, x) = A.product (motion_of f) (motion_of g) (mem-map motion_of m) (mem-map motion_of k) in
             let (h, o, e) = mem-of-map motion_of l n in

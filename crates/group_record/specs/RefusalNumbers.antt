@@ -163,11 +163,13 @@ same_shape g h (inl (r, p)) (inl (s, q)) e n =
     let same : refusal_number r ≡ refusal_number s = cc in
     p ∙ ap refused_group (one-refusal r s same) ∙ sym q
 same_shape g h (inl (r, p)) (inr (k, c, l, q)) e n =
-    let clash : group_answer (refused_group r) ≡ given (is_small c, lattice_of c, l) = sym (ap group_answer p) ∙ e ∙ ap group_answer q ∙ accepted-answer k c l in
+    let clash : group_answer (refused_group r) ≡ given (is_small c, lattice_of c, l) = sym (ap group_answer p) ∙ e ∙ ap group_answer q
+    ∙ accepted-answer k c l in
     let z : ◌≡◌ {A = ℕ} 0 1 = cc in
     absurd (omega arith)
 same_shape g h (inr (k, c, l, p)) (inl (r, q)) e n =
-    let clash : group_answer (refused_group r) ≡ given (is_small c, lattice_of c, l) = sym (ap group_answer q) ∙ sym e ∙ ap group_answer p ∙ accepted-answer k c l in
+    let clash : group_answer (refused_group r) ≡ given (is_small c, lattice_of c, l) = sym (ap group_answer q) ∙ sym e ∙ ap group_answer p
+    ∙ accepted-answer k c l in
     let z : ◌≡◌ {A = ℕ} 0 1 = cc in
     absurd (omega arith)
 same_shape g h (inr (a, c, l, p)) (inr (b, d, k, q)) e n =
@@ -181,7 +183,8 @@ same_shape g h (inr (a, c, l, p)) (inr (b, d, k, q)) e n =
     p ∙ ap₂ (λ (m : Known) (s : Sign). accepted_group m s l) edition letter ∙ ap (accepted_group b d) list ∙ sym q
 
 -- Readings that are answered alike are one: nothing else is in what the reader hands back.
-pub one-reading : (bytes other : List ℕ) → group_answer (read_of bytes) ≡ group_answer (read_of other) → record_edition (read_of bytes) ≡ record_edition (read_of other)
+pub one-reading : (bytes other : List ℕ) → group_answer (read_of bytes) ≡ group_answer (read_of other) → record_edition (read_of bytes)
+    ≡ record_edition (read_of other)
     → read_of bytes ≡ read_of other
 unfolding read_of
 one-reading bytes other e n = same_shape (read_of bytes) (read_of other) (shape (told_by both_rules bytes)) (shape (told_by both_rules other)) e n

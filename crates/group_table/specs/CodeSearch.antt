@@ -82,7 +82,8 @@ module _ (c : Centering) (n : ℕ) (operations : List Operation) (there : n ≤ 
 
 -- ---- filling slots
 -- One more slot filled from a list.
-pub padded-next : (m : ℕ) (t : List ℕ) (k x : ℕ) → k < length t → length t ≤ m → x ≡ get_or t k 0 → set (padded m 0 (take k t)) k x ≡ padded m 0 (take (k + 1) t)
+pub padded-next : (m : ℕ) (t : List ℕ) (k x : ℕ) → k < length t → length t ≤ m → x ≡ get_or t k 0 → set (padded m 0 (take k t)) k x
+    ≡ padded m 0 (take (k + 1) t)
 padded-next m t k x h few e =
     let long = length-take-le k t (omega arith) in
     let next = padded-set m 0 (take k t) x (omega arith) in

@@ -18,7 +18,8 @@ use Rattle.group_table.specs.TableGroups.{group-table}
 pub record Products (n : ℕ) (table : List ℕ) : Type 0 where
   pub few : n ≤ 48
   pub below : (i j : ℕ) → i < n → j < n → get_or table (i * n + j) 0 < n
-  pub associative : (i j k : ℕ) → i < n → j < n → k < n → get_or table (get_or table (i * n + j) 0 * n + k) 0 ≡ get_or table (i * n + get_or table (j * n + k) 0) 0
+  pub associative : (i j k : ℕ) → i < n → j < n → k < n → get_or table (get_or table (i * n + j) 0 * n + k) 0
+      ≡ get_or table (i * n + get_or table (j * n + k) 0) 0
 
 -- Column j of the cells holds the products with the right factor j.
 abbrev pub Correct : ℕ → List ℕ → List ℕ → ℕ → Type 0

@@ -65,7 +65,8 @@ module _ (bytes : List ℕ) (g : RecordGroup) (e : g ≡ read_of bytes) where
         (order-by Accepted told, d ∙ sym (laid-all _ lent (omega (arith, square))) ∙ ap (λ (cells : List ℕ). laid cells lent) (cells-by Accepted told))
 
   -- and for a refusal.
-  pub record-refused : (r : Refusal) → g.answer ≡ Refused r → (lent : List ℕ) → (OrderRefused r ≡ order_of_record bytes) × (lent ≡ laid (record_cells bytes) lent)
+  pub record-refused : (r : Refusal) → g.answer ≡ Refused r → (lent : List ℕ) → (OrderRefused r ≡ order_of_record bytes)
+      × (lent ≡ laid (record_cells bytes) lent)
   record-refused r told lent =
       (order-by (Refused r) told, sym (laid-all [] lent (omega arith)) ∙ ap (λ (cells : List ℕ). laid cells lent) (cells-by (Refused r) told))
 

@@ -100,7 +100,8 @@ module _ (c : Centering) (gens operations : List Operation) (steps : List ℕ) (
   -- and every step is the product with that index.
   step-product : (p k : ℕ) → p < length operations → k < length gens → p · get_or noted (0 * length gens + k) 0 ≡ get_or noted (p * length gens + k) 0
   step-product p k h w =
-      product_is c listed allowed (motion_at c operations p) (motion_at c gens k) p (get_or noted (0 * length gens + k) 0) (get_or noted (p * length gens + k) 0)
+      product_is c listed allowed (motion_at c operations p) (motion_at c gens k) p (get_or noted (0 * length gens + k) 0)
+      (get_or noted (p * length gens + k) 0)
       (listed-belongs c operations p h) (generator-belongs k w) (step-belongs p k h w)
 
   -- So the table goes by the steps.

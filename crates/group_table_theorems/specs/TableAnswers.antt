@@ -68,7 +68,8 @@ record-answer bytes = by_answer (read_of bytes).answer (read_of bytes).centering
 -- The table of a record that is read is that of its set of motions.
 pub record-motions : (bytes : List ℕ) → Bytes bytes → (read_of bytes).answer ≡ Accepted
     → TableOfMotions (InSet (read_of bytes).centering (map motion_of
-    (take (read_of bytes).count (read_of bytes).operations))) (read_of bytes).centering (take (read_of bytes).count (read_of bytes).operations) (record_table bytes).order (take ((record_table bytes).order * (record_table bytes).order) (record_table bytes).cells)
+    (take (read_of bytes).count (read_of bytes).operations))) (read_of bytes).centering (take (read_of bytes).count (read_of bytes).operations) (record_table
+    bytes).order (take ((record_table bytes).order * (record_table bytes).order) (record_table bytes).cells)
 unfolding record_table
 record-motions bytes b e =
     let g = read_of bytes in

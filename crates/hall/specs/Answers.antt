@@ -168,7 +168,8 @@ module _ (piece : List ℕ) (from : ℕ) where
         ∙ kept-parts (held k) part (drop (taken_of left) left) ∙ ap (kept_behind (held k)) whole-again
 
     -- The part's text, and the texts of what is left behind it, are those of what was left before it,
-    next-texts : take r.text.length r.text.bytes ++ texts_of (handed_over (held r.kept) (drop (from + r.taken) piece)) ≡ texts_of (handed_over (held k) (drop from piece))
+    next-texts : take r.text.length r.text.bytes ++ texts_of (handed_over (held r.kept) (drop (from + r.taken) piece))
+        ≡ texts_of (handed_over (held k) (drop from piece))
     next-texts =
         let rest = drop (taken_of left) left in
         ap₂ (λ (t : List ℕ) (lines : List (List ℕ)). t ++ texts_of lines)
@@ -194,7 +195,8 @@ no-texts : (piece : List ℕ) (from : ℕ) (kept : List ℕ) → from ≡ length
 unfolding handed_over in_a_row
 no-texts piece from kept e = rw (e, drop-length piece)
 
-pub written_whole : (piece : List ℕ) (from : ℕ) (kept written all : List ℕ) → from ≡ length piece → written ++ texts_of (handed_over kept (drop from piece)) ≡ all
+pub written_whole : (piece : List ℕ) (from : ℕ) (kept written all : List ℕ) → from ≡ length piece → written ++ texts_of (handed_over kept (drop from piece))
+    ≡ all
     → written ≡ all
 written_whole piece from kept written all e f =
     sym (append-nil written) ∙ ap (λ (l : List ℕ). written ++ l) (sym (no-texts piece from kept e)) ∙ f

@@ -75,7 +75,8 @@ all-texts text =
     texts-joined (handed_over [] text) (last_line (kept_behind [] text)) ∙ ap texts_of (handed-lines text) ∙ shortened-texts (lines_of text)
 
 -- Its text behind the others makes the output.
-pub all-written : (unread old between new : Option (List ℕ)) (after : List ℕ) → AllMoved unread old between after → Appends between new (texts_of (last_line after))
+pub all-written : (unread old between new : Option (List ℕ)) (after : List ℕ) → AllMoved unread old between after
+    → Appends between new (texts_of (last_line after))
     → IfSome unread (λ text. Appends old new (output_of text))
 all-written None old between new after moved last = tt
 all-written (Some text) old between new after moved last =

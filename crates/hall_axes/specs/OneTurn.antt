@@ -196,7 +196,9 @@ metric-listed Six Double d = here refl
 
 -- No other matrix passes.
 only-listed : T (all only_listed metrics)
-unfolding all metrics only_listed second_columns third_columns each_column each_digit asked only_for only_named is_given same_rotation turn_of turn_among is_for turns turns_right all_digits row_digits same_row same_matrix same_vector isometric of_order none_unit nonnegative positive positive_at about identity_axis power metric transposed volume axis_vector matrix_of entry_of determinant times act origin unit one nought ◌⊖◌
+unfolding all metrics only_listed second_columns third_columns each_column each_digit asked only_for only_named is_given same_rotation turn_of turn_among
+    is_for turns turns_right all_digits row_digits same_row same_matrix same_vector isometric of_order none_unit nonnegative positive positive_at about
+    identity_axis power metric transposed volume axis_vector matrix_of entry_of determinant times act origin unit one nought ◌⊖◌
 only-listed = tt
 
 listed-turn : (f : Fold) (a : Axis) (r : Rotation) → TurnsAbout f a r → turn_of f a ≡ Given r

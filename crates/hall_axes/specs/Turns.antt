@@ -34,7 +34,8 @@ twenty-turns = refl
 
 -- All twenty pass.
 all_right_lem : all_right turns ≡ true
-unfolding all_right turns_right turns all_digits row_digits same_row same_matrix same_vector isometric of_order none_unit nonnegative positive positive_at about identity_axis power metric transposed volume axis_vector matrix_of entry_of determinant times act origin unit one nought ◌⊖◌
+unfolding all_right turns_right turns all_digits row_digits same_row same_matrix same_vector isometric of_order none_unit nonnegative positive positive_at
+    about identity_axis power metric transposed volume axis_vector matrix_of entry_of determinant times act origin unit one nought ◌⊖◌
 all_right_lem = refl
 
 -- Folds, marks and directions are told apart by their numbers.

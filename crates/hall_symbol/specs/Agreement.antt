@@ -324,7 +324,8 @@ module _ (text : List ℕ) (c : Centering) (found : List Operation) (previous : 
             rw (step-rotation (length text) c found previous (token_at (p + length w) (t ++ after)) ts e few, cut_word s w t after cut)
             (rotation-says (first_stops t after e) later few (operation_token t previous) refl)
 
-        go : (b : Bool) → opening (get_or (t ++ after) 0 0) ≡ b → Says text (operations (length text) c found previous (token_at (p + length w) (t ++ after) ∷ ts))
+        go : (b : Bool) → opening (get_or (t ++ after) 0 0) ≡ b → Says text (operations (length text) c found previous
+            (token_at (p + length w) (t ++ after) ∷ ts))
         go true e = rw (step-shift (length text) c found previous (token_at (p + length w) (t ++ after)) ts e) (shift_says (first-opens t after cut.some e))
         go false e = other e (leb 8 previous.count) refl
 

@@ -57,7 +57,11 @@ answer-refuses text r =
 
 -- The refusal alone says as much.
 pub answer-refused : (text : List ℕ) (r : Refusal) → ((answer_of (read_symbol text)).answer ≡ Refused r) ↔ Refuses text r
-answer-refused text r = ((λ e. (refusal-exactly text r).0 (go (read_symbol text) e)), λ h. ap (λ (s : Reading). (answer_of s).answer) ((refusal-exactly text r).1 h))
+answer-refused text r = (
+  (λ e. (refusal-exactly text r).0 (go (read_symbol text) e)),
+  λ h. ap (λ (s : Reading). (answer_of s).answer)
+      ((refusal-exactly text r).1 h),
+)
   where
     go : (s : Reading) → (answer_of s).answer ≡ Refused r → s ≡ refusal r
     go (symbol c gs) e = let z : ◌≡◌ {A = ℕ} 0 1 = cc in absurd (omega arith)

@@ -262,7 +262,8 @@ numbers-spelled s t h = go (leb (length r) (run whitespace r)) refl h
     r = behind_word q
 
     go : (b : Bool) → leb (length r) (run whitespace r) ≡ b
-        → cond b (triple (shift_number (first_word s)) (shift_number (first_word (behind_word s))) (shift_number (first_word q))) Malformed ≡ By t → (v : Vector)
+        → cond b (triple (shift_number (first_word s)) (shift_number (first_word (behind_word s))) (shift_number (first_word q))) Malformed ≡ By t
+        → (v : Vector)
         × NumbersSpelled s v × (shift_by v ≡ t)
     go true e k =
         let (x, y, z) = triple-by (shift_number (first_word s)) (shift_number (first_word (behind_word s))) (shift_number (first_word q)) t k in

@@ -110,7 +110,8 @@ pub record Reached (text : List ℕ) (c : Centering) (whole : Reading) (p : ℕ)
   pub slots : length list.operations ≡ 9
   pub same : whole ≡ operations (length text) c (list_of list) previous (tokens_from p true (drop p text))
 
-module _ {text : List ℕ} {c : Centering} {whole : Reading} {p : ℕ} {list : Generators} {previous : Previous} {w : Word} (reached : Reached text c whole p list previous) (found : w ≡ word_from p text) where
+module _ {text : List ℕ} {c : Centering} {whole : Reading} {p : ℕ} {list : Generators} {previous : Previous} {w : Word}
+    (reached : Reached text c whole p list previous) (found : w ≡ word_from p text) where
   -- The next word lies in the text.
   pub reached-word : (p ≤ w.start) × (w.start ≤ w.end) × (w.end ≤ length text)
   reached-word = word-within text p w found reached.within

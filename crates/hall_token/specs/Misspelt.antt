@@ -151,7 +151,8 @@ unfolding read_fold fold_then fold_of value_at read_mark read_letter read_run ev
 fold-alone n = tt
 
 -- Where the fold should stand may be the end.
-fold-fault : (n : Bool) (left : List ℕ) (k : ℕ) → read_fold n left ≡ no-parts k → Fault (read_fold n) (sign_length n) left k ⊎ ((left ≡ []) × (k ≡ sign_length n))
+fold-fault : (n : Bool) (left : List ℕ) (k : ℕ) → read_fold n left ≡ no-parts k → Fault (read_fold n) (sign_length n) left k
+    ⊎ ((left ≡ []) × (k ≡ sign_length n))
 unfolding read_fold fold_then
 fold-fault n [] k e = inr (refl, sym (same-offset (sign_length n) k e))
 fold-fault n (b ∷ bs) k e = inl (go (fold_of b) refl)

@@ -94,7 +94,8 @@ unfolding passing every
 passing-good p [] = refl
 passing-good p (b ∷ bs) = go (p (run_byte_of b)) refl (passing-good p bs)
   where
-    go : (t : Bool) → p (run_byte_of b) ≡ t → every p (take (passing p bs) bs ++ []) ≡ true → every p (take (cond t (suc (passing p bs)) 0) (b ∷ bs) ++ []) ≡ true
+    go : (t : Bool) → p (run_byte_of b) ≡ t → every p (take (passing p bs) bs ++ []) ≡ true → every p (take (cond t (suc (passing p bs)) 0) (b ∷ bs) ++ [])
+        ≡ true
     go true h below = rw (h, below)
     go false h below = refl
 

@@ -44,7 +44,8 @@ pub fold-other : (n : Bool) (t : List ℕ) (v : FoldByte) → (length t ≡ 0 �
 unfolding fold_then
 fold-other n t v h e w = fold-front n t v h e ∙ rw w
 
-pub fold_is : (n : Bool) (t : List ℕ) (v : FoldByte) (f : Fold) → (length t ≡ 0 → ⊥) → v ≡ fold_of (get_or t 0 0) → v ≡ Is f → read_fold n t ≡ read_mark n f (rest t)
+pub fold_is : (n : Bool) (t : List ℕ) (v : FoldByte) (f : Fold) → (length t ≡ 0 → ⊥) → v ≡ fold_of (get_or t 0 0) → v ≡ Is f → read_fold n t
+    ≡ read_mark n f (rest t)
 unfolding fold_then
 fold_is n t v f h e w = fold-front n t v h e ∙ rw w
 
@@ -59,7 +60,8 @@ mark-front : (n : Bool) (f : Fold) (t : List ℕ) (v w : Mark) → (length t ≡
 unfolding read_mark
 mark-front n f t v w h e i = ap (read_mark n f) (front t h) ∙ ap (λ (m : Mark). mark_then n f m (get_or t 0 0) (rest t)) (sym e ∙ i)
 
-pub mark-none : (n : Bool) (f : Fold) (t : List ℕ) (v : Mark) → (length t ≡ 0 → ⊥) → v ≡ mark_of (get_or t 0 0) → v ≡ None → read_mark n f t ≡ read_letter n f None t
+pub mark-none : (n : Bool) (f : Fold) (t : List ℕ) (v : Mark) → (length t ≡ 0 → ⊥) → v ≡ mark_of (get_or t 0 0) → v ≡ None → read_mark n f t
+    ≡ read_letter n f None t
 unfolding mark_then
 mark-none n f t v h e i = mark-front n f t v None h e i ∙ ap (read_letter n f None) (sym (front t h))
 

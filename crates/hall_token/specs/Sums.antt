@@ -55,12 +55,14 @@ letters-end run x y z hx hy hz =
     below n h = omega arith
 
 -- At a digit the run is refused.
-pub letters-stop : (run : List ℕ) (i x y z : ℕ) → i < length run → no_screw (run_byte_of (get_or run i 0)) ≡ false → letters_from (drop i run) x y z ≡ WrongDigit
+pub letters-stop : (run : List ℕ) (i x y z : ℕ) → i < length run → no_screw (run_byte_of (get_or run i 0)) ≡ false → letters_from (drop i run) x y z
+    ≡ WrongDigit
 unfolding letters_from
 letters-stop run i x y z h e = rw (every-stop no_screw run i h e)
 
 letters-cons : (b : ℕ) (bs : List ℕ) (x y z : ℕ) → no_screw (run_byte_of b) ≡ true
-    → letters_from (b ∷ bs) x y z ≡ letters_from bs ((x + (letter_vector (run_byte_of b)).x) % 12) ((y + (letter_vector (run_byte_of b)).y) % 12) ((z + (letter_vector
+    → letters_from (b ∷ bs) x y z ≡ letters_from bs ((x + (letter_vector (run_byte_of b)).x) % 12) ((y + (letter_vector (run_byte_of b)).y) % 12)
+    ((z + (letter_vector
     (run_byte_of b)).z) % 12)
 unfolding letters_from every sum_x sum_y sum_z
 letters-cons b bs x y z e =

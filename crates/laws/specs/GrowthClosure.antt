@@ -361,7 +361,8 @@ module _ {A G : Type 0} (same alike : A → A → Bool) (fine : A → Bool) (◌
             let (t, rest) = grow-ends n (taken ++ x ∷ []) (waiting ++ f) l u joined p h each in
             let (at_x, in_List) = turn-of taken waiting x s e in (
               t,
-              rw (in_List, at_x) ((bind-eq-some_iff (turns same alike allowed limit x gens s) (grow same alike allowed limit unit gens n (suc (length taken)))).1
+              rw (in_List, at_x) ((bind-eq-some_iff (turns same alike allowed limit x gens s)
+                  (grow same alike allowed limit unit gens n (suc (length taken)))).1
                   (u, first, rw (one_more taken x) at rest)),
             )
 

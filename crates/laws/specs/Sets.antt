@@ -553,7 +553,8 @@ unfolding count_trailing_zeros
 trailing_below zero s j h = absurd (omega arith)
 trailing_below (suc n) s j h = step (s % 2) refl j h (trailing_below n (s / 2))
   where
-    step : (d : ℕ) → s % 2 ≡ d → (j : ℕ) → j < under d (count_trailing_zeros n (s / 2)) → ((j : ℕ) → j < count_trailing_zeros n (s / 2) → member (s / 2) j ≡ false)
+    step : (d : ℕ) → s % 2 ≡ d → (j : ℕ) → j < under d (count_trailing_zeros n (s / 2))
+        → ((j : ℕ) → j < count_trailing_zeros n (s / 2) → member (s / 2) j ≡ false)
         → member s j ≡ false
     step zero e zero h ih = member-zero s ∙ ap (λ (k : ℕ). eqb k 1) e
     step zero e (suc j) h ih = member-suc s j ∙ ih j (omega arith)
@@ -566,7 +567,8 @@ trailing-member zero s h = absurd (omega arith)
 trailing-member (suc n) s h = step (s % 2) refl h (trailing-member n (s / 2))
   where
     step : (d : ℕ) → s % 2 ≡ d → under d (count_trailing_zeros n (s / 2)) < suc n
-        → (count_trailing_zeros n (s / 2) < n → member (s / 2) (count_trailing_zeros n (s / 2)) ≡ true) → member s (under d (count_trailing_zeros n (s / 2))) ≡ true
+        → (count_trailing_zeros n (s / 2) < n → member (s / 2) (count_trailing_zeros n (s / 2)) ≡ true) → member s (under d (count_trailing_zeros n (s / 2)))
+        ≡ true
     step zero e h ih = member-suc s (count_trailing_zeros n (s / 2)) ∙ ih (omega arith)
     step (suc d) e h ih = let one : s % 2 ≡ 1 = omega arith in member-zero s ∙ ap (λ (k : ℕ). eqb k 1) one
 

@@ -101,7 +101,10 @@ module _ {A G : Type 0} (same : A → A → Bool) (◌·◌ : A → G → A) (un
   along-pair {x} {u} r [] {y} p = let h : x ≡ y = cc in rw (← h, append-nil) r
   along-pair {x = x} {u = u} r (i ∷ w) {y = y} p =
       let (g, e, q) = (bind-eq-some_iff (get_elem? gens i) (λ g. along ◌·◌ unit gens (x · g) w)).0 p in
-      rw (append_snoc u i w) at (along-pair {x = (step-word (x, u) (i, ((bind-eq-some_iff {B = A} (get_elem? gens i) (λ g'. along ◌·◌ unit gens (x · g') w) {x = y}).0 p).0)).0} (step r (position-numbered gens i g e)) w q)
+      rw (append_snoc u i w) at (along-pair {x = (step-word (x, u) (
+        i,
+        ((bind-eq-some_iff {B = A} (get_elem? gens i) (λ g'. along ◌·◌ unit gens (x · g') w) {x = y}).0 p).0,
+      )).0} (step r (position-numbered gens i g e)) w q)
 
   -- the element of a pair that is reached is reached
   pair-element : {p : A × Word} → ReachedWith p → Reached ◌·◌ unit gens p.0

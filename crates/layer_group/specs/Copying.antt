@@ -33,7 +33,8 @@ blank-whole s h = capitalised-none s (run-all whitespace s h)
 module _ (text : List ℕ) where
   -- In the places that a scan finds.
   at-token : capitalised text ≡ take (run whitespace text) text ++ from_token (drop (run whitespace text) text)
-  at-token = ap capitalised (sym (take-append-drop (run whitespace text) text)) ∙ capitalised-blank (take (run whitespace text) text) (drop (run whitespace text) text) (run-every whitespace text) (run-stops whitespace text)
+  at-token = ap capitalised (sym (take-append-drop (run whitespace text) text))
+      ∙ capitalised-blank (take (run whitespace text) text) (drop (run whitespace text) text) (run-every whitespace text) (run-stops whitespace text)
 
   -- ---- whether p or c stands at a place and ends its token
   pub letter-none : (at : ℕ) → length text ≤ at → letter_here (drop at text) ≡ false
@@ -45,7 +46,8 @@ module _ (text : List ℕ) where
   pub letter-last : (at : ℕ) → at < length text → is_small (get_or text at 0) ≡ true → length text ≤ at + 1 → letter_here (drop at text) ≡ true
   letter-last at h e k = let none : drop (suc at) text ≡ [] = drop_of_length-le text {i = suc at} (omega arith) in rw (drop-cons text at 0 h, e, none)
 
-  pub letter-before : (at : ℕ) → at < length text → is_small (get_or text at 0) ≡ true → at + 1 < length text → letter_here (drop at text) ≡ whitespace (get_or text (at + 1) 0)
+  pub letter-before : (at : ℕ) → at < length text → is_small (get_or text at 0) ≡ true → at + 1 < length text → letter_here (drop at text)
+      ≡ whitespace (get_or text (at + 1) 0)
   letter-before at h e k = rw (drop-cons text at 0 h, e, ← (add-one at), drop-cons text (at + 1) 0 k)
 
   -- Such a byte is p or c.
@@ -65,7 +67,8 @@ module _ (text : List ℕ) where
   pub letter-inside : (at : ℕ) → letter_here (drop at text) ≡ true → at < length text
   letter-inside at e = elim (dec_lt at (length text)) [
     | yes h ↦ h
-    | no h ↦ let n = letter-none at (omega arith) in let z : ◌≡◌ {A = Bool} true false = sym e ∙ n in let y : ◌≡◌ {A = ℕ} 1 0 = ap (λ b. cond b 1 0) z in absurd (omega arith)
+    | no h ↦ let n = letter-none at (omega arith) in let z : ◌≡◌ {A = Bool} true false = sym e
+        ∙ n in let y : ◌≡◌ {A = ℕ} 1 0 = ap (λ b. cond b 1 0) z in absurd (omega arith)
   ]
 
   -- ---- the change, by the first token's place
@@ -82,13 +85,17 @@ module _ (text : List ℕ) where
     change-letter e = set_split text start _ inside ∙ sym (there ∙ rw (rw here-again at e))
 
     -- `-p` or `-c`,
-    pub change-inverted : letter_here (drop start text) ≡ false → get_or text start 0 ≡ 45 → letter_here (drop (start + 1) text) ≡ true → set text (start + 1) (get_or text (start + 1) 0 - 32) ≡ capitalised text
+    pub change-inverted : letter_here (drop start text) ≡ false → get_or text start 0 ≡ 45 → letter_here (drop (start + 1) text) ≡ true
+        → set text (start + 1) (get_or text (start + 1) 0 - 32) ≡ capitalised text
     unfolding from_token
     change-inverted n m e =
         let within : start + 1 < length text = letter-inside (start + 1) e in
-        let next : drop (suc start) text ≡ get_or text (start + 1) 0 ∷ drop (suc (start + 1)) text = ap (λ k. drop k text) (sym (add-one start)) ∙ drop-cons text (start + 1) 0 within in
-        let split : set text (start + 1) (get_or text (start + 1) 0 - 32) ≡ take start text ++ (get_or text start 0 ∷ (get_or text (start + 1) 0 - 32) ∷ drop (suc (start + 1)) text) =
-        set_split text (start + 1) _ within ∙ ap (λ l. l ++ ((get_or text (start + 1) 0 - 32) ∷ drop (suc (start + 1)) text)) (ap (λ k. take k text) (add-one start) ∙ take-suc text start 0 inside) ∙ append_snoc (take start text) (get_or text start 0) _ in
+        let next : drop (suc start) text ≡ get_or text (start + 1) 0 ∷ drop (suc (start + 1)) text = ap (λ k. drop k text) (sym (add-one start))
+        ∙ drop-cons text (start + 1) 0 within in
+        let split : set text (start + 1) (get_or text (start + 1) 0 - 32) ≡ take start text
+        ++ (get_or text start 0 ∷ (get_or text (start + 1) 0 - 32) ∷ drop (suc (start + 1)) text) =
+        set_split text (start + 1) _ within ∙ ap (λ l. l ++ ((get_or text (start + 1) 0 - 32) ∷ drop (suc (start + 1)) text))
+        (ap (λ k. take k text) (add-one start) ∙ take-suc text start 0 inside) ∙ append_snoc (take start text) (get_or text start 0) _ in
         split ∙ sym (there ∙ rw (rw here-again at n, eq-eqb (get_or text start 0) 45 m, next, rw (add-one start, next) at e))
 
     -- or any other token: its first byte is no `-`,
@@ -97,12 +104,14 @@ module _ (text : List ℕ) where
     change-other n m = set_split text start _ inside ∙ sym (there ∙ rw (rw here-again at n, ne_eqb (get_or text start 0) 45 m))
 
     -- or no letter follows that.
-    pub change-minus : letter_here (drop start text) ≡ false → get_or text start 0 ≡ 45 → letter_here (drop (start + 1) text) ≡ false → set text start (marked (get_or text start 0)) ≡ capitalised text
+    pub change-minus : letter_here (drop start text) ≡ false → get_or text start 0 ≡ 45 → letter_here (drop (start + 1) text) ≡ false
+        → set text start (marked (get_or text start 0)) ≡ capitalised text
     unfolding from_token
     change-minus n m e = set_split text start _ inside ∙ sym (there ∙ rw (rw here-again at n, eq-eqb (get_or text start 0) 45 m, rw (add-one start) at e))
 
 -- ---- the copying
 -- One byte more in front.
-pub copied_next : (copy text : List ℕ) (i : ℕ) → i < length text → length text ≤ length copy → take i copy ≡ take i text → take (i + 1) (set copy i (get_or text i 0)) ≡ take (i + 1) text
+pub copied_next : (copy text : List ℕ) (i : ℕ) → i < length text → length text ≤ length copy → take i copy ≡ take i text
+    → take (i + 1) (set copy i (get_or text i 0)) ≡ take (i + 1) text
 copied_next copy text i h k e =
     rw (add-one i) (take-suc-set copy i (get_or text i 0) (omega arith) ∙ ap (λ l. l ++ (get_or text i 0 ∷ [])) e ∙ sym (take-suc text i 0 h))

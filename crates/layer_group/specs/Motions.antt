@@ -40,7 +40,8 @@ nought-digit d e = rw e refl
 
 -- The test of an operation of a group is the rule for its motion.
 module _ (o : Operation) (digits : Digits o.rotation) (below : o.translation.z < 12) where
-  last-test : (x y : Bool) → eqb o.rotation.zz 2 ≡ x → eqb o.translation.z 0 ≡ y → not x || y ≡ true → entry_of o.rotation.zz ≡ one → residue (pos o.translation.z) ≡ 0
+  last-test : (x y : Bool) → eqb o.rotation.zz 2 ≡ x → eqb o.translation.z 0 ≡ y → not x || y ≡ true → entry_of o.rotation.zz ≡ one
+      → residue (pos o.translation.z) ≡ 0
   unfolding residue
   last-test true true p q e h = let z = eqb-true o.translation.z 0 q in omega arith
   last-test true false p q e h = absurd (clash false e refl)
@@ -158,8 +159,10 @@ module _ (f : SpaceMotion) where
         planes = λ v w e.
             ap (λ s. s +ℤ t.z) (only-z R.zx R.zy R.zz v.x v.y v.z L.zx L.zy ∙ ap (λ z. R.zz *ℤ z) e ∙ sym (only-z R.zx R.zy R.zz w.x w.y w.z L.zx L.zy));
         lines = λ v w e h. (
-          ap (λ s. s +ℤ t.x) (without-z R.xx R.xy R.xz v.x v.y v.z L.xz ∙ ap₂ (λ x y. R.xx *ℤ x +ℤ R.xy *ℤ y) e h ∙ sym (without-z R.xx R.xy R.xz w.x w.y w.z L.xz)),
-          ap (λ s. s +ℤ t.y) (without-z R.yx R.yy R.yz v.x v.y v.z L.yz ∙ ap₂ (λ x y. R.yx *ℤ x +ℤ R.yy *ℤ y) e h ∙ sym (without-z R.yx R.yy R.yz w.x w.y w.z L.yz)),
+          ap (λ s. s +ℤ t.x) (without-z R.xx R.xy R.xz v.x v.y v.z L.xz ∙ ap₂ (λ x y. R.xx *ℤ x +ℤ R.xy *ℤ y) e h
+              ∙ sym (without-z R.xx R.xy R.xz w.x w.y w.z L.xz)),
+          ap (λ s. s +ℤ t.y) (without-z R.yx R.yy R.yz v.x v.y v.z L.yz ∙ ap₂ (λ x y. R.yx *ℤ x +ℤ R.yy *ℤ y) e h
+              ∙ sym (without-z R.yx R.yy R.yz w.x w.y w.z L.yz)),
         );
         level = λ e v.
             ap residue (ap (λ s. s +ℤ t.z) (only-z R.zx R.zy R.zz v.x v.y v.z L.zx L.zy ∙ ap (λ k. k *ℤ v.z) e ∙ one-*ℤ v.z))

@@ -78,15 +78,18 @@ module _ (text : List ℕ) (g : SymbolGroup) (e : g ≡ symbol_answer (capitalis
     layer-off h = rw (← e, a, ← found, lt-ltb off g.count h)
 
     -- or all are.
-    pub layer-group : g.count ≤ off → ◌≡◌ {A = LayerGroup} (record { answer = Group; centering = g.centering; count = g.count; operations = g.operations }) (layer_answer text)
+    pub layer-group : g.count ≤ off → ◌≡◌ {A = LayerGroup} (record { answer = Group; centering = g.centering; count = g.count; operations = g.operations })
+        (layer_answer text)
     unfolding layer_answer
     layer-group h = rw (← e, a, ← found, le-ltb off g.count h)
 
 -- ---- the slots of a layer symbol's group
-by_slots : (a : plain.Answer) (c : Centering) (n : ℕ) (l : List Operation) → n ≤ 48 → length l ≡ 48 → ((layered_by a c n l).count ≤ 48) × (length (layered_by a c n l).operations ≡ 48)
+by_slots : (a : plain.Answer) (c : Centering) (n : ℕ) (l : List Operation) → n ≤ 48 → length l ≡ 48 → ((layered_by a c n l).count ≤ 48)
+    × (length (layered_by a c n l).operations ≡ 48)
 by_slots plain-answer.Group c n l h k = go (ltb (front (take n l)) n)
   where
-    go : (b : Bool) → let g : LayerGroup = cond b (refused_answer (NoLayer (front (take n l)))) (record { answer = Group; centering = c; count = n; operations = l }) in (g.count ≤ 48) × (length g.operations ≡ 48)
+    go : (b : Bool) → let g : LayerGroup = cond b (refused_answer (NoLayer (front (take n l))))
+        (record { answer = Group; centering = c; count = n; operations = l }) in (g.count ≤ 48) × (length g.operations ≡ 48)
     go true = (omega arith, refl)
     go false = (h, k)
 by_slots (plain-answer.Refused r) c n l h k = (omega arith, refl)
@@ -144,5 +147,10 @@ module _ (text : List ℕ) (g : LayerGroup) (e : g ≡ layer_answer text) where
     pub operation-given : (i : ℕ) (d : Operation) → i < g.count → FoundOperation (get_or g.operations i d) ≡ operation_at text i
     unfolding operation_at
     operation-given i d h =
-        let within : i < length g.operations = omega (arith, layer-places text, ap (λ (g : LayerGroup). g.count) e, ap (λ (g : LayerGroup). length g.operations) e) in
+        let within : i < length g.operations = omega (
+          arith,
+          layer-places text,
+          ap (λ (g : LayerGroup). g.count) e,
+          ap (λ (g : LayerGroup). length g.operations) e,
+        ) in
         rw (← e, a, lt-ltb i g.count h, at-any g.operations i d identity_operation within)

@@ -128,7 +128,8 @@ token-allowed (b ∷ s) i = by-letter (letter_here (b ∷ s)) refl (eqb b 45 && 
     capital-allowed (b ∷ s) e zero = small-allowed b (letter-parts b s e).0
     capital-allowed (b ∷ s) e (suc i) = refl
 
-    by-letter : (x : Bool) → letter_here (b ∷ s) ≡ x → (y : Bool) → eqb b 45 && letter_here s ≡ y → (i : ℕ) → allowed (get_or (cond x (capital (b ∷ s)) (cond y (b ∷ capital s) (marked b ∷ s))) i 0) ≡ allowed (get_or (b ∷ s) i 0)
+    by-letter : (x : Bool) → letter_here (b ∷ s) ≡ x → (y : Bool) → eqb b 45 && letter_here s ≡ y → (i : ℕ)
+        → allowed (get_or (cond x (capital (b ∷ s)) (cond y (b ∷ capital s) (marked b ∷ s))) i 0) ≡ allowed (get_or (b ∷ s) i 0)
     by-letter true e y f i = capital-allowed (b ∷ s) e i
     by-letter false e true f zero = refl
     by-letter false e true f (suc i) = capital-allowed s (and_both (eqb b 45) (letter_here s) f).1 i
@@ -140,7 +141,8 @@ unfolding capitalised
 same-allowed [] i = refl
 same-allowed (b ∷ s) i = go (whitespace b) i (λ j. same-allowed s j)
   where
-    go : (x : Bool) (i : ℕ) → ((j : ℕ) → allowed (get_or (capitalised s) j 0) ≡ allowed (get_or s j 0)) → allowed (get_or (cond x (b ∷ capitalised s) (from_token (b ∷ s))) i 0) ≡ allowed (get_or (b ∷ s) i 0)
+    go : (x : Bool) (i : ℕ) → ((j : ℕ) → allowed (get_or (capitalised s) j 0) ≡ allowed (get_or s j 0))
+        → allowed (get_or (cond x (b ∷ capitalised s) (from_token (b ∷ s))) i 0) ≡ allowed (get_or (b ∷ s) i 0)
     go true zero later = refl
     go true (suc i) later = later i
     go false i later = token-allowed (b ∷ s) i
@@ -195,7 +197,8 @@ no_minus c (inl e) = rw e refl
 no_minus c (inr e) = rw e refl
 
 -- A small letter becomes its capital.
-token-capital : (inverted : Bool) (c : Centering) (after : List ℕ) → OfLayer c → Stops solid after → from_token (small_spelling inverted c ++ after) ≡ lattice_spelling inverted c ++ after
+token-capital : (inverted : Bool) (c : Centering) (after : List ℕ) → OfLayer c → Stops solid after → from_token (small_spelling inverted c ++ after)
+    ≡ lattice_spelling inverted c ++ after
 unfolding from_token is_small
 token-capital false c after l h = rw (small-here c l, ends-after after h, back-capital c l)
 token-capital true c after l h = rw (small-here c l, ends-after after h, back-capital c l)
@@ -227,7 +230,8 @@ no-inverted b t after e k n = go (eqb b 45 && letter_here (t ++ after)) refl
     behind : (t after : List ℕ) → Every solid t → Stops solid after → b ≡ 45 → ¬ SmallToken (b ∷ t) → letter_here (t ++ after) ≡ true → ⊥
     behind [] [] e k m n h = clash false h refl
     behind [] (d ∷ s) e k m n h = clash (whitespace d) (not-false (whitespace d) k) (small-solid d (letter-parts d s h).0)
-    behind (d ∷ []) after e k m n h = let (c, l, p) = small-letter d (letter-parts d after h).0 in n (true, c, l, ap (λ b. b ∷ d ∷ []) m ∙ ap (λ d. 45 ∷ d ∷ []) p)
+    behind (d ∷ []) after e k m n h = let (c, l, p) = small-letter d (letter-parts d after h).0 in n
+        (true, c, l, ap (λ b. b ∷ d ∷ []) m ∙ ap (λ d. 45 ∷ d ∷ []) p)
     behind (d ∷ f ∷ t) after e k m n h = clash (whitespace f) (letter-parts d (f ∷ t ++ after) h).1 (solid-not-whitespace f e.1.0)
 
     go : (x : Bool) → eqb b 45 && letter_here (t ++ after) ≡ x → eqb b 45 && letter_here (t ++ after) ≡ false
@@ -368,7 +372,13 @@ module _ (text plain : List ℕ) (K : Capital text plain) where
   behind-letter (refusal TooLong) h = absurd (omega (arith, plain-fit.0, h))
   behind-letter (refusal (ForbiddenByte p)) h = absurd (clash (allowed (get_or plain p 0)) (every-at allowed plain plain-fit.1 p h.within) h.forbidden)
   behind-letter (refusal NoToken) (fit, h) =
-      absurd (clash (ltb (run whitespace plain) (length plain)) (lt-ltb (run whitespace plain) (length plain) (omega (arith, cut-blank plain K.w _ K.after (plain-cut text plain K), cut-length plain K.w _ K.after (plain-cut text plain K), capital-some K.inverted K.letter))) (le-ltb (run whitespace plain) (length plain) (omega (arith, every-run whitespace plain h))))
+      absurd (clash (ltb (run whitespace plain) (length plain)) (lt-ltb (run whitespace plain) (length plain)
+      (omega (
+        arith,
+        cut-blank plain K.w _ K.after (plain-cut text plain K),
+        cut-length plain K.w _ K.after (plain-cut text plain K),
+        capital-some K.inverted K.letter,
+      ))) (le-ltb (run whitespace plain) (length plain) (omega (arith, every-run whitespace plain h))))
   behind-letter (refusal (Lattice p)) W =
       absurd (W.wrong K.inverted K.letter (sym (cut-firstword plain W.w W.t W.after W.cut) ∙ cut-firstword plain K.w _ K.after (plain-cut text plain K)))
   behind-letter (refusal (Token p r)) h = (plain, K, h)
@@ -386,7 +396,15 @@ module _ (text : List ℕ) where
       let plain = w ++ (lattice_spelling inverted c ++ after) in
       let K : Capital text plain = record { w = w; after = after; inverted = inverted; letter = c; layer = l; fit = fit; cut = rw e at cut; stands = refl } in
       subst (λ l. LayerSays text (read_symbol l)) (sym (copy-plain text plain K)) (behind-letter text plain K (read_symbol plain) (read-says plain))
-  by-small w t after fit cut (inr n) = settled (refusal (Lattice (length w))) (record { w = w; t = t; after = after; fit = fit; cut = cut; stands = refl; wrong = n })
+  by-small w t after fit cut (inr n) = settled (refusal (Lattice (length w))) (record {
+    w = w;
+    t = t;
+    after = after;
+    fit = fit;
+    cut = cut;
+    stands = refl;
+    wrong = n;
+  })
 
   by_token : Fit text → FirstToken text → LayerSays text (read_symbol (capitalised text))
   by_token fit (blank h) = settled (refusal NoToken) (fit, h)
@@ -395,7 +413,12 @@ module _ (text : List ℕ) where
   by_bytes : length text ≤ 80 → (x : Bool) → ltb (run allowed text) (length text) ≡ x → LayerSays text (read_symbol (capitalised text))
   by_bytes short true e =
       let within = ltb-true (run allowed text) (length text) e in
-      settled (refusal (ForbiddenByte (run allowed text))) (record { short = short; within = within; forbidden = run_at allowed text within; first = run-below allowed text })
+      settled (refusal (ForbiddenByte (run allowed text))) (record {
+        short = short;
+        within = within;
+        forbidden = run_at allowed text within;
+        first = run-below allowed text;
+      })
   by_bytes short false e = by_token (short, run-all allowed text (ltb-false (run allowed text) (length text) e)) (first-token text)
 
   by_length : (x : Bool) → ltb 80 (length text) ≡ x → LayerSays text (read_symbol (capitalised text))
@@ -421,7 +444,8 @@ first-letter (rotation o f a b cut stops few says) = first-letter b
 pub layer-letter : (text : List ℕ) (c : Centering) (gs : List Operation) → LayerSpells text c gs → OfLayer c
 layer-letter text c gs (plain, K, s) =
     let (w, inverted, after, cut) = first-letter s.begins in
-    let same : lattice_spelling K.inverted K.letter ≡ lattice_spelling inverted c = sym (cut-firstword plain K.w _ K.after (plain-cut text plain K)) ∙ cut-firstword plain w _ after cut in
+    let same : lattice_spelling K.inverted K.letter ≡ lattice_spelling inverted c = sym (cut-firstword plain K.w _ K.after (plain-cut text plain K))
+    ∙ cut-firstword plain w _ after cut in
     let read : IsLattice K.inverted K.letter ≡ IsLattice inverted c =
     sym (lattice-read K.inverted K.letter) ∙ ap lattice_token same ∙ lattice-read inverted c in
     let letter : K.letter ≡ c = cc in

@@ -69,7 +69,8 @@ front-all : (l : List Operation) → length l ≤ front l → (o : Operation) �
 unfolding front
 front-all (p ∷ l) h o m = go (is_layer p) refl h m (λ k. front-all l k o)
   where
-    go : (x : Bool) → is_layer p ≡ x → suc (length l) ≤ cond x (suc (front l)) zero → Mem o (p ∷ l) → (length l ≤ front l → Mem o l → is_layer o ≡ true) → is_layer o ≡ true
+    go : (x : Bool) → is_layer p ≡ x → suc (length l) ≤ cond x (suc (front l)) zero → Mem o (p ∷ l) → (length l ≤ front l → Mem o l → is_layer o ≡ true)
+        → is_layer o ≡ true
     go true e h (here q) later = ap is_layer q ∙ e
     go true e h (there m) later = later (omega arith) m
     go false e h m later = absurd (omega arith)
@@ -91,7 +92,8 @@ unfolding front
 front-first [] h = absurd (omega arith)
 front-first (p ∷ l) h = go (is_layer p) refl h (front-first l)
   where
-    go : (x : Bool) → is_layer p ≡ x → cond x (suc (front l)) zero < suc (length l) → (front l < length l → FirstNot l (front l)) → FirstNot (p ∷ l) (cond x (suc (front l)) zero)
+    go : (x : Bool) → is_layer p ≡ x → cond x (suc (front l)) zero < suc (length l) → (front l < length l → FirstNot l (front l))
+        → FirstNot (p ∷ l) (cond x (suc (front l)) zero)
     go true e h later = let F = later (omega arith) in record { within = h; off = F.off; before = each F }
       where
         each : FirstNot l (front l) → (j : ℕ) → j < suc (front l) → is_layer (get_or (p ∷ l) j identity_operation) ≡ true
@@ -116,12 +118,14 @@ abbrev listed : plain-answers.Answer → List Operation → answer.Answer (List 
 listed plain-answer.Group l = by_test (ltb (front l) (length l)) l
 listed (plain-answer.Refused r) l = answer.refused (plain-numbers.number_of r) (plain-numbers.place_of r) tt
 
-by_answer : (a : plain-answers.Answer) (c : Centering) (n : ℕ) (operations : List Operation) → n ≤ length operations → operations_answer (layered_by a c n operations) ≡ listed a (take n operations)
+by_answer : (a : plain-answers.Answer) (c : Centering) (n : ℕ) (operations : List Operation) → n ≤ length operations
+    → operations_answer (layered_by a c n operations) ≡ listed a (take n operations)
 by_answer plain-answer.Group c n operations h =
     let long : length (take n operations) ≡ n = length-take-le n operations h in
     rw long (go (ltb (front (take n operations)) n))
   where
-    go : (x : Bool) → operations_answer (cond x (refused_answer (NoLayer (front (take n operations)))) (record { answer = Group; centering = c; count = n; operations = operations })) ≡ by_test x (take n operations)
+    go : (x : Bool) → operations_answer (cond x (refused_answer (NoLayer (front (take n operations))))
+        (record { answer = Group; centering = c; count = n; operations = operations })) ≡ by_test x (take n operations)
     go true = refl
     go false = refl
 by_answer (plain-answer.Refused r) c n operations h = refl
@@ -137,10 +141,12 @@ module _ (text : List ℕ) where
       by_answer g.answer g.centering g.count g.operations (omega arith)
 
 -- The plain symbol's answer in the same way.
-given_by : (a : plain-answers.Answer) (l operations : List Operation) → (listed a l ≡ answer.given operations) ↔ ((a ≡ plain-answer.Group) × (length l ≤ front l) × (l ≡ operations))
+given_by : (a : plain-answers.Answer) (l operations : List Operation) → (listed a l ≡ answer.given operations) ↔
+    ((a ≡ plain-answer.Group) × (length l ≤ front l) × (l ≡ operations))
 given_by plain-answer.Group l operations = (forth (ltb (front l) (length l)) refl, λ (_, h, e). rw (le-ltb (front l) (length l) h) (ap answer.given e))
   where
-    forth : (x : Bool) → ltb (front l) (length l) ≡ x → by_test x l ≡ answer.given operations → (plain-answer.Group ≡ plain-answer.Group) × (length l ≤ front l) × (l ≡ operations)
+    forth : (x : Bool) → ltb (front l) (length l) ≡ x → by_test x l ≡ answer.given operations → (plain-answer.Group ≡ plain-answer.Group)
+        × (length l ≤ front l) × (l ≡ operations)
     forth true p e = let z : ◌≡◌ {A = ℕ} 0 1 = cc in absurd (omega arith)
     forth false p e = (refl, ltb-false (front l) (length l) p, cc)
 given_by (plain-answer.Refused r) l operations = (
@@ -149,10 +155,15 @@ given_by (plain-answer.Refused r) l operations = (
 )
 
 -- 19 at i,
-nineteen-by : (a : plain-answers.Answer) (l : List Operation) (i : ℕ) → (listed a l ≡ answer.refused 19 i tt) ↔ ((a ≡ plain-answer.Group) × (front l < length l) × (front l ≡ i))
-nineteen-by plain-answer.Group l i = (forth (ltb (front l) (length l)) refl, λ (_, h, e). rw (lt-ltb (front l) (length l) h) (ap (λ k. answer.refused 19 k tt) e))
+nineteen-by : (a : plain-answers.Answer) (l : List Operation) (i : ℕ) → (listed a l ≡ answer.refused 19 i tt) ↔
+    ((a ≡ plain-answer.Group) × (front l < length l) × (front l ≡ i))
+nineteen-by plain-answer.Group l i = (
+  forth (ltb (front l) (length l)) refl,
+  λ (_, h, e). rw (lt-ltb (front l) (length l) h) (ap (λ k. answer.refused 19 k tt) e),
+)
   where
-    forth : (x : Bool) → ltb (front l) (length l) ≡ x → by_test x l ≡ answer.refused 19 i tt → (plain-answer.Group ≡ plain-answer.Group) × (front l < length l) × (front l ≡ i)
+    forth : (x : Bool) → ltb (front l) (length l) ≡ x → by_test x l ≡ answer.refused 19 i tt → (plain-answer.Group ≡ plain-answer.Group) × (front l < length l)
+        × (front l ≡ i)
     forth true p e = (refl, ltb-true (front l) (length l) p, cc)
     forth false p e = let z : ◌≡◌ {A = ℕ} 0 1 = cc in absurd (omega arith)
 nineteen-by (plain-answer.Refused r) l i = (
@@ -161,7 +172,8 @@ nineteen-by (plain-answer.Refused r) l i = (
 )
 
 -- and any other number.
-other-by : (a : plain-answers.Answer) (l : List Operation) (n k : ℕ) → n ≤ 17 → (listed a l ≡ answer.refused n k tt) ↔ (plain.operations_by a l ≡ answer.refused n k tt)
+other-by : (a : plain-answers.Answer) (l : List Operation) (n k : ℕ) → n ≤ 17
+    → (listed a l ≡ answer.refused n k tt) ↔ (plain.operations_by a l ≡ answer.refused n k tt)
 other-by plain-answer.Group l n k h = (forth (ltb (front l) (length l)), λ e. let z : ◌≡◌ {A = ℕ} 0 1 = cc in absurd (omega arith))
   where
     forth : (x : Bool) → by_test x l ≡ answer.refused n k tt → plain.operations_by plain-answer.Group l ≡ answer.refused n k tt
@@ -170,7 +182,8 @@ other-by plain-answer.Group l n k h = (forth (ltb (front l) (length l)), λ e. l
 other-by (plain-answer.Refused r) l n k h = ((λ e. e), λ e. e)
 
 -- The plain symbol's answer in numbers.
-plain-given : (a : plain-answers.Answer) (l operations : List Operation) → (plain.operations_by a l ≡ answer.given operations) ↔ ((a ≡ plain-answer.Group) × (l ≡ operations))
+plain-given : (a : plain-answers.Answer) (l operations : List Operation)
+    → (plain.operations_by a l ≡ answer.given operations) ↔ ((a ≡ plain-answer.Group) × (l ≡ operations))
 plain-given plain-answer.Group l operations = ((λ e. (refl, cc)), λ (_, p). ap answer.given p)
 plain-given (plain-answer.Refused r) l operations = (
   (λ e. let z : ◌≡◌ {A = ℕ} 0 1 = cc in absurd (omega arith)),
@@ -178,14 +191,16 @@ plain-given (plain-answer.Refused r) l operations = (
 )
 
 same-refusal : {A : Type 0} (r s : plain-refusal.Refusal)
-    → ◌≡◌ {A = answer.Answer A answer.Nothing} (answer.refused (plain-numbers.number_of r) (plain-numbers.place_of r) tt) (answer.refused (plain-numbers.number_of s) (plain-numbers.place_of s) tt)
+    → ◌≡◌ {A = answer.Answer A answer.Nothing} (answer.refused (plain-numbers.number_of r) (plain-numbers.place_of r) tt)
+    (answer.refused (plain-numbers.number_of s) (plain-numbers.place_of s) tt)
     → r ≡ s
 same-refusal r s e =
     let p : plain-numbers.number_of r ≡ plain-numbers.number_of s = cc in
     let q : plain-numbers.place_of r ≡ plain-numbers.place_of s = cc in
     plain-told.told-once r s p q
 
-plain-refused : (a : plain-answers.Answer) (l : List Operation) (r : plain-refusal.Refusal) → (plain.operations_by a l ≡ answer.refused (plain-numbers.number_of r) (plain-numbers.place_of r) tt) ↔ (a ≡ plain-answer.Refused r)
+plain-refused : (a : plain-answers.Answer) (l : List Operation) (r : plain-refusal.Refusal)
+    → (plain.operations_by a l ≡ answer.refused (plain-numbers.number_of r) (plain-numbers.place_of r) tt) ↔ (a ≡ plain-answer.Refused r)
 plain-refused plain-answer.Group l r = ((λ e. let z : ◌≡◌ {A = ℕ} 0 1 = cc in absurd (omega arith)), λ e. let z : ◌≡◌ {A = ℕ} 0 1 = cc in absurd (omega arith))
 plain-refused (plain-answer.Refused q) l r = (
   (λ e. ap plain-answer.Refused (same-refusal q r e)),
@@ -212,7 +227,8 @@ module _ (c : Centering) (gens operations : List Operation) (steps : List ℕ) (
     (λ h f s.
         let (o, m, near) = (set-exactly c gens operations steps A f).0 s in
         alike-layer c l f (motion_of o) near ((listed-exactly o m).0 (front-all operations h o m))),
-    λ h. all-front operations (λ o m. (listed-exactly o m).1 (h (motion_of o) ((set-exactly c gens operations steps A (motion_of o)).1 (o, m, (motions-keyed (points_of c) (points c)).alike-reflexive (motion_of o))))),
+    λ h. all-front operations (λ o m. (listed-exactly o m).1 (h (motion_of o) ((set-exactly c gens operations steps A (motion_of o)).1
+        (o, m, (motions-keyed (points_of c) (points c)).alike-reflexive (motion_of o))))),
   )
 
   -- The first that does not pass is the first whose motion is none of a layer.
@@ -220,7 +236,8 @@ module _ (c : Centering) (gens operations : List Operation) (steps : List ℕ) (
   first-not-off i F =
       record {
         within = F.within;
-        off = λ L. clash (is_layer (get_or operations i identity_operation)) ((listed-exactly _ (member-at operations i identity_operation F.within)).1 L) F.off;
+        off = λ L. clash (is_layer (get_or operations i identity_operation)) ((listed-exactly _ (member-at operations i identity_operation F.within)).1 L)
+            F.off;
         before = λ j k. (listed-exactly _ (member-at operations j identity_operation (omega (arith, F.within)))).0 (F.before j k);
       }
 
@@ -252,36 +269,48 @@ module _ (text : List ℕ) where
 
   -- A list is given exactly if the text spells a layer symbol, its generators are accepted, and every motion of its set is one of a layer.
   pub layer-exactly : ((operations : List Operation) × (told text ≡ answer.given operations))
-      ↔ ((c : Centering) × (gens : List Operation) × LayerSpells text c gens × (AllKeep c gens × FewRotations gens × SmallRotations gens × OneTranslation c gens)
+      ↔ ((c : Centering) × (gens : List Operation) × LayerSpells text c gens
+      × (AllKeep c gens × FewRotations gens × SmallRotations gens × OneTranslation c gens)
       × ((f : SpaceMotion) → InGeneratedSet c gens f → LayerMotion f))
   layer-exactly = (forth, back)
     where
-      forth : ((operations : List Operation) × (told text ≡ answer.given operations)) → (c : Centering) × (gens : List Operation) × LayerSpells text c gens × (AllKeep c gens × FewRotations gens × SmallRotations gens × OneTranslation c gens)
+      forth : ((operations : List Operation) × (told text ≡ answer.given operations)) → (c : Centering) × (gens : List Operation) × LayerSpells text c gens
+          × (AllKeep c gens × FewRotations gens × SmallRotations gens × OneTranslation c gens)
           × ((f : SpaceMotion) → InGeneratedSet c gens f → LayerMotion f)
       forth (operations, e) =
-          let (a, all, _) = (given_by (symbol_answer (capitalised text)).answer (take (symbol_answer (capitalised text)).count (symbol_answer (capitalised text)).operations) operations).0 (sym (told-listed text) ∙ e) in
+          let (a, all, _) = (given_by (symbol_answer (capitalised text)).answer (take (symbol_answer (capitalised text)).count
+          (symbol_answer (capitalised text)).operations) operations).0 (sym (told-listed text) ∙ e) in
           let T = accepted-text (capitalised text) a in
           let s = (spells-exactly T.letter T.generators).0 T.spells in
-          let A = T.accepted in
-          (T.letter, T.generators, s, (A.keep, A.few, A.small, A.one), (all-exactly T.letter T.generators T.operations T.steps A (layer-letter text T.letter T.generators s)).0 (rw T.same-operations at all))
+          let A = T.accepted in (
+            T.letter,
+            T.generators,
+            s,
+            (A.keep, A.few, A.small, A.one),
+            (all-exactly T.letter T.generators T.operations T.steps A (layer-letter text T.letter T.generators s)).0 (rw T.same-operations at all),
+          )
 
-      back : ((c : Centering) × (gens : List Operation) × LayerSpells text c gens × (AllKeep c gens × FewRotations gens × SmallRotations gens × OneTranslation c gens)
+      back : ((c : Centering) × (gens : List Operation) × LayerSpells text c gens
+          × (AllKeep c gens × FewRotations gens × SmallRotations gens × OneTranslation c gens)
           × ((f : SpaceMotion) → InGeneratedSet c gens f → LayerMotion f)) → (operations : List Operation) × (told text ≡ answer.given operations)
       back (c, gens, s, accepted, layer) =
           let p = (spells-exactly c gens).1 s in
           let a = (group-exactly (capitalised text)).1 (c, gens, p, accepted) in
           let T = accepted-text (capitalised text) a in
-          let same : symbol c gens ≡ symbol T.letter T.generators = sym ((symbol-exactly (capitalised text) c gens).1 p) ∙ (symbol-exactly (capitalised text) T.letter T.generators).1 T.spells in
+          let same : symbol c gens ≡ symbol T.letter T.generators = sym ((symbol-exactly (capitalised text) c gens).1 p)
+          ∙ (symbol-exactly (capitalised text) T.letter T.generators).1 T.spells in
           let letter : c ≡ T.letter = cc in
           let generators : gens ≡ T.generators = cc in
-          let all = (all-exactly T.letter T.generators T.operations T.steps T.accepted (subst OfLayer letter (layer-letter text c gens s))).1 (all_moved c T.letter gens T.generators letter generators layer) in
+          let all = (all-exactly T.letter T.generators T.operations T.steps T.accepted (subst OfLayer letter (layer-letter text c gens s))).1
+          (all_moved c T.letter gens T.generators letter generators layer) in
           (_, told-listed text ∙ (given_by (symbol_answer (capitalised text)).answer (take (symbol_answer (capitalised text)).count (symbol_answer (capitalised text)).operations) _).1 (a, rw T.same-operations all, refl))
 
   -- It is the list of the text with the capital letter.
   pub layer-list : (operations : List Operation) → told text ≡ answer.given operations → plain-told.told (capitalised text) ≡ answer.given operations
   unfolding plain-told.told
   layer-list operations e =
-      let (a, _, p) = (given_by (symbol_answer (capitalised text)).answer (take (symbol_answer (capitalised text)).count (symbol_answer (capitalised text)).operations) operations).0 (sym (told-listed text) ∙ e) in
+      let (a, _, p) = (given_by (symbol_answer (capitalised text)).answer (take (symbol_answer (capitalised text)).count
+      (symbol_answer (capitalised text)).operations) operations).0 (sym (told-listed text) ∙ e) in
       (plain-given (symbol_answer (capitalised text)).answer _ operations).1 (a, p)
 
   -- 19 at i: exactly if the text with the capital letter has a list, and operation i is the first of it whose motion is none of a layer.
@@ -290,20 +319,28 @@ module _ (text : List ℕ) where
   unfolding plain-told.told
   nineteen-exactly i = (forth, back)
     where
-      by : (listed (symbol_answer (capitalised text)).answer (take (symbol_answer (capitalised text)).count (symbol_answer (capitalised text)).operations) ≡ answer.refused 19 i tt)
-          ↔ (((symbol_answer (capitalised text)).answer ≡ plain-answer.Group) × (front (take (symbol_answer (capitalised text)).count (symbol_answer (capitalised text)).operations) < length (take (symbol_answer (capitalised text)).count (symbol_answer (capitalised text)).operations))
+      by : (listed (symbol_answer (capitalised text)).answer (take (symbol_answer (capitalised text)).count (symbol_answer (capitalised text)).operations)
+          ≡ answer.refused 19 i tt)
+          ↔ (((symbol_answer (capitalised text)).answer ≡ plain-answer.Group)
+          × (front (take (symbol_answer (capitalised text)).count (symbol_answer (capitalised text)).operations) < length
+          (take (symbol_answer (capitalised text)).count (symbol_answer (capitalised text)).operations))
           × (front (take (symbol_answer (capitalised text)).count (symbol_answer (capitalised text)).operations) ≡ i))
       by = nineteen-by (symbol_answer (capitalised text)).answer (take (symbol_answer (capitalised text)).count (symbol_answer (capitalised text)).operations) i
 
-      forth : told text ≡ answer.refused 19 i tt → (operations : List Operation) × (plain.operations_answer (symbol_answer (capitalised text)) ≡ answer.given operations) × FirstOff operations i
+      forth : told text ≡ answer.refused 19 i tt → (operations : List Operation)
+          × (plain.operations_answer (symbol_answer (capitalised text)) ≡ answer.given operations) × FirstOff operations i
       forth e =
           let (a, below, at_i) = by.0 (sym (told-listed text) ∙ e) in
           let T = accepted-text (capitalised text) a in
           let F = front-first T.operations (rw T.same-operations at below) in
-          let p : front T.operations ≡ i = ap front (sym T.same-operations) ∙ at_i in
-          (T.operations, (plain-given (symbol_answer (capitalised text)).answer _ T.operations).1 (a, T.same-operations), first-not-off T.letter T.generators T.operations T.steps T.accepted i (subst (FirstNot T.operations) p F))
+          let p : front T.operations ≡ i = ap front (sym T.same-operations) ∙ at_i in (
+            T.operations,
+            (plain-given (symbol_answer (capitalised text)).answer _ T.operations).1 (a, T.same-operations),
+            first-not-off T.letter T.generators T.operations T.steps T.accepted i (subst (FirstNot T.operations) p F),
+          )
 
-      back : ((operations : List Operation) × (plain.operations_answer (symbol_answer (capitalised text)) ≡ answer.given operations) × FirstOff operations i) → told text ≡ answer.refused 19 i tt
+      back : ((operations : List Operation) × (plain.operations_answer (symbol_answer (capitalised text)) ≡ answer.given operations) × FirstOff operations i)
+          → told text ≡ answer.refused 19 i tt
       back (operations, e, F) =
           let (a, p) = (plain-given (symbol_answer (capitalised text)).answer _ operations).0 e in
           let T = accepted-text (capitalised text) a in
@@ -317,7 +354,8 @@ module _ (text : List ℕ) where
   pub refused-exactly : (n k : ℕ) → n ≤ 17 → (told text ≡ answer.refused n k tt) ↔ (plain-told.told (capitalised text) ≡ answer.refused n k tt)
   unfolding plain-told.told
   refused-exactly n k h =
-      let by = other-by (symbol_answer (capitalised text)).answer (take (symbol_answer (capitalised text)).count (symbol_answer (capitalised text)).operations) n k h in
+      let by = other-by (symbol_answer (capitalised text)).answer (take (symbol_answer (capitalised text)).count (symbol_answer (capitalised text)).operations)
+      n k h in
       ((λ e. by.0 (sym (told-listed text) ∙ e)), λ e. told-listed text ∙ by.1 e)
 
   -- A refusal of the text itself: exactly if its rule holds, said of the text as a layer symbol.
@@ -325,7 +363,8 @@ module _ (text : List ℕ) where
   unfolding plain-told.told
   text-refused r =
       let as_plain = refused-exactly (plain-numbers.number_of (Text r)) (plain-numbers.place_of (Text r)) (plain-told.number-limit (Text r)) in
-      let by = plain-refused (symbol_answer (capitalised text)).answer (take (symbol_answer (capitalised text)).count (symbol_answer (capitalised text)).operations) (Text r) in (
+      let by = plain-refused (symbol_answer (capitalised text)).answer (take (symbol_answer (capitalised text)).count
+      (symbol_answer (capitalised text)).operations) (Text r) in (
         (λ e. (layer-reads text (refusal r)).0 ((refusal-exactly (capitalised text) r).1 ((text-exactly (capitalised text) r).0 (by.0 (as_plain.0 e))))),
         λ h. as_plain.1 (by.1 ((text-exactly (capitalised text) r).1 ((refusal-exactly (capitalised text) r).0 ((layer-reads text (refusal r)).1 h)))),
       )
@@ -340,7 +379,8 @@ module _ (text : List ℕ) where
   unfolding plain-told.told
   generators-exactly r =
       let as_plain = refused-exactly (generator-numbers.number_of r) (generator-numbers.place_of r) (plain-told.number-limit (NoGroup r)) in
-      let by = plain-refused (symbol_answer (capitalised text)).answer (take (symbol_answer (capitalised text)).count (symbol_answer (capitalised text)).operations) (NoGroup r) in (
+      let by = plain-refused (symbol_answer (capitalised text)).answer (take (symbol_answer (capitalised text)).count
+      (symbol_answer (capitalised text)).operations) (NoGroup r) in (
         (λ e. let (c, gens, s, h) = (generators-refused (capitalised text) r).0 (by.0 (as_plain.0 e)) in (c, gens, (spells-exactly c gens).0 s, h)),
         λ (c, gens, s, h). as_plain.1 (by.1 ((generators-refused (capitalised text) r).1 (c, gens, (spells-exactly c gens).1 s, h))),
       )
@@ -350,10 +390,12 @@ module _ (text : List ℕ) where
 abbrev pub passing : Bool → Centering → ℕ → List Operation → LayerGroup
 passing x c n l = cond x (refused_answer (NoLayer (front (take n l)))) (record { answer = Group; centering = c; count = n; operations = l })
 
-slots-by : (a : plain-answers.Answer) (c : Centering) (n : ℕ) (l : List Operation) → (layered_by a c n l).answer ≡ Group → (a ≡ plain-answer.Group) × ((layered_by a c n l).centering ≡ c) × ((layered_by a c n l).count ≡ n) × ((layered_by a c n l).operations ≡ l)
+slots-by : (a : plain-answers.Answer) (c : Centering) (n : ℕ) (l : List Operation) → (layered_by a c n l).answer ≡ Group → (a ≡ plain-answer.Group)
+    × ((layered_by a c n l).centering ≡ c) × ((layered_by a c n l).count ≡ n) × ((layered_by a c n l).operations ≡ l)
 slots-by plain-answer.Group c n l e = go (ltb (front (take n l)) n) e
   where
-    go : (x : Bool) → (passing x c n l).answer ≡ Group → (plain-answer.Group ≡ plain-answer.Group) × ((passing x c n l).centering ≡ c) × ((passing x c n l).count ≡ n) × ((passing x c n l).operations ≡ l)
+    go : (x : Bool) → (passing x c n l).answer ≡ Group → (plain-answer.Group ≡ plain-answer.Group) × ((passing x c n l).centering ≡ c)
+        × ((passing x c n l).count ≡ n) × ((passing x c n l).operations ≡ l)
     go true e = let z : ◌≡◌ {A = ℕ} 0 1 = cc in absurd (omega arith)
     go false e = (refl, refl, refl, refl)
 slots-by (plain-answer.Refused r) c n l e = let z : ◌≡◌ {A = ℕ} 0 1 = cc in absurd (omega arith)

@@ -255,7 +255,8 @@ module _
         }
 
     -- and every lacking rotation is that of a missing operation.
-    lacking-misses : (r : Rotation) → Lacking c gens n entry r → (k : ℕ) × (k < count) × (missing_at c n entry operation k ≡ true) × ((operation k).rotation ≡ r)
+    lacking-misses : (r : Rotation) → Lacking c gens n entry r → (k : ℕ) × (k < count) × (missing_at c n entry operation k ≡ true)
+        × ((operation k).rotation ≡ r)
     unfolding motion_of
     lacking-misses r L =
         let (m, s, p) = L.there in

@@ -106,7 +106,8 @@ module _ (c : Centering) (gens : List (Flagged Operation)) (small : SmallGenerat
   unfolding outcome_of
   course = elim (dec_lt (first_off c (plain_of gens)) (length (plain_of gens))) [
     | yes h ↦
-        rw (lt-ltb (first_off c (plain_of gens)) (length (plain_of gens)) h) (off ((first_off_lem c (plain_of gens) small (first_off c (plain_of gens))).0 (refl, h)))
+        rw (lt-ltb (first_off c (plain_of gens)) (length (plain_of gens)) h) (off ((first_off_lem c (plain_of gens) small (first_off c (plain_of gens))).0
+        (refl, h)))
     | no h ↦
         let all : length (plain_of gens) ≤ first_off c (plain_of gens) = omega arith in
         rw (le-ltb (first_off c (plain_of gens)) (length (plain_of gens)) all) (kept ((none-off c (plain_of gens) small).0 all))

@@ -87,8 +87,12 @@ module _ (c : Centering) (gens operations : List (Flagged Operation)) (steps : L
   pair-there P (f, r, p) =
       let (g, m, s) = growing.key-there (flagged_growth c) (flagged_motions gens) kept 96 list steps A.whole f r in
       let same = same-rotation f.element g.element (key-element same_rotation f g s) in
-      let turn = operation-rotation g.element (small g (reached.sound g m)) ∙ sym same in
-      (image_flagged operation_of g, listed-member _ (mem-map (image_flagged operation_of) m), flagged≡ _ (pair_of f) turn (sym (key-flag same_rotation f g s)) ∙ p)
+      let turn = operation-rotation g.element (small g (reached.sound g m)) ∙ sym same in (
+        image_flagged operation_of g,
+        listed-member _ (mem-map (image_flagged operation_of) m),
+        flagged≡ _ (pair_of f) turn (sym (key-flag same_rotation f g s))
+            ∙ p,
+      )
 
   -- nothing else is,
   pub pair-generated : (o : Flagged Operation) → Mem o operations → GeneratedPair gens (own_pair o)
@@ -126,7 +130,8 @@ module _ (c : Centering) (gens operations : List (Flagged Operation)) (steps : L
   -- ---- the group, modulo L
   -- Any product of two members is, modulo L, a member, with the product's flag.
   pub product-member : (o p : Flagged Operation) → Mem o operations → Mem p operations
-      → (q : Flagged Operation) × Mem q operations × Near c (compose_flagged (image_flagged motion_of o) (image_flagged motion_of p)) (image_flagged motion_of q)
+      → (q : Flagged Operation) × Mem q operations × Near c (compose_flagged (image_flagged motion_of o) (image_flagged motion_of p))
+      (image_flagged motion_of q)
   product-member o p m k =
       let closed = growing.product-member (flagged_growth c) (flagged_motions gens) kept 96 list steps A.whole (flagged_forms c) in
       let (q, n, close) = closed o p (member-listed o m) (member-listed p k) in

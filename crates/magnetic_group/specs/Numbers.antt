@@ -182,7 +182,8 @@ module _ (bytes : List ℕ) (g : MagneticGroup) (slots : List ℕ) (a : g.answer
   never r p = let b = sym (ap (λ (g : MagneticGroup). g.answer) p) ∙ a in let z : ◌≡◌ {A = ℕ} 0 1 = cc in absurd (omega arith)
 
   by-list : (o : ListOutcome ℕ) → number_outcome c (generators_of read) ≡ o → (q : MagneticOutcome) → outcome_of c (generators_of read) ≡ q
-      → image_list flagged_said o ≡ list_of q → magnetic_outcome bytes ≡ made c q → slots ≡ slots_of bytes → g ≡ group_by (made c q) → Listed bytes g.count slots
+      → image_list flagged_said o ≡ list_of q → magnetic_outcome bytes ≡ made c q → slots ≡ slots_of bytes → g ≡ group_by (made c q)
+      → Listed bytes g.count slots
   unfolding slots_of
   by-list (numbers.group l) n (group operations steps) k p is h e =
       let z : map flagged_said l ≡ operations = cc in
@@ -204,7 +205,8 @@ module _ (bytes : List ℕ) (g : MagneticGroup) (slots : List ℕ) (a : g.answer
   by-text : (t : text-type.Answer) → read.symbol.answer ≡ t → g ≡ group_by (magnetic_outcome bytes) → slots ≡ slots_of bytes → Listed bytes g.count slots
   by-text text.Symbol t e h =
       let is = outcome-is bytes read refl ∙ ap (λ t. on_symbol t read) t in
-      by-list (number_outcome c (generators_of read)) refl (outcome_of c (generators_of read)) refl (numbers-say c (generators_of read)) is h (e ∙ ap group_by is)
+      by-list (number_outcome c (generators_of read)) refl (outcome_of c (generators_of read)) refl (numbers-say c (generators_of read)) is h
+      (e ∙ ap group_by is)
   by-text (text.Refused r) t e h = never (Text r) (e ∙ ap group_by (outcome-is bytes read refl ∙ ap (λ t. on_symbol t read) t))
 
   pub slots-listed : g ≡ group_by (magnetic_outcome bytes) → slots ≡ slots_of bytes → Listed bytes g.count slots

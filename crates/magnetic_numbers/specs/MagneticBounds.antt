@@ -100,7 +100,8 @@ module _ (text : List ℕ) where
       by-test : (b : Bool) → ltb i (length listed) ≡ b
           → Within ReducedFlagged (operation_answer (cond b (Found (beside_flag (get_or listed i (held identity_operation)))) PastEnd))
       by-test true t =
-          member-reduced c listed steps e (get_or listed i (held identity_operation)) (member-at listed i (held identity_operation) (ltb-true i (length listed) t))
+          member-reduced c listed steps e (get_or listed i (held identity_operation)) (member-at listed i (held identity_operation)
+          (ltb-true i (length listed) t))
       by-test false t = near (omega arith) (omega arith) (omega arith)
   operation-by i (made c (refused r)) e = refused-told c r e
   operation-by i (misread r) e = misread-told r e

@@ -43,7 +43,8 @@ one-letter : (c d : Centering) → byte_of c ≡ byte_of d → c ≡ d
 one-letter c d e = let same : letter.Is c ≡ letter.Is d = sym (letter-by-byte c) ∙ ap letter_of e ∙ letter-by-byte d in cc
 
 -- The two answers determine the reading.
-pub one-magnetic-reading : (a b : MagneticReading) → magnetic_order_answer a ≡ magnetic_order_answer b → magnetic_letter_answer a ≡ magnetic_letter_answer b → a ≡ b
+pub one-magnetic-reading : (a b : MagneticReading) → magnetic_order_answer a ≡ magnetic_order_answer b → magnetic_letter_answer a ≡ magnetic_letter_answer b
+    → a ≡ b
 one-magnetic-reading (Is c n) (Is d m) e f =
     let count : n ≡ m = cc in
     let byte : byte_of c ≡ byte_of d = cc in

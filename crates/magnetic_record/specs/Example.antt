@@ -23,5 +23,6 @@ half_cell = record { rotation = identity_operation.rotation; translation = recor
 -- 40 64 00 00 00 00 40 64 06 00 00 01 50 02 02 00 11
 pub example : magnetic_record P (flagged_by true half_cell ∷ held identity_operation ∷ [])
     ≡ 64 ∷ 100 ∷ 0 ∷ 0 ∷ 0 ∷ 0 ∷ 64 ∷ 100 ∷ 6 ∷ 0 ∷ 0 ∷ 1 ∷ 80 ∷ 2 ∷ 2 ∷ 0 ∷ 17 ∷ []
-unfolding magnetic_record framed magnetic_form smallest_operation smallest_of smallest least_rank rank unrank ◌⊕◌ sort insert code_of bytes_of magnetic_bytes item_bytes
+unfolding magnetic_record framed magnetic_form smallest_operation smallest_of smallest least_rank rank unrank ◌⊕◌ sort insert code_of bytes_of magnetic_bytes
+    item_bytes
 example = refl

@@ -65,7 +65,8 @@ same_item c items others g h into i m =
     let K = half-form c others h j.flag in
     let inside = mem-map operation_of_item (listed-half items i m) in
     let there = mem-map operation_of_item (listed-half others j k) in
-    let alike : Alike c (motion_of f) (motion_of d) = subst (λ (b : SpaceMotion). Alike c (motion_of f) b) (sym (ap (λ (x : FlaggedMotion). x.element) e)) near in
+    let alike : Alike c (motion_of f) (motion_of d) = subst (λ (b : SpaceMotion). Alike c (motion_of f) b) (sym (ap (λ (x : FlaggedMotion). x.element) e))
+    near in
     let same : f ≡ d = sym (form-smallest c F f inside) ∙ alike-smallest c f d (F.entries f inside) (K.entries d there) alike ∙ form-smallest c K d there in
     let plains : i.plain ≡ j.plain = sym (item-of-operation i.plain (g.code i m)) ∙ ap item_of same ∙ item-of-operation j.plain (h.code j k) in
     let truth : eqb i.flag 1 ≡ eqb j.flag 1 = flag ∙ sym (ap (λ (x : FlaggedMotion). x.flag) e) in
@@ -148,7 +149,8 @@ key-test f g = key-numbers (code_of f.element.rotation) (code_of g.element.rotat
 -- A list with each key once is a list without repeats.
 distinct-nodup : {l : List MagneticItem} → Distinct item_same l → Nodup l
 distinct-nodup nil = Pairwise.nil
-distinct-nodup (cons {x} {l} new d) = Pairwise.cons (λ y m e. ∥∥₁_elim m ⊥_prop (λ k. new (Mem→has item_same key-equivalence (mem-cast e k)))) (distinct-nodup d)
+distinct-nodup (cons {x} {l} new d) = Pairwise.cons (λ y m e. ∥∥₁_elim m ⊥_prop (λ k. new (Mem→has item_same key-equivalence (mem-cast e k))))
+    (distinct-nodup d)
 
 module _ (c : Centering) where
   -- The smallest triples change no key.

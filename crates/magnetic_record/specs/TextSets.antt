@@ -121,7 +121,8 @@ text-buffer-read text out start n e = by (magnetic_outcome text) refl e
         (A, go (room_from start (total_length 6 (length operations)) (length out)) refl p)
       where
         go : (b : Bool) → room_from start (total_length 6 (length operations)) (length out) ≡ b → cond b (Written (length operations)) NoRoom ≡ Written n
-            → told_by magnetic_rules (take (start + total_length 6 n) (placed_in out start (magnetic_record c operations))) ≡ holds tt c (magnetic_form c operations)
+            → told_by magnetic_rules (take (start + total_length 6 n) (placed_in out start (magnetic_record c operations)))
+            ≡ holds tt c (magnetic_form c operations)
         go false room q = let z : ◌≡◌ {A = ℕ} 0 1 = cc in absurd (omega arith)
         go true room q =
             let A : AcceptedMagnetic text = record { letter = c; operations = operations; steps = steps; outcome = is } in

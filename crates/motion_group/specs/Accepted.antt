@@ -74,7 +74,8 @@ pub filled-holds : {given f : Filled} {table cells filled : List ℕ} → (given
 filled-holds (e, same) h = (ap (λ (g : Filled). g.source) e, rw (e, same) h)
 
 -- The slots hold the table of an accepted symbol,
-pub symbol-holds : (text lent : List ℕ) → 2304 ≤ length lent → Holds (filled_from (of_symbol (order_of text))) (symbol_cells text) (laid (symbol_cells text) lent)
+pub symbol-holds : (text lent : List ℕ) → 2304 ≤ length lent → Holds (filled_from (of_symbol (order_of text))) (symbol_cells text)
+    (laid (symbol_cells text) lent)
 symbol-holds text lent wide = by_order (order_of text) refl
   where
     by_order : (o : SymbolOrder) → order_of text ≡ o → Holds (filled_from (of_symbol o)) (symbol_cells text) (laid (symbol_cells text) lent)

@@ -85,14 +85,16 @@ factor-narrows a b c ha hb hc = leb-true _ _ (every _ (every _ (every _ factor-t
 -- The fact of `cofactors`, at all pairs of rows.
 cofactor-test : every_digit (λ a. every_digit (λ b.
     every_digit (λ c. every_digit (λ d. every_digit
-    (λ e. every_digit (λ f. leb (gap (digit_of_product b f) (digit_of_product c e) + gap (digit_of_product c d) (digit_of_product a f) + gap (digit_of_product a e)
+    (λ e. every_digit (λ f. leb (gap (digit_of_product b f) (digit_of_product c e) + gap (digit_of_product c d) (digit_of_product a f) + gap
+    (digit_of_product a e)
     (digit_of_product b d)) 4)))))) ≡ true
 unfolding all_below digit_of_product
 cofactor-test = refl
 
 -- The cofactors of a row have absolute values that add up to 4 at most.
 cofactors : (a b c d e f : ℕ) → a ≤ 2 → b ≤ 2 → c ≤ 2 → d ≤ 2 → e ≤ 2 → f ≤ 2
-    → gap (digit_of_product b f) (digit_of_product c e) + gap (digit_of_product c d) (digit_of_product a f) + gap (digit_of_product a e) (digit_of_product b d) ≤ 4
+    → gap (digit_of_product b f) (digit_of_product c e) + gap (digit_of_product c d) (digit_of_product a f) + gap (digit_of_product a e) (digit_of_product b d)
+    ≤ 4
 cofactors a b c d e f ha hb hc hd he hf =
     leb-true _ _ (every _ (every _ (every _ (every _ (every _ (every _ cofactor-test a ha) b hb) c hc) d hd) e he) f hf)
 

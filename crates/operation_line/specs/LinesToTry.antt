@@ -87,5 +87,9 @@ cases =
     ∷ []
 
 pub lines-to-try : map (λ (c : Case). told c.line) cases ≡ map (λ (c : Case). c.answer) cases
-unfolding told code_of entry_of matrix_of inside row_inside all_inside handedness_by handedness_of determinant one ◌⊖◌ used digit_then digit_in twelfths_then twelfths_in rotation_of_line translation_of_line operation_of_line reading.symbol_in reading.digit_or reading.symbol_of reading.with_letter reading.with_fraction reading.with_numerator reading.begun reading.at_start reading.full reading.after_term reading.after_numerator reading.one_digit reading.over_digit reading.after_slash reading.after_one reading.step_by reading.onwards reading.reach reading.passed reading.readable reading.turned reading.whole_line reading.ended reading.answered read_line
+unfolding told code_of entry_of matrix_of inside row_inside all_inside handedness_by handedness_of determinant one ◌⊖◌ used digit_then digit_in twelfths_then
+    twelfths_in rotation_of_line translation_of_line operation_of_line reading.symbol_in reading.digit_or reading.symbol_of reading.with_letter
+    reading.with_fraction reading.with_numerator reading.begun reading.at_start reading.full reading.after_term reading.after_numerator reading.one_digit
+    reading.over_digit reading.after_slash reading.after_one reading.step_by reading.onwards reading.reach reading.passed reading.readable reading.turned
+    reading.whole_line reading.ended reading.answered read_line
 lines-to-try = refl

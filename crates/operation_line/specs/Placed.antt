@@ -55,7 +55,8 @@ module _ (bytes out : List ℕ) where
   unfolding write_of buffer_of
   no-determinant f e d = rw (e, d) (refl, refl)
 
-  pub by-room : (f : Operation) (answer : WrittenLine) (after : List ℕ) → five_bytes_of bytes ≡ Is f → writable f ≡ true → Fitted (written_line f) out answer after
+  pub by-room : (f : Operation) (answer : WrittenLine) (after : List ℕ) → five_bytes_of bytes ≡ Is f → writable f ≡ true
+      → Fitted (written_line f) out answer after
       → Written bytes out answer after
   unfolding write_of buffer_of
   by-room f answer after e d h = rw (e, d) h

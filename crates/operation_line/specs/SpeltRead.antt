@@ -213,7 +213,8 @@ terms-read d (then {p} {u} {v} {ts} h n g b proper fresh k) =
     reach-append p (sign_byte n ∷ (u ++ (body_bytes b ++ v))) (state d [] Start) (state d ts (after ts)) (terms-read d h)
     ∙ reach_step (sign_byte n) (u ++ (body_bytes b ++ v)) (state d ts (after ts)) (state d ts (Owed n)) (sign_read d ts n (not_full b ts fresh))
     ∙ reach-append u (body_bytes b ++ v) (state d ts (Owed n)) (state d ts (Owed n)) (spaces (state d ts (Owed n)) (owed-space d ts n) g)
-    ∙ reach-append (body_bytes b) v (state d ts (Owed n)) (state d (signed n b ∷ ts) Told) (body-read (state d ts (Owed n)) n (owed-opens d ts n) b proper fresh)
+    ∙ reach-append (body_bytes b) v (state d ts (Owed n)) (state d (signed n b ∷ ts) Told) (body-read (state d ts (Owed n)) n (owed-opens d ts n) b proper
+    fresh)
     ∙ spaces (state d (signed n b ∷ ts) Told) (after-space d (signed n b ∷ ts)) k
 
 part-read : (d : List (List Term)) (q : List ℕ) (ts : List Term) → Part q ts → reach q (state d [] Start) ≡ at (state d ts Told)

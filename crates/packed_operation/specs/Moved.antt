@@ -41,7 +41,8 @@ coordinate-small a b c u t ha hb hc s ht =
     omega (arith, times-small a u.x ha s.x, times-small b u.y hb s.y, times-small c u.z hc s.z, s.x, s.y, s.z)
 
 module _ (f g : Operation) (narrow : Narrow f.rotation) (short : Short f.translation) (other : Short g.translation) where
-  pub sum_is : rows_times f.rotation g.translation.x g.translation.y g.translation.z + lanes_of f.translation.x f.translation.y f.translation.z + (g.translation.x + g.translation.y + g.translation.z) * 48378534690827 ≡ sum_lanes f g
+  pub sum_is : rows_times f.rotation g.translation.x g.translation.y g.translation.z + lanes_of f.translation.x f.translation.y f.translation.z +
+      (g.translation.x + g.translation.y + g.translation.z) * 48378534690827 ≡ sum_lanes f g
   unfolding coordinate
   sum_is = moved-lanes _ _ _ _ _ _ _
 

@@ -132,7 +132,8 @@ module _ (edition : Known) (s : Sign) (n : ℕ) (part rest : List ℕ) (lent : p
       → layers_if (is_small s) (map operation_of_item (items_of edition n rest)) ≡ b
   by-layers b h = ap (λ (l : List ℕ). layers_if (is_small s) (map operation_of_item (items_of edition n l))) (sym lent) ∙ h
 
-  pub items_refused : (why : Refusal) → items_answer edition (lattice_of s) n part ≡ Refused why → read_items edition s (items_of edition n rest) ≡ refused_group why
+  pub items_refused : (why : Refusal) → items_answer edition (lattice_of s) n part ≡ Refused why → read_items edition s (items_of edition n rest)
+      ≡ refused_group why
   items_refused why e = told-refused edition s (items_of edition n rest) why (answer-by (Refused why) e)
 
   module _ (e : items_answer edition (lattice_of s) n part ≡ Accepted) where

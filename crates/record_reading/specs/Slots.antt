@@ -35,12 +35,15 @@ module _ (edition : Known) (n : ℕ) (bytes : List ℕ) where
   unfolding filled_to item_at
   filled_next i h few =
       let long : length (map operation_of_item (take i (items_of edition n bytes))) ≡ i =
-      length-map (take i (items_of edition n bytes)) operation_of_item ∙ length-take-le i (items_of edition n bytes) (omega (arith, items-count edition n bytes)) in
+      length-map (take i (items_of edition n bytes)) operation_of_item ∙ length-take-le i (items_of edition n bytes)
+      (omega (arith, items-count edition n bytes)) in
       let room : 48 - i ≡ suc (48 - (i + 1)) = omega arith in
       let more : take (i + 1) (items_of edition n bytes) ≡ take i (items_of edition n bytes) ++ (item_at edition bytes i ∷ []) =
-      ap (λ (k : ℕ). take k (items_of edition n bytes)) (add-one i) ∙ take-suc (items_of edition n bytes) i empty_item (omega (arith, items-count edition n bytes))
+      ap (λ (k : ℕ). take k (items_of edition n bytes)) (add-one i) ∙ take-suc (items_of edition n bytes) i empty_item
+      (omega (arith, items-count edition n bytes))
       ∙ ap (λ (a : Item). take i (items_of edition n bytes) ++ (a ∷ [])) (item-at (width_in edition) (edition_of edition).read n bytes i empty_item h) in
-      ap (λ (k : ℕ). set (map operation_of_item (take i (items_of edition n bytes)) ++ replicate k identity_operation) i (operation_of_item (item_at edition bytes i)))
+      ap (λ (k : ℕ). set (map operation_of_item (take i (items_of edition n bytes)) ++ replicate k identity_operation) i
+      (operation_of_item (item_at edition bytes i)))
       room
       ∙ set_at (map operation_of_item (take i (items_of edition n bytes))) identity_operation (replicate (48 - (i + 1)) identity_operation)
       (operation_of_item (item_at edition bytes i)) i long
@@ -69,6 +72,7 @@ module _ (edition : Known) (n : ℕ) (bytes : List ℕ) where
   unfolding filled_to
   filled-length i h few =
       let long : length (map operation_of_item (take i (items_of edition n bytes))) ≡ i =
-      length-map (take i (items_of edition n bytes)) operation_of_item ∙ length-take-le i (items_of edition n bytes) (omega (arith, items-count edition n bytes)) in
+      length-map (take i (items_of edition n bytes)) operation_of_item ∙ length-take-le i (items_of edition n bytes)
+      (omega (arith, items-count edition n bytes)) in
       length-append (map operation_of_item (take i (items_of edition n bytes))) (replicate (48 - i) identity_operation)
       ∙ omega (arith, long, length-replicate (48 - i) identity_operation)

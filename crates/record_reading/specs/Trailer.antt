@@ -62,19 +62,20 @@ good-items First s items = refl
 good-items Third s items = refl
 
 -- What the bytes before the end decide, by the code's names for them.
-module _ (edition : Known) (c : Sign) (bytes : List ℕ) (n high low : ℕ) (p : n ≡ from_end bytes 3) (q : high ≡ from_end bytes 2) (r : low ≡ from_end bytes 1) where
-  pub counted-fits : length_fits (width_in edition) 48 n (high * 256 + low) (length bytes) ≡ true
-      → read_counted edition c (from_end bytes 3) bytes ≡ read_items edition c (items_of edition n (drop (length bytes - (high * 256 + low)) bytes))
-  unfolding counted_told
-  counted-fits e =
-      rw (← p, ← q, ← r, e)
-      (ap (λ (k : ℕ). read_items edition c (items_of edition n (drop (length bytes - k) bytes)))
-      (sym ((length-test (width_in edition) 48 n (high * 256 + low) (length bytes)).0 e).2))
+module _ (edition : Known) (c : Sign) (bytes : List ℕ) (n high low : ℕ) (p : n ≡ from_end bytes 3) (q : high ≡ from_end bytes 2) (r : low ≡ from_end bytes 1)
+  where
+    pub counted-fits : length_fits (width_in edition) 48 n (high * 256 + low) (length bytes) ≡ true
+        → read_counted edition c (from_end bytes 3) bytes ≡ read_items edition c (items_of edition n (drop (length bytes - (high * 256 + low)) bytes))
+    unfolding counted_told
+    counted-fits e =
+        rw (← p, ← q, ← r, e)
+        (ap (λ (k : ℕ). read_items edition c (items_of edition n (drop (length bytes - k) bytes)))
+        (sym ((length-test (width_in edition) 48 n (high * 256 + low) (length bytes)).0 e).2))
 
-  pub counted-fails : length_fits (width_in edition) 48 n (high * 256 + low) (length bytes) ≡ false
-      → read_counted edition c (from_end bytes 3) bytes ≡ refused_group WrongLength
-  unfolding counted_told
-  counted-fails e = rw (← p, ← q, ← r, e)
+    pub counted-fails : length_fits (width_in edition) 48 n (high * 256 + low) (length bytes) ≡ false
+        → read_counted edition c (from_end bytes 3) bytes ≡ refused_group WrongLength
+    unfolding counted_told
+    counted-fails e = rw (← p, ← q, ← r, e)
 
 pub read_short : (bytes : List ℕ) → length bytes < 9 → read_of bytes ≡ refused_group Short
 unfolding read_of told_by

@@ -182,7 +182,8 @@ module _ (first second : List ℕ) (n m i j : ℕ) (within : i ≤ n) (inside : 
     (e : kind ≡ kind_of same_translation (drop i (items_of n first)) (drop j (items_of m second))) where
   -- What is left of the report is what the step finds, and what is left behind it.
   pub step : same_bytes (drop i (items_of n first)) (drop j (items_of m second))
-      ≡ bytes_at kind (item_at first i) (item_at second j) ++ same_bytes (drop (on_unless i kind 2) (items_of n first)) (drop (on_unless j kind 1) (items_of m second))
+      ≡ bytes_at kind (item_at first i) (item_at second j) ++ same_bytes (drop (on_unless i kind 2) (items_of n first))
+      (drop (on_unless j kind 1) (items_of m second))
   step = elim (dec_lt i n) [
     | yes h ↦ elim (dec_lt j m) [
       | yes k ↦

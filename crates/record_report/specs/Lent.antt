@@ -65,11 +65,16 @@ module _ (bytes : List ℕ) (R : Read bytes) where
   told = by (told_by first_rules bytes) refl R.accepted
     where
       by : (t : Told Item Sign (Unit {0})) → told_by first_rules bytes ≡ t → (first_group_of t).answer ≡ Accepted
-          → (s : Sign) × Holds first_reading bytes tt s (take (first_group_of t).count (first_group_of t).operations) × (first_reading.lattice s ≡ (first_group_of t).centering)
+          → (s : Sign) × Holds first_reading bytes tt s (take (first_group_of t).count (first_group_of t).operations)
+          × (first_reading.lattice s ≡ (first_group_of t).centering)
       by (refused r) p a = let z : ◌≡◌ {A = ℕ} 0 1 = cc in absurd (omega arith)
       by (holding k s items) p a =
-          let l = map operation_of_item items in
-          (s, rw (take_at l (replicate (48 - length l) identity_operation) (length l) refl) ((tells-exactly first_reading bytes R.small tt s l).0 (items, p, refl)), refl)
+          let l = map operation_of_item items in (
+            s,
+            rw (take_at l (replicate (48 - length l) identity_operation) (length l) refl)
+                ((tells-exactly first_reading bytes R.small tt s l).0 (items, p, refl)),
+            refl,
+          )
 
   -- The letter that was read, and its byte.
   pub sign : Sign
@@ -283,7 +288,8 @@ module _ (first second out : List ℕ) where
     second-refused r e = rw (a, e) (refl, refl)
 
     pub both_read : reading_of second ≡ Accepted → (answer : Compared) (after : List ℕ)
-        → (answer ≡ fitted_answer (report_of (sheet_of first) (sheet_of second)) (length out)) × (after ≡ fitted (report_of (sheet_of first) (sheet_of second)) out)
+        → (answer ≡ fitted_answer (report_of (sheet_of first) (sheet_of second)) (length out))
+        × (after ≡ fitted (report_of (sheet_of first) (sheet_of second)) out)
         → (answer ≡ compared_of first second (length out)) × (after ≡ buffer_of first second out)
     unfolding compared_of buffer_of
     both_read e answer after h = rw (a, e) h

@@ -47,7 +47,8 @@ module _ (first second : List ℕ) (n m : ℕ) where
     next-length = with-entry-by (eqb kind 0) size ∙ ap (λ (k : ℕ). size + k) (sym (step-length kind (item_at first i) (item_at second j)))
 
     -- What is left before the step is its bytes and what is left behind it.
-    pub next-left : length (bytes_at kind (item_at first i) (item_at second j)) + length (left_at (on_unless i kind 2) (on_unless j kind 1)) ≡ length (left_at i j)
+    pub next-left : length (bytes_at kind (item_at first i) (item_at second j)) + length (left_at (on_unless i kind 2) (on_unless j kind 1))
+        ≡ length (left_at i j)
     next-left = sym (ap length (step first second n m i j C.within C.inside more kind e)
         ∙ length-append (bytes_at kind (item_at first i) (item_at second j)) (left_at (on_unless i kind 2) (on_unless j kind 1)))
 

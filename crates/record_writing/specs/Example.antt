@@ -28,12 +28,14 @@ example = refl
 
 -- 00 54 52 80 01 B2 A3 00 50 03 02 00 0D
 pub third-example : record_by Third P (identity_operation ∷ inversion ∷ []) ≡ 0 ∷ 84 ∷ 82 ∷ 128 ∷ 1 ∷ 178 ∷ 163 ∷ 0 ∷ 80 ∷ 3 ∷ 2 ∷ 0 ∷ 13 ∷ []
-unfolding record_by record_in written_in listed_form smallest_operation smallest_of smallest least_rank rank unrank ◌⊕◌ sort insert code_of bytes_of numbered_bytes
+unfolding record_by record_in written_in listed_form smallest_operation smallest_of smallest least_rank rank unrank ◌⊕◌ sort insert code_of bytes_of
+    numbered_bytes
     four_bytes number_of_item
 third-example = refl
 
 -- 01 B2 A3 00 50 03 01 00 09
 pub shortest-example : record_by Third P (identity_operation ∷ []) ≡ 1 ∷ 178 ∷ 163 ∷ 0 ∷ 80 ∷ 3 ∷ 1 ∷ 0 ∷ 9 ∷ []
-unfolding record_by record_in written_in listed_form smallest_operation smallest_of smallest least_rank rank unrank ◌⊕◌ sort insert code_of bytes_of numbered_bytes
+unfolding record_by record_in written_in listed_form smallest_operation smallest_of smallest least_rank rank unrank ◌⊕◌ sort insert code_of bytes_of
+    numbered_bytes
     four_bytes number_of_item
 shortest-example = refl

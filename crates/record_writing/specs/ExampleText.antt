@@ -44,12 +44,15 @@ use Rattle.record_writing.specs.SymbolRecords.{text_record}
 
 -- 2D 50 20 31 has the record 0C 7E 00 00 00 40 64 00 00 00 50 01 02 00 0F.
 pub text-example : text_record (45 ∷ 80 ∷ 32 ∷ 49 ∷ []) ≡ 12 ∷ 126 ∷ 0 ∷ 0 ∷ 0 ∷ 64 ∷ 100 ∷ 0 ∷ 0 ∷ 0 ∷ 80 ∷ 1 ∷ 2 ∷ 0 ∷ 15 ∷ []
-unfolding text_record record_of record_in written_in listed_form smallest_operation smallest_of smallest least_rank rank unrank ◌⊕◌ sort insert bytes_of item_bytes
-    symbol_answer outcome_of first_off listing is_small same_vector_class on_list keeps_of letter_among letter_of handedness_by handedness_of operation_of entry_of
+unfolding text_record record_of record_in written_in listed_form smallest_operation smallest_of smallest least_rank rank unrank ◌⊕◌ sort insert bytes_of
+    item_bytes
+    symbol_answer outcome_of first_off listing is_small same_vector_class on_list keeps_of letter_among letter_of handedness_by handedness_of operation_of
+    entry_of
     matrix_of vector_of motion_of digit_above digit_of inside row_inside all_inside code_of agrees steps_from steady_from place same_matrix fresh run
     closure keeps_points all same_triple has residue turned product times act plus opposite unit origin determinant nought ◌⊖◌ one whitespace solid allowed
     unclosed opening runs.run tokens_from letter_token lattice_token shifts.one_digit shifts.two_digits shifts.digits_of shifts.shift_number shifts.numbers_of
-    shifts.closed_shift shifted_coordinate shifted at_shift at_end operations read_symbol token-reader.read_run token-reader.letter_then token-reader.read_letter
+    shifts.closed_shift shifted_coordinate shifted at_shift at_end operations read_symbol token-reader.read_run token-reader.letter_then
+    token-reader.read_letter
     token-reader.mark_then token-reader.read_mark token-reader.fold_then token-reader.read_fold token-reader.read_token token-reader.moved_then
     token-reader.turn_then token-reader.axis_then token-reader.operation_of_parts token-reader.operation_token token-bytes.value_at token-bytes.fold_of
     token-bytes.mark_of token-bytes.letter_of token-bytes.run_byte_of token-bytes.passes token-runs.every token-axes.token_place token-matrices.turns

@@ -129,7 +129,8 @@ module _ (bytes : List ℕ) (b : Bytes bytes) (accepted : (read_of bytes).answer
       other = other_edition (read_of bytes).edition
 
       by-room : (r : Bool) → room_by other start (read_of bytes).count (length out) ≡ r → cond r (Written (read_of bytes).count) NoRoom ≡ Written n
-          → read_of (take (start + total_length (width_in other) n) (placed_in out start (group_bytes other (read_of bytes)))) ≡ in_edition other (read_of bytes)
+          → read_of (take (start + total_length (width_in other) n) (placed_in out start (group_bytes other (read_of bytes))))
+          ≡ in_edition other (read_of bytes)
       by-room true room w =
           let count : (read_of bytes).count ≡ n = cc in
           rw (← count, placed_end out start (total_length (width_in other) (read_of bytes).count) (group_bytes other (read_of bytes)) moved_length room)
@@ -137,7 +138,8 @@ module _ (bytes : List ℕ) (b : Bytes bytes) (accepted : (read_of bytes).answer
       by-room false room w = let z : ◌≡◌ {A = ℕ} 0 1 = cc in absurd (omega arith)
 
       by : (a : Reading) → a ≡ Accepted → copied_by a other (read_of bytes).count start (length out) ≡ Written n
-          → read_of (take (start + total_length (width_in other) n) (buffer_by a out start (group_bytes other (read_of bytes)))) ≡ in_edition other (read_of bytes)
+          → read_of (take (start + total_length (width_in other) n) (buffer_by a out start (group_bytes other (read_of bytes))))
+          ≡ in_edition other (read_of bytes)
       by Accepted p w = by-room (room_by other start (read_of bytes).count (length out)) refl w
       by (Refused r) p w = let z : ◌≡◌ {A = ℕ} 0 1 = cc in absurd (omega arith)
 

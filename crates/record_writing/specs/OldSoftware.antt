@@ -26,13 +26,15 @@ pub first-refused : (bytes : List ℕ) → Bytes bytes → (number place : ℕ)
     → (group_answer (read_first_of bytes) ≡ refused number place tt) ↔ ((place ≡ 0) × Refuses first_rules first_meaning bytes number)
 unfolding read_first_of
 first-refused bytes b number place = (
-  (λ e. (told-refused first_rules first_meaning bytes b number place).0 ((group-number (λ (k : Unit {0}). First) (told_by first_rules bytes) number place).0 e)),
+  (λ e. (told-refused first_rules first_meaning bytes b number place).0 ((group-number (λ (k : Unit {0}). First) (told_by first_rules bytes) number place).0
+      e)),
   λ h. (group-number (λ (k : Unit {0}). First) (told_by first_rules bytes) number place).1 ((told-refused first_rules first_meaning bytes b number place).1 h),
 )
 
 -- ---- a record of edition 3
 -- The edition's number stands four places before a record's end.
-record-number : (edition : Known) (front : List ℕ) (c : Centering) (l : List Operation) → from_end (front ++ record_by edition c l) 4 ≡ (edition_of edition).number
+record-number : (edition : Known) (front : List ℕ) (c : Centering) (l : List Operation) → from_end (front ++ record_by edition c l) 4
+    ≡ (edition_of edition).number
 unfolding record_by record_in written_in
 record-number edition front c l =
     let items = bytes_of (λ (f : Operation). (edition_of edition).write (item_of f)) (listed_form c l) in

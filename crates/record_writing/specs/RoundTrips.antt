@@ -49,7 +49,8 @@ module _ (c : Centering) {l : List Operation} (L : Listing l) (A : Allowed c (ma
       let (f, k, e) = mem-of-map motion_of l m in (
         motion_of (smallest_operation c f),
         mem-map motion_of (member-form c l k),
-        subst (λ b. Alike c b (motion_of (smallest_operation c f))) e (alike-symmetric c (motion_of (smallest_operation c f)) (motion_of f) (smallest-alike c f)),
+        subst (λ b. Alike c b (motion_of (smallest_operation c f))) e (alike-symmetric c (motion_of (smallest_operation c f)) (motion_of f)
+            (smallest-alike c f)),
       )
 
   out-of-form : (a : SpaceMotion) → Mem a (map motion_of (listed_form c l)) → (b : SpaceMotion) × Mem b (map motion_of l) × Alike c a b

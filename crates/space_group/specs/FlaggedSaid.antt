@@ -112,7 +112,8 @@ module _ (c : Centering) (gens : List (Flagged Operation)) (digits : AllDigits (
   growth-said =
       grown-equal (same_flagged same_turn) (same_flagged_class c) (flagged_times product_inside) (times_said flagged_number) 96 (held identity_operation) gens
       (λ g m a. times-said a g (digits g.element (mem-map (λ (g : Flagged Operation). g.element) m)))
-      ∙ ap (λ u. grown (same_flagged same_turn) (same_flagged_class c) (times_said flagged_number) 96 u gens) (sym unit-said) ∙ flagged-growth flagged_number c 96 gens
+      ∙ ap (λ u. grown (same_flagged same_turn) (same_flagged_class c) (times_said flagged_number) 96 u gens) (sym unit-said)
+      ∙ flagged-growth flagged_number c 96 gens
 
   -- and so what is answered of motions with flags.
   pub numbers-verdict : image_verdict flagged_said (on_growth (number_growth c 96 (map flagged_number gens)))

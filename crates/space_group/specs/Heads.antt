@@ -48,17 +48,34 @@ pub record Laid (c : Centering) (n : ℕ) (o : Outcome) (head : Head) (numbers s
 pub answer-laid : (c : Centering) (n : ℕ) (o : Outcome) (head : Head) (numbers steps : List ℕ) → Laid c n o head numbers steps
     → (operations : List Operation) → operations ≡ map said_by (take head.count numbers) ++ drop head.count (replicate 48 identity_operation)
     → ◌≡◌ {A = SpaceGroup}
-    (record { answer = head.answer; centering = head.centering; count = head.count; operations = operations; generators = head.generators; steps = steps }) (answer_of c n o)
+    (record { answer = head.answer; centering = head.centering; count = head.count; operations = operations; generators = head.generators; steps = steps })
+    (answer_of c n o)
 answer-laid c n (group listed places) head numbers steps L operations laid =
     let h = L.heads in
     let list : operations ≡ padded 48 identity_operation listed =
-    laid ∙ ap (λ l. l ++ drop head.count (replicate 48 identity_operation)) L.said ∙ front-padded head.count 48 identity_operation listed (ap (λ (h : Head). h.count) h) in
-    λ i. record { answer = (h i).answer; centering = (h i).centering; count = (h i).count; operations = list i; generators = (h i).generators; steps = L.noted i }
+    laid ∙ ap (λ l. l ++ drop head.count (replicate 48 identity_operation)) L.said
+    ∙ front-padded head.count 48 identity_operation listed (ap (λ (h : Head). h.count) h) in
+    λ i. record {
+      answer = (h i).answer;
+      centering = (h i).centering;
+      count = (h i).count;
+      operations = list i;
+      generators = (h i).generators;
+      steps = L.noted i;
+    }
 answer-laid c n (refused r) head numbers steps L operations laid =
     let h = L.heads in
     let list : operations ≡ padded 48 identity_operation [] =
-    laid ∙ ap (λ l. l ++ drop head.count (replicate 48 identity_operation)) L.said ∙ front-padded head.count 48 identity_operation [] (ap (λ (h : Head). h.count) h) in
-    λ i. record { answer = (h i).answer; centering = (h i).centering; count = (h i).count; operations = list i; generators = (h i).generators; steps = L.noted i }
+    laid ∙ ap (λ l. l ++ drop head.count (replicate 48 identity_operation)) L.said
+    ∙ front-padded head.count 48 identity_operation [] (ap (λ (h : Head). h.count) h) in
+    λ i. record {
+      answer = (h i).answer;
+      centering = (h i).centering;
+      count = (h i).count;
+      operations = list i;
+      generators = (h i).generators;
+      steps = L.noted i;
+    }
 
 -- ---- what is laid
 -- A refusal.
@@ -68,7 +85,8 @@ laid-refused c n o r e head h numbers steps noted = rw (e, h) (record { heads = 
 
 -- A group.
 pub laid-group : (c : Centering) (n : ℕ) (o : Outcome) (s : Growth ℕ) → o ≡ group (map said_by s.found) s.steps
-    → (ended : Ended) (before numbers noughts steps : List ℕ) → Holds s ended before numbers noughts steps → before ≡ replicate 48 unit_number → noughts ≡ replicate 432 0
+    → (ended : Ended) (before numbers noughts steps : List ℕ) → Holds s ended before numbers noughts steps → before ≡ replicate 48 unit_number → noughts
+    ≡ replicate 432 0
     → Laid c n o (record { answer = Group; centering = c; count = ended.count; generators = n }) numbers steps
 laid-group c n o s e ended before numbers noughts steps h slots clear =
     let count : ended.count ≡ length (map said_by s.found) = h.counted ∙ sym (length-map s.found said_by) in

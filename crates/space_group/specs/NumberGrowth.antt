@@ -168,7 +168,8 @@ inside-number answer.Outside n e = let z : ◌≡◌ {A = ℕ} 0 1 = cc in absur
 
 times-turns : (x p y : ℕ) → Turns x → number_times x y ≡ some p → Turns p
 times-turns x p y h e =
-    let told = inside-says (said_by x) (said_by y) ((flag_of x + flag_of y) % 2) p (omega arith) (inside-number (numbered (product_of (said_by x) (said_by y)) ((flag_of x + flag_of y) % 2)) p e) in
+    let told = inside-says (said_by x) (said_by y) ((flag_of x + flag_of y) % 2) p (omega arith)
+    (inside-number (numbered (product_of (said_by x) (said_by y)) ((flag_of x + flag_of y) % 2)) p e) in
     inside-digits (said_by x) (said_by y) (said_by p) told.0
 
 pub unit-said : flagged_said unit_number ≡ held identity_operation
@@ -176,7 +177,17 @@ unfolding flag_of
 unit-said = refl
 
 unit-turns : Turns unit_number
-unit-turns = record { xx = omega arith; xy = omega arith; xz = omega arith; yx = omega arith; yy = omega arith; yz = omega arith; zx = omega arith; zy = omega arith; zz = omega arith }
+unit-turns = record {
+  xx = omega arith;
+  xy = omega arith;
+  xz = omega arith;
+  yx = omega arith;
+  yy = omega arith;
+  yz = omega arith;
+  zx = omega arith;
+  zy = omega arith;
+  zz = omega arith;
+}
 
 -- ---- the growth of what they say
 -- Whether the translations of operations with flags are in one class modulo L.
@@ -188,29 +199,46 @@ module _ {H : Type 0} (tag : H → ℕ) where
   abbrev pub times_said : Flagged Operation → H → Option (Flagged Operation)
   times_said b h = flagged_times product_inside b (flagged_said (tag h))
 
-  numbers-image : (c : Centering) → Image same_sign (same_shift c) (same_flagged same_turn) (same_flagged_class c) number_times times_said flagged_said tag Turns
-  numbers-image c = record { same-image = sign-image; alike-image = λ x y h k. refl; product-image = λ x h _. times-image x (tag h); product-fine = times-turns }
+  numbers-image : (c : Centering) → Image same_sign (same_shift c) (same_flagged same_turn) (same_flagged_class c) number_times times_said flagged_said tag
+      Turns
+  numbers-image c = record {
+    same-image = sign-image;
+    alike-image = λ x y h k. refl;
+    product-image = λ x h _. times-image x (tag h);
+    product-fine = times-turns;
+  }
 
   -- What the numbers say grows as operations with flags do, under any limit.
   pub flagged-growth : (c : Centering) (limit : ℕ) (gens : List H)
-      → grown (same_flagged same_turn) (same_flagged_class c) times_said limit (flagged_said unit_number) gens ≡ Option.map (image_growth flagged_said) (number_growth c limit (map tag gens))
+      → grown (same_flagged same_turn) (same_flagged_class c) times_said limit (flagged_said unit_number) gens
+      ≡ Option.map (image_growth flagged_said) (number_growth c limit (map tag gens))
   unfolding number_growth
   flagged-growth c limit gens =
-      grown-image same_sign (same_shift c) (same_flagged same_turn) (same_flagged_class c) number_times times_said flagged_said tag Turns (numbers-image c) limit unit_number gens unit-turns
+      grown-image same_sign (same_shift c) (same_flagged same_turn) (same_flagged_class c) number_times times_said flagged_said tag Turns (numbers-image c)
+      limit unit_number gens unit-turns
 
   module _ (unflagged : (h : H) → flag_of (tag h) ≡ 0) where
     held-times : (x : Operation) (h : H) → times_said (held x) h ≡ Option.map held (product_inside x (said_by (tag h)))
     held-times x h = rw (unflagged h)
 
-    held-image : (c : Centering) → Image same_turn (same_class c) (same_flagged same_turn) (same_flagged_class c) product_inside times_said held (λ h. said_by (tag h)) (λ x. T true)
-    held-image c = record { same-image = λ x y _ _. refl; alike-image = λ x y _ _. refl; product-image = λ x h _. held-times x h; product-fine = λ x p g _ _. tt }
+    held-image : (c : Centering) → Image same_turn (same_class c) (same_flagged same_turn) (same_flagged_class c) product_inside times_said held
+        (λ h. said_by (tag h)) (λ x. T true)
+    held-image c = record {
+      same-image = λ x y _ _. refl;
+      alike-image = λ x y _ _. refl;
+      product-image = λ x h _. held-times x h;
+      product-fine = λ x p g _ _.
+          tt;
+    }
 
     -- Where all flags are 0, operations without flags grow so.
     held-growth : (c : Centering) (gens : List H)
-        → grown (same_flagged same_turn) (same_flagged_class c) times_said 48 (held identity_operation) gens ≡ Option.map (image_growth held) (growth c (map (λ h. said_by (tag h)) gens))
+        → grown (same_flagged same_turn) (same_flagged_class c) times_said 48 (held identity_operation) gens
+        ≡ Option.map (image_growth held) (growth c (map (λ h. said_by (tag h)) gens))
     unfolding growth
     held-growth c gens =
-        grown-image same_turn (same_class c) (same_flagged same_turn) (same_flagged_class c) product_inside times_said held (λ h. said_by (tag h)) (λ x. T true) (held-image c) 48 identity_operation gens tt
+        grown-image same_turn (same_class c) (same_flagged same_turn) (same_flagged_class c) product_inside times_said held (λ h. said_by (tag h))
+        (λ x. T true) (held-image c) 48 identity_operation gens tt
 
 -- The flags forgotten.
 elements-held : (l : List Operation) → map (λ (a : Flagged Operation). a.element) (map held l) ≡ l
@@ -268,7 +296,18 @@ unfoldable pub generator_number : Operation → ℕ
 generator_number g = packed_of (narrowed (reduced_operation g)) 0
 
 pub narrowed-narrow : (o : Operation) → Narrow (narrowed o).rotation
-narrowed-narrow o = record { xx = omega arith; xy = omega arith; xz = omega arith; yx = omega arith; yy = omega arith; yz = omega arith; zx = omega arith; zy = omega arith; zz = omega arith }
+narrowed-narrow o = record {
+  xx = omega arith;
+  xy = omega arith;
+  xz = omega arith;
+  yx = omega arith;
+  yy = omega arith;
+  yz = omega arith;
+  zx = omega arith;
+  zy =
+      omega arith;
+  zz = omega arith;
+}
 
 pub narrowed-short : (o : Operation) → Short (narrowed o).translation
 narrowed-short o = record { x = omega arith; y = omega arith; z = omega arith }
@@ -295,7 +334,8 @@ generator-says g d =
     narrowed-same =
         let r = g.rotation in
         let t = g.translation in
-        let rotation = rotation≡ {r = (narrowed (reduced_operation g)).rotation} {s = r} (kept _ d.xx) (kept _ d.xy) (kept _ d.xz) (kept _ d.yx) (kept _ d.yy) (kept _ d.yz) (kept _ d.zx) (kept _ d.zy) (kept _ d.zz) in
+        let rotation = rotation≡ {r = (narrowed (reduced_operation g)).rotation} {s = r} (kept _ d.xx) (kept _ d.xy) (kept _ d.xz) (kept _ d.yx) (kept _ d.yy)
+        (kept _ d.yz) (kept _ d.zx) (kept _ d.zy) (kept _ d.zz) in
         λ i. record { rotation = rotation i; translation = record { x = short t.x i; y = short t.y i; z = short t.z i } }
 
 -- A product does not change where the translation of its right factor goes modulo 12.
@@ -314,7 +354,8 @@ reduced-right f g =
     let v = vector_of (reduced_operation g).translation in
     let t = vector_of f.translation in
     operation≡ (compose (motion_of f) (motion_of g)) (compose (motion_of f) (motion_of (reduced_operation g))) refl
-    (reduced-plus (act R u) t ∙ ap (λ w. w ⊕ reduced t) (reduced-act R u ∙ ap (turned R) (reduced-vector g.translation) ∙ sym (reduced-act R v)) ∙ sym (reduced-plus (act R v) t))
+    (reduced-plus (act R u) t ∙ ap (λ w. w ⊕ reduced t) (reduced-act R u ∙ ap (turned R) (reduced-vector g.translation) ∙ sym (reduced-act R v))
+    ∙ sym (reduced-plus (act R v) t))
 
 pub reduced-times : (f g : Operation) → product_inside f g ≡ product_inside f (reduced_operation g)
 unfolding product_of product motion_of
@@ -326,11 +367,13 @@ unfolding growth
 growth-same c gens other h = grown-same same_turn (same_class c) product_inside 48 identity_operation other gens h
 
 -- ---- the growth of operations, by numbers
-pub growth-numbers : (c : Centering) (gens : List Operation) → AllDigits gens → growth c gens ≡ Option.map (image_growth said_by) (number_growth c 48 (map generator_number gens))
+pub growth-numbers : (c : Centering) (gens : List Operation) → AllDigits gens → growth c gens
+    ≡ Option.map (image_growth said_by) (number_growth c 48 (map generator_number gens))
 growth-numbers c gens digits =
     whole ∙
     unheld (growth c (map (λ g. said_by (generator_number g)) gens)) (number_growth c 48 (map generator_number gens))
-    (sym (held-growth generator_number generator-flag c gens) ∙ ap (λ u. grown (same_flagged same_turn) (same_flagged_class c) (times_said generator_number) 48 u gens) (sym unit-said) ∙ flagged-growth generator_number c 48 gens)
+    (sym (held-growth generator_number generator-flag c gens) ∙ ap (λ u. grown (same_flagged same_turn) (same_flagged_class c) (times_said generator_number) 48
+    u gens) (sym unit-said) ∙ flagged-growth generator_number c 48 gens)
   where
     equal : (g : Operation) → Mem g gens → (f : Operation) → product_inside f g ≡ product_inside f (said_by (generator_number g))
     equal g m f = reduced-times f g ∙ ap (product_inside f) (sym (generator-says g (digits g m)))

@@ -90,7 +90,8 @@ pub record Shows (s : Growth ℕ) (count : ℕ) (steady : Bool) (made : ℕ) (be
   pub noted : steps ≡ s.steps ++ drop (length s.steps) noughts
 
 -- Slots at the start.
-pub shows-start : (before noughts : List ℕ) → 1 ≤ length before → get_or before 0 0 ≡ unit_number → Shows (seed unit_number) 1 true 0 before before noughts noughts
+pub shows-start : (before noughts : List ℕ) → 1 ≤ length before → get_or before 0 0 ≡ unit_number
+    → Shows (seed unit_number) 1 true 0 before before noughts noughts
 shows-start [] noughts h e = absurd (omega arith)
 shows-start (b ∷ before) noughts h e = record { counted = refl; agreeing = refl; numbered = refl; listed = ap (λ n. n ∷ before) e; noted = refl }
 
@@ -98,7 +99,8 @@ pub hints-start : Hinted (map sign_of (unit_number ∷ [])) (set (replicate 151 
 unfolding sign_of key_of row_digits flag_of
 hints-start = hint-start (sign_of unit_number) (replicate 151 0) refl
 
-module _ (c : Centering) (s : Growth ℕ) (count : ℕ) (steady : Bool) (made : ℕ) (before numbers noughts steps : List ℕ) (S : Shows s count steady made before numbers noughts steps) where
+module _ (c : Centering) (s : Growth ℕ) (count : ℕ) (steady : Bool) (made : ℕ) (before numbers noughts steps : List ℕ)
+    (S : Shows s count steady made before numbers noughts steps) where
   -- The number in a slot.
   pub shows-at : (i d e : ℕ) → i < count → get_or numbers i d ≡ get_or s.found i e
   shows-at i d e h = ap (λ l. get_or l i d) S.listed ∙ front_at s.found before i d e (omega (arith, S.counted))
@@ -112,7 +114,8 @@ module _ (c : Centering) (s : Growth ℕ) (count : ℕ) (steady : Bool) (made : 
   shows-place p sign e = rw (shows-front, e) (sym (place-key sign_of p s.found))
 
   -- One more hint.
-  pub shows-hint : (hints : List ℕ) → Hinted (map sign_of s.found) hints → length hints ≡ 151 → (p sign : ℕ) → sign ≡ sign_of p → count ≤ place same_sign p s.found
+  pub shows-hint : (hints : List ℕ) → Hinted (map sign_of s.found) hints → length hints ≡ 151 → (p sign : ℕ) → sign ≡ sign_of p
+      → count ≤ place same_sign p s.found
       → (v : ℕ) → 0 < v → Hinted (map sign_of (s.found ++ p ∷ [])) (set hints (sign % 151) v)
   shows-hint hints H long p sign e new v h =
       let low = place-le same_sign p s.found in
@@ -130,14 +133,16 @@ module _ (c : Centering) (s : Growth ℕ) (count : ℕ) (steady : Bool) (made : 
 
     -- A product that is listed.
     pub shows-again : (d : ℕ) → place same_sign p s.found < count
-        → Shows (recurring same_sign (same_shift c) p s) count (steady && same_shift c p (get_or numbers (place same_sign p s.found) d)) (made + 1) before numbers noughts (set steps made (place same_sign p s.found))
+        → Shows (recurring same_sign (same_shift c) p s) count (steady && same_shift c p (get_or numbers (place same_sign p s.found) d)) (made + 1) before
+        numbers noughts (set steps made (place same_sign p s.found))
     shows-again d h =
         let k = place same_sign p s.found in
         record { counted = S.counted; agreeing = rw (S.agreeing, shows-at k d p h); numbered = one_more k; listed = S.listed; noted = one-noted k }
 
     -- One that is new.
     pub shows-new : count < length before
-        → Shows (lengthened same_sign (same_shift c) p s) (count + 1) steady (made + 1) before (set numbers count p) noughts (set steps made (place same_sign p s.found))
+        → Shows (lengthened same_sign (same_shift c) p s) (count + 1) steady (made + 1) before (set numbers count p) noughts
+        (set steps made (place same_sign p s.found))
     shows-new h =
         let k = place same_sign p s.found in
         record {
@@ -149,8 +154,16 @@ module _ (c : Centering) (s : Growth ℕ) (count : ℕ) (steady : Bool) (made : 
         }
 
   -- At the end.
-  pub shows-end : (o : Option (Growth ℕ)) → o ≡ some s → count ≤ length before → Ends o (record { within = true; steady = steady; count = count }) before numbers noughts steps
-  shows-end o e h = rw e (record { within = refl; steady = S.agreeing; counted = S.counted; few = omega (arith, S.counted); listed = S.listed; noted = S.noted })
+  pub shows-end : (o : Option (Growth ℕ)) → o ≡ some s → count ≤ length before
+      → Ends o (record { within = true; steady = steady; count = count }) before numbers noughts steps
+  shows-end o e h = rw e (record {
+    within = refl;
+    steady = S.agreeing;
+    counted = S.counted;
+    few = omega (arith, S.counted);
+    listed = S.listed;
+    noted = S.noted;
+  })
 
 -- It does not end.
 pub ends-none : (o : Option (Growth ℕ)) (steady : Bool) (count : ℕ) (before numbers noughts steps : List ℕ) → o ≡ none
@@ -177,6 +190,7 @@ module _ (o : Option (Growth ℕ)) (ended : Ended) (before numbers noughts steps
       by_answer (some s) e h = (s, e, h)
 
 -- The numbers in front are the list.
-pub held-front : (s : Growth ℕ) (ended : Ended) (before numbers noughts steps : List ℕ) → Holds s ended before numbers noughts steps → take ended.count numbers ≡ s.found
+pub held-front : (s : Growth ℕ) (ended : Ended) (before numbers noughts steps : List ℕ) → Holds s ended before numbers noughts steps → take ended.count numbers
+    ≡ s.found
 held-front s ended before numbers noughts steps h =
     ap (take ended.count) h.listed ∙ take_at s.found (drop (length s.found) before) ended.count (sym h.counted)

@@ -77,7 +77,8 @@ pub class-image : (c : Centering) (f g : SpaceMotion) → same_vector_class c f 
 unfolding same_vector_class congruent_of
 class-image c f g =
     ap (λ t. has same_triple t (points_of c))
-    (same-difference f.translation g.translation (vector_of (operation_of f).translation) (vector_of (operation_of g).translation) (sym (operation-translation f)) (sym (operation-translation g)))
+    (same-difference f.translation g.translation (vector_of (operation_of f).translation) (vector_of (operation_of g).translation)
+    (sym (operation-translation f)) (sym (operation-translation g)))
 
 -- ---- products
 -- An operation is determined by the rotation and the residues of the translation.
@@ -93,7 +94,8 @@ times-operation f g e = ap (λ A. times A g.rotation) (operation-rotation f e)
 moved-operation : (f g : SpaceMotion) → Small f → reduced (compose (motion_of (operation_of f)) g).translation ≡ reduced (compose f g).translation
 unfolding product motion_of
 moved-operation f g e =
-    rw (operation-rotation f e) (reduced-plus (act f.rotation g.translation) (vector_of (operation_of f).translation) ∙ ap (λ t. reduced (act f.rotation g.translation) ⊕ t) (operation-translation f) ∙ sym (reduced-plus (act f.rotation g.translation) f.translation))
+    rw (operation-rotation f e) (reduced-plus (act f.rotation g.translation) (vector_of (operation_of f).translation)
+    ∙ ap (λ t. reduced (act f.rotation g.translation) ⊕ t) (operation-translation f) ∙ sym (reduced-plus (act f.rotation g.translation) f.translation))
 
 pub compose-operation : (f g : SpaceMotion) → Small f → operation_of (compose (motion_of (operation_of f)) g) ≡ operation_of (compose f g)
 compose-operation f g e =
@@ -106,7 +108,8 @@ unfolding product_of allowed is_small
 product-image c f h e =
     rw (compose-operation f (motion_of h) e, times-operation f (motion_of h) e) (by-test (all_inside (compose f (motion_of h)).rotation))
   where
-    by-test : (b : Bool) → inside_of (cond b (Inside (operation_of (compose f (motion_of h)))) Outside) ≡ map operation_of (cond b (some (compose f (motion_of h))) none)
+    by-test : (b : Bool) → inside_of (cond b (Inside (operation_of (compose f (motion_of h)))) Outside)
+        ≡ map operation_of (cond b (some (compose f (motion_of h))) none)
     by-test true = refl
     by-test false = refl
 
@@ -141,7 +144,8 @@ pub operation-alike : (c : Centering) (f : SpaceMotion) → Small f → Alike (p
 unfolding motion_of
 operation-alike c f e = (
   sym (operation-rotation f e),
-  rw (same-difference f.translation (vector_of (operation_of f).translation) f.translation f.translation refl (operation-translation f)) (congruent-reflexive (points_of c) (points c) f.translation),
+  rw (same-difference f.translation (vector_of (operation_of f).translation) f.translation f.translation refl (operation-translation f))
+      (congruent-reflexive (points_of c) (points c) f.translation),
 )
 
 -- ---- what grows
@@ -189,6 +193,8 @@ unfolding product
 rotation-congruence gens f g h _ _ _ t = rotation-same (compose f h) (compose g h) (ap (λ A. times A h.rotation) (same-rotation f g t))
 
 -- The growth of the operations answers what is answered of the motions.
-pub growth-answers : (c : Centering) (gens : List Operation) → image_verdict operation_of (verdict (motion_growth c) 48 (motions gens)) ≡ on_growth (growth c gens)
+pub growth-answers : (c : Centering) (gens : List Operation) → image_verdict operation_of (verdict (motion_growth c) 48 (motions gens))
+    ≡ on_growth (growth c gens)
 unfolding growth
-growth-answers c gens = rw (← (identity-operation c)) (growth-verdict (motion_growth c) (operation_forms c) 48 (omega arith) gens (rotation-congruence (motions gens)))
+growth-answers c gens = rw (← (identity-operation c)) (growth-verdict (motion_growth c) (operation_forms c) 48 (omega arith) gens
+    (rotation-congruence (motions gens)))

@@ -107,7 +107,8 @@ module _ (c : Centering) where
           rw p at ((kept-onto j k).0 (off-before gens j (omega arith)))),
       λ keep. elim (dec_lt (first_off c gens) (length gens)) [
         | no h ↦ omega arith
-        | yes h ↦ absurd (false≢true (sym (off_at gens h) ∙ (kept-onto (first_off c gens) h).1 (keep _ (member-at gens (first_off c gens) identity_operation h))))
+        | yes h ↦ absurd (false≢true (sym (off_at gens h) ∙ (kept-onto (first_off c gens) h).1
+            (keep _ (member-at gens (first_off c gens) identity_operation h))))
       ],
     )
 

@@ -34,7 +34,8 @@ module _ (n : ℕ) (t : List ℕ) (e : ℕ) where
     pub conjugates : (h : ℕ) → Subgroup n (product n t) e h → (l : List Witnessed) → ClassConjugates n (product n t) e (members n h) l
         → (keys l ≡ map (members n) (conjugates_of n (product n t) e h)) × (map (λ (w : Witnessed). w.conjugator) l ≡ conjugators_of n (product n t) e h)
     -- its normalizer is ours, with our permutations
-    pub normalizer : (h : ℕ) → Subgroup n (product n t) e h → normalizer_indices n (product n t) e (members n h) n ≡ members n (normalizer_of n (product n t) e h)
+    pub normalizer : (h : ℕ) → Subgroup n (product n t) e h → normalizer_indices n (product n t) e (members n h) n
+        ≡ members n (normalizer_of n (product n t) e h)
     pub permutations : (h : ℕ) → Subgroup n (product n t) e h
         → normalizer_permutations n (product n t) e (members n h) n ≡ map (permutation_of n (product n t) e h) (members n (normalizer_of n (product n t) e h))
 

@@ -103,7 +103,8 @@ module _ (n : ℕ) (◌·◌ : ℕ → ℕ → ℕ) (e : ℕ) where
         (r, F.conjugator, (representatives r).1 R.chosen, F.below, F.conjugate)
 
     -- and to no other: conjugate representatives are equal
-    pub one-representative : (r s g : ℕ) → Mem r (representatives_of n ◌·◌ e) → Mem s (representatives_of n ◌·◌ e) → g < n → r ≡ conjugate_of n ◌·◌ e s g → r ≡ s
+    pub one-representative : (r s g : ℕ) → Mem r (representatives_of n ◌·◌ e) → Mem s (representatives_of n ◌·◌ e) → g < n → r ≡ conjugate_of n ◌·◌ e s g → r
+        ≡ s
     one-representative r s g m k h q = elim (ℕ_discrete r s) [
       | yes p ↦ p
       | no p ↦ elim (precedes-total r s p) [

@@ -65,7 +65,8 @@ module _ (n : ℕ) (◌·◌ : ℕ → ℕ → ℕ) (e s g : ℕ) where
       let long : length (map (position_of n ◌·◌ e s g) (members x s)) ≡ ones_in x s = length-map (members x s) (position_of n ◌·◌ e s g) ∙ members-length x s in
       let more : ones_in (x + 1) s ≡ suc (ones_in x s) = ones-in x m in
       ap (λ (l : List ℕ). set (map (position_of n ◌·◌ e s g) (members x s) ++ l) (ones_in x s) (position_of n ◌·◌ e s g x)) (drop-cons b (ones_in x s) 0 h)
-      ∙ set_at (map (position_of n ◌·◌ e s g) (members x s)) (get_or b (ones_in x s) 0) (drop (suc (ones_in x s)) b) (position_of n ◌·◌ e s g x) (ones_in x s) long
+      ∙ set_at (map (position_of n ◌·◌ e s g) (members x s)) (get_or b (ones_in x s) 0) (drop (suc (ones_in x s)) b) (position_of n ◌·◌ e s g x) (ones_in x s)
+      long
       ∙ sym (append_assoc (map (position_of n ◌·◌ e s g) (members x s)) (position_of n ◌·◌ e s g x ∷ []) (drop (suc (ones_in x s)) b))
       ∙ ap₂ (λ (l : List ℕ) (i : ℕ). l ++ drop i b)
       (sym (ap (map (position_of n ◌·◌ e s g)) (members-in x s m) ∙ map-append (position_of n ◌·◌ e s g) (members x s) (x ∷ []))) (sym more)

@@ -148,7 +148,8 @@ module _ (n : ℕ) (◌·◌ : ℕ → ℕ → ℕ) (e : ℕ) (G : Group n ◌·
         (subst (λ (s : ℕ). member s (conjugate_element n ◌·◌ e x g) ≡ true) ((normalizer-member n ◌·◌ e h G H g l).0 m) held))
 
     -- those by the elements below k
-    permutations-below : (k : ℕ) → k ≤ n → normalizer_permutations n ◌·◌ e (members n h) k ≡ map (permutation_of n ◌·◌ e h) (members k (normalizer_of n ◌·◌ e h))
+    permutations-below : (k : ℕ) → k ≤ n → normalizer_permutations n ◌·◌ e (members n h) k
+        ≡ map (permutation_of n ◌·◌ e h) (members k (normalizer_of n ◌·◌ e h))
     unfolding normalizer_permutations members
     permutations-below zero l = refl
     permutations-below (suc k) l =

@@ -63,7 +63,8 @@ outcome-told : (c : Centering) (n : ℕ) (o : Outcome) → symbol_by (answer_of 
 outcome-told c n (group operations steps) = refl
 outcome-told c n (refused r) = refl
 
-pub group-told : (c : Centering) (gens : List Operation) (g : SpaceGroup) → g ≡ group_answer c gens → symbol_by g ≡ outcome_answer c (length gens) (outcome_of c gens)
+pub group-told : (c : Centering) (gens : List Operation) (g : SpaceGroup) → g ≡ group_answer c gens → symbol_by g
+    ≡ outcome_answer c (length gens) (outcome_of c gens)
 unfolding group_answer
 group-told c gens g e = ap symbol_by e ∙ outcome-told c (length gens) (outcome_of c gens)
 
@@ -87,7 +88,8 @@ laid head g =
 
 -- No generators make the identity alone.
 no-generators : outcome_of P [] ≡ group (identity_operation ∷ []) []
-unfolding outcome_of first_off listing is_small same_vector_class on_list operation_of motion_of matrix_of vector_of entry_of digit_above digit_of inside row_inside all_inside
+unfolding outcome_of first_off listing is_small same_vector_class on_list operation_of motion_of matrix_of vector_of entry_of digit_above digit_of inside
+    row_inside all_inside
     agrees steps_from steady_from place same_matrix fresh run closure all residue unit origin nought one
 no-generators = refl
 

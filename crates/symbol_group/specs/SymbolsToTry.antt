@@ -109,5 +109,16 @@ cases =
 
 -- The definitions answer what the rules say.
 pub symbols-to-try : map (λ c. told c.symbol) cases ≡ map (λ c. c.answer) cases
-unfolding told symbol_answer outcome_of first_off listing is_small same_vector_class on_list keeps_of letter_among letter_of handedness_by handedness_of operation_of entry_of matrix_of vector_of motion_of digit_above digit_of inside row_inside all_inside code_of agrees steps_from steady_from place same_matrix fresh run closure keeps_points all same_triple has residue turned product times act plus opposite unit origin determinant nought ◌⊖◌ one whitespace solid allowed unclosed opening runs.run tokens_from letter_token lattice_token shifts.one_digit shifts.two_digits shifts.digits_of shifts.shift_number shifts.numbers_of shifts.closed_shift shifted_coordinate shifted at_shift at_end operations read_symbol token-reader.read_run token-reader.letter_then token-reader.read_letter token-reader.mark_then token-reader.read_mark token-reader.fold_then token-reader.read_fold token-reader.read_token token-reader.moved_then token-reader.turn_then token-reader.axis_then token-reader.operation_of_parts token-reader.operation_token token-bytes.value_at token-bytes.fold_of token-bytes.mark_of token-bytes.letter_of token-bytes.run_byte_of token-bytes.passes token-runs.every token-axes.token_place token-matrices.turns token-matrices.is_for token-matrices.turn_among token-matrices.turn_of token-matrices.signed token-translations.screw_right token-translations.front_right token-translations.digits_right token-translations.sum_x token-translations.sum_y token-translations.sum_z token-translations.rise token-translations.translation_of token-translations.moved_by token-offsets.passing token-offsets.wrong_digit_at token-letters.occurs token-letters.repeats token-letters.repeat_from token-reader.once_then
+unfolding told symbol_answer outcome_of first_off listing is_small same_vector_class on_list keeps_of letter_among letter_of handedness_by handedness_of
+    operation_of entry_of matrix_of vector_of motion_of digit_above digit_of inside row_inside all_inside code_of agrees steps_from steady_from place
+    same_matrix fresh run closure keeps_points all same_triple has residue turned product times act plus opposite unit origin determinant nought ◌⊖◌ one
+    whitespace solid allowed unclosed opening runs.run tokens_from letter_token lattice_token shifts.one_digit shifts.two_digits shifts.digits_of
+    shifts.shift_number shifts.numbers_of shifts.closed_shift shifted_coordinate shifted at_shift at_end operations read_symbol token-reader.read_run
+    token-reader.letter_then token-reader.read_letter token-reader.mark_then token-reader.read_mark token-reader.fold_then token-reader.read_fold
+    token-reader.read_token token-reader.moved_then token-reader.turn_then token-reader.axis_then token-reader.operation_of_parts token-reader.operation_token
+    token-bytes.value_at token-bytes.fold_of token-bytes.mark_of token-bytes.letter_of token-bytes.run_byte_of token-bytes.passes token-runs.every
+    token-axes.token_place token-matrices.turns token-matrices.is_for token-matrices.turn_among token-matrices.turn_of token-matrices.signed
+    token-translations.screw_right token-translations.front_right token-translations.digits_right token-translations.sum_x token-translations.sum_y
+    token-translations.sum_z token-translations.rise token-translations.translation_of token-translations.moved_by token-offsets.passing
+    token-offsets.wrong_digit_at token-letters.occurs token-letters.repeats token-letters.repeat_from token-reader.once_then
 symbols-to-try = refl

@@ -240,7 +240,13 @@ module _ (count : ℕ) (slots : List Operation) (fits : count ≤ length slots) 
       × (get_or operations i identity_operation ≡ o))
   operation-given Group o = elim (dec_lt i count) [
     | yes h ↦ rw (lt-ltb i count h) (
-      (λ e. let z : get_or slots i identity_operation ≡ o = cc in (take count slots, refl, omega (arith, long), get_or-take count slots i identity_operation h ∙ z)),
+      (λ e. let z : get_or slots i identity_operation ≡ o = cc in (
+        take count slots,
+        refl,
+        omega (arith, long),
+        get_or-take count slots i identity_operation h
+            ∙ z,
+      )),
       λ (operations, e, _, p).
           let z : take count slots ≡ operations = cc in
           ap answer.given (sym (get_or-take count slots i identity_operation h) ∙ ap (λ l. get_or l i identity_operation) z ∙ p),

@@ -131,7 +131,8 @@ module _ (n : ℕ) (t : List ℕ) (ask : ℕ → Question) (a b c d : ℕ → Bo
         filled (ask e).value e T (full e) (F e T D.subgroup D.element (D.normalizes D.subgroup D.element) D.room)
 
     lists : {check : _} → Verdict n t check
-        → Left n t width list came (table_answer (on_group check on_element)) (on_bytes check came (λ e. bytes_by_tests (a e) (b e) (c e) (d e) came zeros (full e)))
+        → Left n t width list came (table_answer (on_group check on_element)) (on_bytes check came
+        (λ e. bytes_by_tests (a e) (b e) (c e) (d e) came zeros (full e)))
     unfolding number_of place_of
     lists (order-refused h) = untouched 21 0 (λ z. omega arith)
     lists (cells-refused h k none) = untouched 22 0 (λ z. omega arith)

@@ -36,5 +36,6 @@ packed_generator s i = cond (ltb i 9) (packed_operation (get_or s.generators i n
 pub packed-symbol : (s : HallSymbol) (b : ℕ) → s.answer ≡ Symbol → b ≡ byte_of s.centering → b * 256 + s.count % 256 ≡ packed_answer s
 packed-symbol s b e f = rw (e, f)
 
-pub packed-refused : (s : HallSymbol) (r : Refusal) (n p : ℕ) → s.answer ≡ Refused r → n ≡ number_of r → p ≡ place_of r → n * 65536 + p % 65536 ≡ packed_answer s
+pub packed-refused : (s : HallSymbol) (r : Refusal) (n p : ℕ) → s.answer ≡ Refused r → n ≡ number_of r → p ≡ place_of r → n * 65536 + p % 65536
+    ≡ packed_answer s
 packed-refused s r n p e f g = rw (e, f, g)

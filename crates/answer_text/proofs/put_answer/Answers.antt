@@ -9,8 +9,12 @@ pub put_group-requires : goal.put_group-requires
 put_group-requires c =
     let n = c.in-Written.n in
     let (group, count) = told-written c.args.line.now c.write_record-written.result c.write_record-written.ensures.0 n c.in-Written.is in
-    let few = group-few c.args.line.now group n c.write_record-written.new.out count c.write_record-written.ensures.1 in
-    (few, omega (arith, c.write_record-written.auto.out), group-plain c.args.line.now group n c.write_record-written.new.out count c.write_record-written.ensures.1, omega (arith, c.requires))
+    let few = group-few c.args.line.now group n c.write_record-written.new.out count c.write_record-written.ensures.1 in (
+      few,
+      omega (arith, c.write_record-written.auto.out),
+      group-plain c.args.line.now group n c.write_record-written.new.out count c.write_record-written.ensures.1,
+      omega (arith, c.requires),
+    )
 
 pub put_refusal-requires : goal.put_refusal-requires
 put_refusal-requires c =

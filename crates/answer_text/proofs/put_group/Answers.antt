@@ -14,8 +14,18 @@ put_number-first-requires c = (omega arith, simp length-set (omega arith))
 
 pub put_operations-requires : goal.put_operations-requires
 put_operations-requires c =
-    let short = number-word-short c.args.n newline (omega (arith, c.requires.0)) in
-    (c.requires.0, omega (arith, c.requires.1), c.requires.2, omega (arith, c.requires.3, c.requires.0, c.put_number-first.ensures.place, simp length-set at c.put_number-first.auto.out))
+    let short = number-word-short c.args.n newline (omega (arith, c.requires.0)) in (
+      c.requires.0,
+      omega (arith, c.requires.1),
+      c.requires.2,
+      omega (
+        arith,
+        c.requires.3,
+        c.requires.0,
+        c.put_number-first.ensures.place,
+        simp length-set at c.put_number-first.auto.out,
+      ),
+    )
 
 pub shape_of-out : goal.shape_of-out
 shape_of-out c = omega (arith, c.put_operations.auto.out, simp length-set at c.put_number-first.auto.out)

@@ -18,7 +18,8 @@ loop-i-init c =
 pub bounds-state-i : goal.bounds-state-i
 bounds-state-i c =
     let places : length c.args.catalogue.bytes ≡ 80 = search rules in
-    let same = put-length (set c.args.state.now 0 c.args.catalogue.status) c.args.catalogue.bytes c.loop-i.state c.loop-i.i c.loop-i.invariant.1 places c.loop-i.invariant.0 c.loop-i.invariant.2 in
+    let same = put-length (set c.args.state.now 0 c.args.catalogue.status) c.args.catalogue.bytes c.loop-i.state c.loop-i.i c.loop-i.invariant.1 places
+    c.loop-i.invariant.0 c.loop-i.invariant.2 in
     omega (arith, c.loop-i.invariant.1)
 
 pub loop-i-preserved : goal.loop-i-preserved
@@ -33,7 +34,8 @@ loop-i-preserved c =
 pub shape_of-state : goal.shape_of-state
 shape_of-state c =
     let places : length c.args.catalogue.bytes ≡ 80 = search rules in
-    put-length (set c.args.state.now 0 c.args.catalogue.status) c.args.catalogue.bytes c.loop-i.state c.loop-i.i c.loop-i.invariant.1 places c.loop-i.invariant.0 c.loop-i.invariant.2
+    put-length (set c.args.state.now 0 c.args.catalogue.status) c.args.catalogue.bytes c.loop-i.state c.loop-i.i c.loop-i.invariant.1 places
+    c.loop-i.invariant.0 c.loop-i.invariant.2
     ∙ simp length-set
 
 pub returns : goal.returns

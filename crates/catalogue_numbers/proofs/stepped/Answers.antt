@@ -23,7 +23,8 @@ answered-requires c =
     let out = c.args.out.now in
     let ends = c.args.ends in
     let found = c.catalogue_in-before.ensures in
-    let step : c.taken-step.result ≡ step_of ends (catalogue_in state) piece out = c.taken-step.ensures.0 ∙ ap (λ (k : Catalogue). step_of ends k piece out) found in
+    let step : c.taken-step.result ≡ step_of ends (catalogue_in state) piece out = c.taken-step.ensures.0
+    ∙ ap (λ (k : Catalogue). step_of ends k piece out) found in
     subst (λ (t : Step). Tellable t.answer) (sym step) (step-short ends (catalogue_in state) piece out)
 
 pub returns : goal.returns
@@ -34,7 +35,8 @@ returns c =
     let ends = c.args.ends in
     let found = c.catalogue_in-before.ensures in
     let enough = le-ltb (length state) 81 c.if-state-lt81.false in
-    let step : c.taken-step.result ≡ step_of ends (catalogue_in state) piece out = c.taken-step.ensures.0 ∙ ap (λ (k : Catalogue). step_of ends k piece out) found in (
+    let step : c.taken-step.result ≡ step_of ends (catalogue_in state) piece out = c.taken-step.ensures.0
+    ∙ ap (λ (k : Catalogue). step_of ends k piece out) found in (
       rw enough (c.answered.ensures ∙ ap (λ (t : Step). packed (mapped step_number (catalogue_answer t.answer))) step),
       rw enough (c.put_back.ensures ∙ ap (λ (t : Step). put_back t.catalogue state) step),
       rw enough (c.taken-step.ensures.1 ∙ ap (λ (k : Catalogue). room_of ends k piece out) found),

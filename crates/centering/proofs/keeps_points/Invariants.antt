@@ -11,7 +11,8 @@ use Rattle.centering.proofs.keeps_points.Given as goal
 
 abbrev pub invariant-loop-i : goal.invariant-loop-i
 invariant-loop-i l =
-    (l.i ≤ length (points_of l.c)) × (l.count ≡ length (points_of l.c)) × (all (stays_in l.c l.r) (drop l.i (points_of l.c)) ≡ keeps_points (points_of l.c) (matrix_of l.r))
+    (l.i ≤ length (points_of l.c)) × (l.count ≡ length (points_of l.c))
+    × (all (stays_in l.c l.r) (drop l.i (points_of l.c)) ≡ keeps_points (points_of l.c) (matrix_of l.r))
 
 abbrev pub decreases-loop-i : goal.decreases-loop-i
 decreases-loop-i l = l.count - l.i

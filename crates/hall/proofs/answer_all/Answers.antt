@@ -15,5 +15,6 @@ pub returns-then-end : goal.returns-then-end
 returns-then-end g c = λ written.
     let between = g.W.Write.contents c.read_all-end.new.out in
     let new = g.W.Write.contents c.write_text-written.new.out in
-    let last = subst (Appends between new) (room-text c.last_text.result (texts_of (last_line (held c.read_all-end.result.kept))) c.last_text.ensures) (c.write_text-written.ensures written) in
+    let last = subst (Appends between new) (room-text c.last_text.result (texts_of (last_line (held c.read_all-end.result.kept))) c.last_text.ensures)
+    (c.write_text-written.ensures written) in
     all-written _ _ between new (held c.read_all-end.result.kept) (c.read_all-end.ensures c.if-end.true) last

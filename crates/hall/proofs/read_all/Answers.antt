@@ -10,7 +10,8 @@ pub returns-then-not-step : goal.returns-then-not-step
 returns-then-not-step g c = λ whole.
     let (before, first) = c.loop.invariant in
     let (piece, second) = c.read_some-step.ensures.moved whole in
-    moved-whole _ _ _ _ _ _ (moved-on _ _ _ _ _ _ _ _ _ before piece first second) (c.read_some-step.ensures.end whole (not-true c.read_some-step.result.more c.if-not-step.true))
+    moved-whole _ _ _ _ _ _ (moved-on _ _ _ _ _ _ _ _ _ before piece first second) (c.read_some-step.ensures.end whole
+    (not-true c.read_some-step.result.more c.if-not-step.true))
 
 pub loop-preserved : goal.loop-preserved
 loop-preserved g c =

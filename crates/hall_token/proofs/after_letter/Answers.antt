@@ -28,7 +28,12 @@ returns-then-not-spelt c =
 pub returns-then-not-unprimed : goal.returns-then-not-unprimed
 unfolding read_run operation_of_parts axis_then turn_then moved_then once_then
 returns-then-not-unprimed c =
-    rw (← c.spelt.ensures, not-false c.spelt.result (not_from_true _ c.if-not-spelt.false), ← c.unprimed.ensures, not-true c.unprimed.result (not_from_false _ c.if-not-unprimed.true))
+    rw (
+      ← c.spelt.ensures,
+      not-false c.spelt.result (not_from_true _ c.if-not-spelt.false),
+      ← c.unprimed.ensures,
+      not-true c.unprimed.result (not_from_false _ c.if-not-unprimed.true),
+    )
 
 pub returns-in_default : goal.returns-in_default
 unfolding read_run operation_of_parts axis_then turn_then moved_then once_then

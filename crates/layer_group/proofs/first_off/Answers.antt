@@ -13,9 +13,11 @@ use Rattle.layer_group.proofs.first_off.Goals as goal
 
 pub loop-i-preserved : goal.loop-i-preserved
 loop-i-preserved c =
+    -- As many generators as are tested.
     let gens-long : (length c.args.operations ≡ 48) × (length (take c.args.n c.args.operations) ≡ c.args.n) =
     let whole : length c.args.operations ≡ 48 = search rules in
     (whole, length-take-le c.args.n c.args.operations (omega (arith, c.requires))) in
+    -- What the test said of a generator.
     let tested : c.is_layer.result ≡ is_layer (get_or (take c.args.n c.args.operations) c.loop-i.i identity_operation) =
     let g = generator-at c.args.n c.args.operations c.loop-i.i _ identity_operation c.if-n-i.false (omega (arith, gens-long, c.requires)) in
     c.is_layer.ensures ∙ ap is_layer g in

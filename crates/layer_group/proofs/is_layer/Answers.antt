@@ -14,16 +14,37 @@ returns-then-r-ne1-2 c = simp (eq-eqb c.args.o.rotation.xz 1 (omega arith), ne_e
 
 pub returns-then-r-ne1-3 : goal.returns-then-r-ne1-3
 unfolding is_layer
-returns-then-r-ne1-3 c = simp (eq-eqb c.args.o.rotation.xz 1 (omega arith), eq-eqb c.args.o.rotation.yz 1 (omega arith), ne_eqb c.args.o.rotation.zx 1 (omega arith))
+returns-then-r-ne1-3 c = simp (
+  eq-eqb c.args.o.rotation.xz 1 (omega arith),
+  eq-eqb c.args.o.rotation.yz 1 (omega arith),
+  ne_eqb c.args.o.rotation.zx 1 (omega arith),
+)
 
 pub returns-then-r-ne1-4 : goal.returns-then-r-ne1-4
 unfolding is_layer
-returns-then-r-ne1-4 c = simp (eq-eqb c.args.o.rotation.xz 1 (omega arith), eq-eqb c.args.o.rotation.yz 1 (omega arith), eq-eqb c.args.o.rotation.zx 1 (omega arith), ne_eqb c.args.o.rotation.zy 1 (omega arith))
+returns-then-r-ne1-4 c = simp (
+  eq-eqb c.args.o.rotation.xz 1 (omega arith),
+  eq-eqb c.args.o.rotation.yz 1 (omega arith),
+  eq-eqb c.args.o.rotation.zx 1 (omega arith),
+  ne_eqb c.args.o.rotation.zy 1 (omega arith),
+)
 
 pub returns-then-r-ne2 : goal.returns-then-r-ne2
 unfolding is_layer
-returns-then-r-ne2 c = simp (eq-eqb c.args.o.rotation.xz 1 (omega arith), eq-eqb c.args.o.rotation.yz 1 (omega arith), eq-eqb c.args.o.rotation.zx 1 (omega arith), eq-eqb c.args.o.rotation.zy 1 (omega arith), ne_eqb c.args.o.rotation.zz 2 (omega arith))
+returns-then-r-ne2 c = simp (
+  eq-eqb c.args.o.rotation.xz 1 (omega arith),
+  eq-eqb c.args.o.rotation.yz 1 (omega arith),
+  eq-eqb c.args.o.rotation.zx 1 (omega arith),
+  eq-eqb c.args.o.rotation.zy 1 (omega arith),
+  ne_eqb c.args.o.rotation.zz 2 (omega arith),
+)
 
 pub returns : goal.returns
 unfolding is_layer
-returns c = simp (eq-eqb c.args.o.rotation.xz 1 (omega arith), eq-eqb c.args.o.rotation.yz 1 (omega arith), eq-eqb c.args.o.rotation.zx 1 (omega arith), eq-eqb c.args.o.rotation.zy 1 (omega arith), eq-eqb c.args.o.rotation.zz 2 (omega arith))
+returns c = simp (
+  eq-eqb c.args.o.rotation.xz 1 (omega arith),
+  eq-eqb c.args.o.rotation.yz 1 (omega arith),
+  eq-eqb c.args.o.rotation.zx 1 (omega arith),
+  eq-eqb c.args.o.rotation.zy 1 (omega arith),
+  eq-eqb c.args.o.rotation.zz 2 (omega arith),
+)

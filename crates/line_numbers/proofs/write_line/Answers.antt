@@ -14,8 +14,10 @@ returns-in-NoOperation c =
     (c.refused.ensures ∙ ap (λ (a : WrittenLine). packed (written_answer a)) (sym c.in-NoOperation.is ∙ c.write_line.ensures.0), c.write_line.ensures.1)
 
 pub returns-in-Determinant : goal.returns-in-Determinant
-returns-in-Determinant c =
-    (c.refused-in-Determinant.ensures ∙ ap (λ (a : WrittenLine). packed (written_answer a)) (sym c.in-Determinant.is ∙ c.write_line.ensures.0), c.write_line.ensures.1)
+returns-in-Determinant c = (
+  c.refused-in-Determinant.ensures ∙ ap (λ (a : WrittenLine). packed (written_answer a)) (sym c.in-Determinant.is ∙ c.write_line.ensures.0),
+  c.write_line.ensures.1,
+)
 
 pub returns-in-NoRoom : goal.returns-in-NoRoom
 returns-in-NoRoom c =

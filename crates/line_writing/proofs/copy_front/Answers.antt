@@ -13,7 +13,8 @@ pub loop-i-preserved : goal.loop-i-preserved
 loop-i-preserved c = (
   omega arith,
   simp length-set c.loop-i.invariant.1,
-  ap (λ o. set o c.loop-i.i (get_or c.args.line.now c.loop-i.i 0)) c.loop-i.invariant.2 ∙ copy-next c.args.line.now c.args.out.now c.loop-i.i (omega arith) (omega arith),
+  ap (λ o. set o c.loop-i.i (get_or c.args.line.now c.loop-i.i 0)) c.loop-i.invariant.2
+      ∙ copy-next c.args.line.now c.args.out.now c.loop-i.i (omega arith) (omega arith),
 )
 
 pub shape_of-out : goal.shape_of-out

@@ -8,15 +8,35 @@ use Rattle.line_writing.proofs.put_line.Goals as goal
 
 pub bounds-out-x : goal.bounds-out-x
 bounds-out-x c =
-    omega (arith, c.requires.1, c.put_part-x.ensures.place, c.put_part-x.auto.out, part-short c.args.f.rotation.xx c.args.f.rotation.xy c.args.f.rotation.xz c.args.f.translation.x)
+    omega (
+      arith,
+      c.requires.1,
+      c.put_part-x.ensures.place,
+      c.put_part-x.auto.out,
+      part-short c.args.f.rotation.xx c.args.f.rotation.xy c.args.f.rotation.xz c.args.f.translation.x,
+    )
 
 pub overflow_add-x : goal.overflow_add-x
 overflow_add-x c =
-    omega (arith, c.requires.1, c.put_part-x.ensures.place, c.put_part-x.auto.out, part-short c.args.f.rotation.xx c.args.f.rotation.xy c.args.f.rotation.xz c.args.f.translation.x)
+    omega (
+      arith,
+      c.requires.1,
+      c.put_part-x.ensures.place,
+      c.put_part-x.auto.out,
+      part-short c.args.f.rotation.xx c.args.f.rotation.xy c.args.f.rotation.xz c.args.f.translation.x,
+    )
 
 pub put_part-y-requires : goal.put_part-y-requires
-put_part-y-requires c =
-    (c.requires.0.y, simp length-set (omega (arith, c.requires.1, c.put_part-x.ensures.place, c.put_part-x.auto.out, part-short c.args.f.rotation.xx c.args.f.rotation.xy c.args.f.rotation.xz c.args.f.translation.x)))
+put_part-y-requires c = (
+  c.requires.0.y,
+  simp length-set (omega (
+    arith,
+    c.requires.1,
+    c.put_part-x.ensures.place,
+    c.put_part-x.auto.out,
+    part-short c.args.f.rotation.xx c.args.f.rotation.xy c.args.f.rotation.xz c.args.f.translation.x,
+  )),
+)
 
 pub bounds-out-y : goal.bounds-out-y
 bounds-out-y c =

@@ -9,7 +9,9 @@ pub returns-then-negative : goal.returns-then-negative
 returns-then-negative c = put-named (sym (ap (sign_bytes c.args.first) c.if-negative.true)) (put_byte c.args.out.now c.args.at 45)
 
 pub returns-then-first : goal.returns-then-first
-returns-then-first c = put-named (sym (ap (sign_bytes c.args.first) c.if-negative.false ∙ ap (λ f. sign_bytes f false) c.if-first.true)) (put-nothing c.args.out.now c.args.at)
+returns-then-first c = put-named (sym (ap (sign_bytes c.args.first) c.if-negative.false ∙ ap (λ f. sign_bytes f false) c.if-first.true))
+    (put-nothing c.args.out.now c.args.at)
 
 pub returns : goal.returns
-returns c = put-named (sym (ap (sign_bytes c.args.first) c.if-negative.false ∙ ap (λ f. sign_bytes f false) c.if-first.false)) (put_byte c.args.out.now c.args.at 43)
+returns c = put-named (sym (ap (sign_bytes c.args.first) c.if-negative.false ∙ ap (λ f. sign_bytes f false) c.if-first.false))
+    (put_byte c.args.out.now c.args.at 43)

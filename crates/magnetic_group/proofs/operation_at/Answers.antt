@@ -6,6 +6,7 @@ use Rattle.magnetic_group.proofs.operation_at.Goals as goal
 
 pub returns-then-g-index : goal.returns-then-g-index
 returns-then-g-index c =
+    -- The list in its slots, where the index is compared.
     let made : Listed c.args.text.now c.list-g.result.count c.list-g.new.numbers =
     slots-listed c.args.text.now c.list-g.result c.list-g.new.numbers
     c.in-Group.is c.list-g.ensures.0 c.list-g.ensures.1 in
@@ -17,6 +18,7 @@ offset_bounds-numbers-index c =
     let made : Listed c.args.text.now c.list-g.result.count c.list-g.new.numbers =
     slots-listed c.args.text.now c.list-g.result c.list-g.new.numbers
     c.in-Group.is c.list-g.ensures.0 c.list-g.ensures.1 in
+    -- An index that is used is that of a slot.
     let in-slots : c.args.index < 96 =
     omega (arith, (made).few, c.if-g-index.false) in
     let small = in-slots in omega arith

@@ -9,4 +9,5 @@ returns-then-out-lt2 c = no_room (letters_report c.args.letter c.args.other) c.a
 
 pub returns : goal.returns
 returns c =
-    with-room (letters_report c.args.letter c.args.other) c.args.out.now 2 refl _ c.if-out-lt2.false (put_two c.args.out.now c.args.letter c.args.other c.if-out-lt2.false)
+    with-room (letters_report c.args.letter c.args.other) c.args.out.now 2 refl _ c.if-out-lt2.false
+    (put_two c.args.out.now c.args.letter c.args.other c.if-out-lt2.false)

@@ -12,6 +12,7 @@ returns-then-g-index c =
 
 pub offset_bounds-operations-index : goal.offset_bounds-operations-index
 offset_bounds-operations-index c =
+    -- An index that is used is that of a slot.
     let in-slots : c.args.index < 48 =
     index-small c.args.text.now c.new-g.result
     c.new-g.ensures c.in-Group.is

@@ -6,7 +6,8 @@ use Rattle.test_operations.proofs.symbol_operation.Goals as goal
 
 pub returns-in-Operation : goal.returns-in-Operation
 returns-in-Operation c =
-    ap (λ (n : ℕ). n * 4096 + c.in-Operation.o.translation.x % 16 * 256 + c.in-Operation.o.translation.y % 16 * 16 + c.in-Operation.o.translation.z % 16) c.rotation_code.ensures ∙
+    ap (λ (n : ℕ). n * 4096 + c.in-Operation.o.translation.x % 16 * 256 + c.in-Operation.o.translation.y % 16 * 16 + c.in-Operation.o.translation.z % 16)
+    c.rotation_code.ensures ∙
     ap packed_operation (sym c.in-Operation.is
     ∙ c.operation_at.ensures)
 

@@ -12,22 +12,66 @@ put_row-third-requires c =
 pub put_row-x-requires : goal.put_row-x-requires
 put_row-x-requires c =
     let short = plain-short c.args.f c.requires.0 in
-    omega (arith, c.requires.1, c.requires.0.digits, c.put_row-second.ensures.place, c.put_row-second.auto.out, c.put_row-third.ensures.place, c.put_row-third.auto.out)
+    omega (
+      arith,
+      c.requires.1,
+      c.requires.0.digits,
+      c.put_row-second.ensures.place,
+      c.put_row-second.auto.out,
+      c.put_row-third.ensures.place,
+      c.put_row-third.auto.out,
+    )
 
 pub put_number-y-requires : goal.put_number-y-requires
 put_number-y-requires c =
     let short = plain-short c.args.f c.requires.0 in
-    omega (arith, c.requires.1, c.requires.0.digits, c.put_row-second.ensures.place, c.put_row-second.auto.out, c.put_row-third.ensures.place, c.put_row-third.auto.out, c.put_row-x.ensures.place, c.put_row-x.auto.out)
+    omega (
+      arith,
+      c.requires.1,
+      c.requires.0.digits,
+      c.put_row-second.ensures.place,
+      c.put_row-second.auto.out,
+      c.put_row-third.ensures.place,
+      c.put_row-third.auto.out,
+      c.put_row-x.ensures.place,
+      c.put_row-x.auto.out,
+    )
 
 pub put_number-z-requires : goal.put_number-z-requires
 put_number-z-requires c =
     let short = plain-short c.args.f c.requires.0 in
-    omega (arith, c.requires.1, c.requires.0.digits, c.put_row-second.ensures.place, c.put_row-second.auto.out, c.put_row-third.ensures.place, c.put_row-third.auto.out, c.put_row-x.ensures.place, c.put_row-x.auto.out, c.put_number-y.ensures.place, c.put_number-y.auto.out)
+    omega (
+      arith,
+      c.requires.1,
+      c.requires.0.digits,
+      c.put_row-second.ensures.place,
+      c.put_row-second.auto.out,
+      c.put_row-third.ensures.place,
+      c.put_row-third.auto.out,
+      c.put_row-x.ensures.place,
+      c.put_row-x.auto.out,
+      c.put_number-y.ensures.place,
+      c.put_number-y.auto.out,
+    )
 
 pub put_number-requires : goal.put_number-requires
 put_number-requires c =
     let short = plain-short c.args.f c.requires.0 in
-    omega (arith, c.requires.1, c.requires.0.digits, c.put_row-second.ensures.place, c.put_row-second.auto.out, c.put_row-third.ensures.place, c.put_row-third.auto.out, c.put_row-x.ensures.place, c.put_row-x.auto.out, c.put_number-y.ensures.place, c.put_number-y.auto.out, c.put_number-z.ensures.place, c.put_number-z.auto.out)
+    omega (
+      arith,
+      c.requires.1,
+      c.requires.0.digits,
+      c.put_row-second.ensures.place,
+      c.put_row-second.auto.out,
+      c.put_row-third.ensures.place,
+      c.put_row-third.auto.out,
+      c.put_row-x.ensures.place,
+      c.put_row-x.auto.out,
+      c.put_number-y.ensures.place,
+      c.put_number-y.auto.out,
+      c.put_number-z.ensures.place,
+      c.put_number-z.auto.out,
+    )
 
 pub returns : goal.returns
 unfolding line_parts

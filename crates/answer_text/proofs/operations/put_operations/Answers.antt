@@ -23,8 +23,12 @@ pub loop-i-preserved : goal.loop-i-preserved
 loop-i-preserved c =
     let f = c.operation_in-f.result in
     let found = part-operation c.args.bytes.now c.loop-i.i f c.operation_in-f.ensures in
-    let short = line-short f (subst Plain (sym found) (c.requires.2 c.loop-i.i (omega arith))) in
-    (omega arith, omega (arith, c.put_operation-end.auto.out, c.loop-i.invariant.1), omega (arith, c.put_operation-end.ensures.place, c.loop-i.invariant.2), lines_next c.args.n c.args.bytes.now c.loop-i.i (omega arith) f found c.loop-i.invariant.3 c.put_operation-end.ensures)
+    let short = line-short f (subst Plain (sym found) (c.requires.2 c.loop-i.i (omega arith))) in (
+      omega arith,
+      omega (arith, c.put_operation-end.auto.out, c.loop-i.invariant.1),
+      omega (arith, c.put_operation-end.ensures.place, c.loop-i.invariant.2),
+      lines_next c.args.n c.args.bytes.now c.loop-i.i (omega arith) f found c.loop-i.invariant.3 c.put_operation-end.ensures,
+    )
 
 pub shape_of-out : goal.shape_of-out
 shape_of-out c = c.loop-i.invariant.1

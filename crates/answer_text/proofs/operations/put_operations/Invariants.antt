@@ -7,7 +7,8 @@ use Rattle.placed_text.specs.Placing.{Put}
 use Rattle.answer_text.proofs.operations.put_operations.Given as goal
 
 abbrev pub invariant-loop-i : goal.invariant-loop-i
-invariant-loop-i l = (l.i ≤ l.n) × (length l.out ≡ length l.initial.out) × (l.end ≤ l.at + 36 * l.i) × Put l.initial.out l.at (lines_to l.n l.bytes l.i) l.out l.end
+invariant-loop-i l = (l.i ≤ l.n) × (length l.out ≡ length l.initial.out) × (l.end ≤ l.at + 36 * l.i)
+    × Put l.initial.out l.at (lines_to l.n l.bytes l.i) l.out l.end
 
 abbrev pub decreases-loop-i : goal.decreases-loop-i
 decreases-loop-i l = l.n - l.i

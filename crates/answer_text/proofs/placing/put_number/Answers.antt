@@ -23,4 +23,5 @@ bounds-out-at-4 c = simp length-set (omega arith)
 
 pub returns : goal.returns
 returns c =
-    put-named (ap (λ (w : List ℕ). w ++ (c.args.end ∷ [])) (sym (two_digits c.args.n c.if-n-lt10.false (omega arith)))) (put_three c.args.out.now c.args.at _ _ c.args.end)
+    put-named (ap (λ (w : List ℕ). w ++ (c.args.end ∷ [])) (sym (two_digits c.args.n c.if-n-lt10.false (omega arith))))
+    (put_three c.args.out.now c.args.at _ _ c.args.end)

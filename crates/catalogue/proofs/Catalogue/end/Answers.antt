@@ -20,4 +20,5 @@ told-answer-requires c =
 
 pub returns : goal.returns
 returns c =
-    end-told c.args.self c.args.out.now c.if-status-gt81.false c.last_line-last.result c.last_line-last.ensures c.told-answer.result _ c.told-answer.ensures.0 c.told-answer.ensures.1
+    end-told c.args.self c.args.out.now c.if-status-gt81.false c.last_line-last.result c.last_line-last.ensures c.told-answer.result _ c.told-answer.ensures.0
+    c.told-answer.ensures.1

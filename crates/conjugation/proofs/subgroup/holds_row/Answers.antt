@@ -20,7 +20,11 @@ returns-then-not-holds_product c =
     sym (fails-every _ n c.loop-y.y h (sym c.holds_product.ensures ∙ not-true _ (not_from_false _ c.if-not-holds_product.true)))
 
 pub loop-y-preserved : goal.loop-y-preserved
-loop-y-preserved c = (omega arith, below_more _ _ c.loop-y.invariant.1 (sym c.holds_product.ensures ∙ not-false _ (not_from_true _ c.if-not-holds_product.false)))
+loop-y-preserved c = (
+  omega arith,
+  below_more _ _ c.loop-y.invariant.1 (sym c.holds_product.ensures
+      ∙ not-false _ (not_from_true _ c.if-not-holds_product.false)),
+)
 
 pub returns : goal.returns
 unfolding holds_row

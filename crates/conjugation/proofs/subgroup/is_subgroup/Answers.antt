@@ -40,7 +40,11 @@ returns-then-not-holds_products c =
     (fails-every _ c.args.n c.loop-x.x c.loop-x-test.true (sym c.holds_products.ensures ∙ not-true _ (not_from_false _ c.if-not-holds_products.true)))))
 
 pub loop-x-preserved : goal.loop-x-preserved
-loop-x-preserved c = (omega arith, below_more _ _ c.loop-x.invariant.1 (sym c.holds_products.ensures ∙ not-false _ (not_from_true _ c.if-not-holds_products.false)))
+loop-x-preserved c = (
+  omega arith,
+  below_more _ _ c.loop-x.invariant.1 (sym c.holds_products.ensures
+      ∙ not-false _ (not_from_true _ c.if-not-holds_products.false)),
+)
 
 pub returns : goal.returns
 unfolding is_subgroup

@@ -10,11 +10,13 @@ loop-i-init c = (omega arith, within_same c.args.n c.args.cells.now, λ table D.
 
 pub overflow_mul-k : goal.overflow_mul-k
 overflow_mul-k c =
+    -- A cell of row i has a slot.
     let slot : (i j : ℕ) → i < c.args.n → j < c.args.n
     → (i * c.args.n + j < c.args.n * c.args.n)
     × (i * c.args.n + j < length c.loop-i.cells) × (i * c.args.n + j < 2304) =
     λ i j h b. let place = cell-place c.args.n i j c.requires.1.products.few h b in
     (place.0, omega (arith, place.0, c.requires.1.room, c.loop-i.invariant.1.long), omega (arith, place.0, place.1)) in
+    -- So each cell that is looked at has its slot: that of p,
     let first_slot : (c.loop-i.i * c.args.n + c.args.p < length c.loop-i.cells)
     × (c.loop-i.i * c.args.n + c.args.p < 2304) =
     let (whole, inside, low) = slot c.loop-i.i c.args.p c.loop-i-test.true c.requires.1.first.0 in
@@ -49,6 +51,7 @@ bounds-cells-i c =
 
 pub overflow_cast-k : goal.overflow_cast-k
 overflow_cast-k c =
+    -- The first column leads to an index.
     let index : get_or c.loop-i.cells (c.loop-i.i * c.args.n + c.args.p) 0 < c.args.n =
     let (table, D) = c.requires in
     first_below c.args.n table c.args.cells.now c.args.p c.args.g c.args.q D c.loop-i.cells (c.loop-i.invariant.2 table D).0 c.loop-i.i c.loop-i-test.true in
@@ -64,6 +67,7 @@ overflow_mul-cells c =
     let index : get_or c.loop-i.cells (c.loop-i.i * c.args.n + c.args.p) 0 < c.args.n =
     let (table, D) = c.requires in
     first_below c.args.n table c.args.cells.now c.args.p c.args.g c.args.q D c.loop-i.cells (c.loop-i.invariant.2 table D).0 c.loop-i.i c.loop-i-test.true in
+    -- that of g,
     let second-slot : let at =
     get_or c.loop-i.cells (c.loop-i.i * c.args.n + c.args.p) 0 * c.args.n
     + c.args.g in
@@ -112,6 +116,7 @@ overflow_mul-cells-in-loop-i c =
     × (i * c.args.n + j < length c.loop-i.cells) × (i * c.args.n + j < 2304) =
     λ i j h b. let place = cell-place c.args.n i j c.requires.1.products.few h b in
     (place.0, omega (arith, place.0, c.requires.1.room, c.loop-i.invariant.1.long), omega (arith, place.0, place.1)) in
+    -- and that of q.
     let product-slot : (c.loop-i.i * c.args.n + c.args.q < c.args.n * c.args.n)
     × (c.loop-i.i * c.args.n + c.args.q < length c.loop-i.cells)
     × (c.loop-i.i * c.args.n + c.args.q < 2304) =

@@ -40,17 +40,25 @@ bounds-operations-j c = omega (arith, c.requires.0.few)
 
 pub product_index-requires : goal.product_index-requires
 product_index-requires c =
+    -- There are 48 codes.
     let codes-long : length c.codes_of-codes.result ≡ 48 =
     let l = take c.args.group.count c.args.group.operations in
     ap length c.codes_of-codes.ensures
-    ∙ padded-length 48 0 (map turn_of l) (omega (arith, length-map l turn_of, length-take-le c.args.group.count c.args.group.operations c.requires.0.there, c.requires.0.few)) in (
+    ∙ padded-length 48 0 (map turn_of l) (omega (
+      arith,
+      length-map l turn_of,
+      length-take-le c.args.group.count c.args.group.operations c.requires.0.there,
+      c.requires.0.few,
+    )) in (
       codes-long,
-      lt_of_lt_of_le (found_below c.args.group.centering c.args.group.count c.args.group.operations c.requires.0.there c.requires.0.listing c.requires.1 _ c.codes_of-codes.ensures c.loop-j.i
+      lt_of_lt_of_le (found_below c.args.group.centering c.args.group.count c.args.group.operations c.requires.0.there c.requires.0.listing c.requires.1 _
+          c.codes_of-codes.ensures c.loop-j.i
           c.loop-j.j _ _ c.if-i-n.true c.loop-j-test.true) c.requires.0.few,
     )
 
 pub overflow_mul-cells : goal.overflow_mul-cells
 overflow_mul-cells c =
+    -- The next cell has a slot.
     let cell-slot : let n = c.args.group.count in
     let at = c.loop-j.i * n + c.loop-j.j in
     (at < n * n) × (at < length c.loop-j.cells) × (at < 2304) =
@@ -96,11 +104,14 @@ loop-j-preserved-then-i-n c =
       omega arith,
       c.loop-j.invariant.2,
       c.loop-j.invariant.3,
-      within-onward c.args.group.count c.args.cells.now c.loop-j.cells _ c.loop-j.invariant.4 (within-set c.args.group.count c.loop-j.cells (c.loop-j.i * c.args.group.count + c.loop-j.j) _ whole),
+      within-onward c.args.group.count c.args.cells.now c.loop-j.cells _ c.loop-j.invariant.4
+          (within-set c.args.group.count c.loop-j.cells (c.loop-j.i * c.args.group.count + c.loop-j.j) _ whole),
       λ letter A.
-          filling-cell c.args.group.count (table_of letter (take c.args.group.count c.args.group.operations)) c.loop-j.cells c.loop-j.known c.loop-j.members c.loop-j.count c.loop-j.generators c.loop-j.m c.loop-j.i
+          filling-cell c.args.group.count (table_of letter (take c.args.group.count c.args.group.operations)) c.loop-j.cells c.loop-j.known c.loop-j.members
+          c.loop-j.count c.loop-j.generators c.loop-j.m c.loop-j.i
           c.loop-j.j (c.loop-j.invariant.5 letter A) row _ inside
-          (c.product_index.ensures ∙ cell-found letter c.args.group.count c.args.group.operations c.requires.0.there c.requires.0.listing A _ c.codes_of-codes.ensures c.loop-j.i
+          (c.product_index.ensures ∙ cell-found letter c.args.group.count c.args.group.operations c.requires.0.there c.requires.0.listing A _
+          c.codes_of-codes.ensures c.loop-j.i
           c.loop-j.j _ _ row column),
     )
 
@@ -115,6 +126,7 @@ overflow_add-m c = omega (arith, c.requires.0.few)
 
 pub slice_bounds-note-end : goal.slice_bounds-note-end
 slice_bounds-note-end c =
+    -- There are 48 slots for what is noted, and at most as many are.
     let slots_at : (length c.loop-j.known ≡ 48) × (length c.loop-j.members ≡ 48) × (c.loop-j.count ≤ 48) =
     let S = (c.loop-j.invariant.5 c.args.group.centering c.requires.1).sound in
     (S.broad, S.wide, S.few) in
@@ -153,9 +165,11 @@ slice_bounds-widen-end-in-loop-j c =
 pub widen-count-requires : goal.widen-count-requires
 widen-count-requires c =
     let table = table_of c.args.group.centering (take c.args.group.count c.args.group.operations) in
-    let products = allowed-products c.args.group.centering c.args.group.count c.args.group.operations c.requires.0.there c.requires.0.few c.requires.0.listing c.requires.1 in (
+    let products = allowed-products c.args.group.centering c.args.group.count c.args.group.operations c.requires.0.there c.requires.0.few c.requires.0.listing
+    c.requires.1 in (
       table,
-      filling-widens c.args.group.count table c.loop-j.cells c.loop-j.known c.loop-j.members c.loop-j.count c.loop-j.generators c.loop-j.m c.loop-j.i c.loop-j.j (c.loop-j.invariant.5 c.args.group.centering c.requires.1)
+      filling-widens c.args.group.count table c.loop-j.cells c.loop-j.known c.loop-j.members c.loop-j.count c.loop-j.generators c.loop-j.m c.loop-j.i
+          c.loop-j.j (c.loop-j.invariant.5 c.args.group.centering c.requires.1)
           products (omega (arith, c.requires.2, c.loop-j.invariant.4.long)) c.loop-j.invariant.3 (omega (arith, c.requires.0.few))
           c.loop-j-test.true
           c.if-i-n.false _ _ c.note-count.result c.note-count.ensures,
@@ -191,9 +205,11 @@ loop-j-preserved c = (
   length-set c.loop-j.generators c.loop-j.m _ ∙ c.loop-j.invariant.3,
   within-onward c.args.group.count c.args.cells.now c.loop-j.cells _ c.loop-j.invariant.4 c.widen-count.ensures.0,
   λ letter A.
-      filling-next c.args.group.count (table_of letter (take c.args.group.count c.args.group.operations)) c.loop-j.cells c.loop-j.known c.loop-j.members c.loop-j.count c.loop-j.generators c.loop-j.m c.loop-j.i
+      filling-next c.args.group.count (table_of letter (take c.args.group.count c.args.group.operations)) c.loop-j.cells c.loop-j.known c.loop-j.members
+      c.loop-j.count c.loop-j.generators c.loop-j.m c.loop-j.i
       c.loop-j.j (c.loop-j.invariant.5 letter A)
-      (allowed-products letter c.args.group.count c.args.group.operations c.requires.0.there c.requires.0.few c.requires.0.listing A) (omega (arith, c.requires.2, c.loop-j.invariant.4.long)) c.loop-j.invariant.3
+      (allowed-products letter c.args.group.count c.args.group.operations c.requires.0.there c.requires.0.few c.requires.0.listing A)
+      (omega (arith, c.requires.2, c.loop-j.invariant.4.long)) c.loop-j.invariant.3
       (omega (arith, c.requires.0.few))
       c.loop-j-test.true
       c.if-i-n.false _ _

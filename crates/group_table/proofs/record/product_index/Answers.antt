@@ -16,6 +16,7 @@ returns-in_default c =
 
 pub index_of-requires : goal.index_of-requires
 index_of-requires c =
+    -- The code that is sought is that of the product.
     let place_is : place eqb c.rotation_code.result c.args.codes.now
     ≡ product_place (product_of c.args.f c.args.g)
     c.args.codes.now =

@@ -12,6 +12,7 @@ loop-i-init c = (omega arith, refl, refl, (within_same c.args.n c.args.cells.now
 
 pub overflow_add-i : goal.overflow_add-i
 overflow_add-i c =
+    -- There are 48 slots, and at most as many columns are filled.
     let few-at : (length c.loop-i.known ≡ 48) × (length c.loop-i.members ≡ 48) × (c.loop-i.filled ≤ 48) =
     let (table, W) = c.requires in
     let S = (c.loop-i.invariant.3.1 table W).sound in
@@ -39,6 +40,7 @@ bounds-members-i c =
 
 pub overflow_cast-p : goal.overflow_cast-p
 overflow_cast-p c =
+    -- The columns of both factors are there, whatever table they belong to.
     let composing : (table : List ℕ)
     → Widening c.args.n table c.args.cells.now
     c.args.known.now c.args.members.now
@@ -62,6 +64,7 @@ overflow_cast-p c =
       second = second;
       leads = sym (second.1 p first.0);
     } in
+    -- So both are indices, their product has a slot, and it is an index.
     let low-at : ((get_or c.loop-i.members c.loop-i.i 0) < 48)
     × ((get_or c.args.generators.now c.loop-i.j 0) < 48)
     × ((get_or c.loop-i.members c.loop-i.i 0) * c.args.n
@@ -515,7 +518,8 @@ loop-i-preserved c =
             (composing
             table W) in
             record {
-              sound = c.note-filled.ensures.sound c.args.n table _ (sound-kept table c.loop-i.cells c.args.n _ onward c.loop-i.known c.loop-i.members c.loop-i.filled D.sound) column;
+              sound = c.note-filled.ensures.sound c.args.n table _ (sound-kept table c.loop-i.cells c.args.n _ onward c.loop-i.known c.loop-i.members
+                  c.loop-i.filled D.sound) column;
               kept = λ k right. onward k (D.kept k right);
             },
       ),

@@ -8,12 +8,14 @@ use Rattle.group_table.proofs.symbol.fill_row.Goals as goal
 
 pub overflow_mul-row : goal.overflow_mul-row
 overflow_mul-row c =
+    -- A column's cell of the row has a slot.
     let slot : (j : ℕ) → j < c.args.count
     → (c.args.i * c.args.count + j < 2304) × (c.args.i * c.args.count + j < length c.args.cells.now) =
     λ j b. let before = place_inside c.args.i j c.args.count c.args.count c.requires.row b in
     let whole : length c.args.cells.now ≡ length c.requires.lent =
     ap length c.requires.filled
-    ∙ begun-length c.requires.table c.requires.lent (omega (arith, c.requires.goes.size, c.requires.room)) (c.args.i * c.args.count) (omega (arith, c.requires.goes.size, before)) in
+    ∙ begun-length c.requires.table c.requires.lent (omega (arith, c.requires.goes.size, c.requires.room)) (c.args.i * c.args.count)
+    (omega (arith, c.requires.goes.size, before)) in
     (omega (arith, before, cells_fit c.args.count c.args.generators c.args.steps.now c.requires.traversed), omega (arith, before, c.requires.room, whole)) in
     record { fits = omega (arith, slot 0 (omega (arith, c.requires.row))) }
 
@@ -27,7 +29,8 @@ bounds-cells-row c =
     λ j b. let before = place_inside c.args.i j c.args.count c.args.count c.requires.row b in
     let whole : length c.args.cells.now ≡ length c.requires.lent =
     ap length c.requires.filled
-    ∙ begun-length c.requires.table c.requires.lent (omega (arith, c.requires.goes.size, c.requires.room)) (c.args.i * c.args.count) (omega (arith, c.requires.goes.size, before)) in
+    ∙ begun-length c.requires.table c.requires.lent (omega (arith, c.requires.goes.size, c.requires.room)) (c.args.i * c.args.count)
+    (omega (arith, c.requires.goes.size, before)) in
     (omega (arith, before, cells_fit c.args.count c.args.generators c.args.steps.now c.requires.traversed), omega (arith, before, c.requires.room, whole)) in
     omega (arith, slot 0 (omega (arith, c.requires.row)))
 
@@ -36,9 +39,11 @@ loop-j-init c = (omega arith, omega (arith, c.requires.row), refl, λ table lent
 
 pub bounds-earlier-j : goal.bounds-earlier-j
 bounds-earlier-j c =
+    -- Column j has its parent,
     let comes : Comes c.args.generators c.args.steps.now c.loop-j.j
     (get_or c.args.earlier.now c.loop-j.j 0) (get_or c.args.generator.now c.loop-j.j 0) =
     c.requires.parents c.loop-j.j (omega arith) c.loop-j-test.true in
+    -- So far as the columns go.
     let few : (c.loop-j.j < 48) × (get_or c.args.earlier.now c.loop-j.j 0 < c.args.count)
     × (get_or c.args.generator.now c.loop-j.j 0 < 9) =
     (omega (arith, c.requires.traversed.few), omega (arith, (comes).earlier), omega (arith, (comes).generator, c.requires.traversed.narrow)) in
@@ -61,7 +66,8 @@ overflow_add-left c =
     λ j b. let before = place_inside c.args.i j c.args.count c.args.count c.requires.row b in
     let whole : length c.args.cells.now ≡ length c.requires.lent =
     ap length c.requires.filled
-    ∙ begun-length c.requires.table c.requires.lent (omega (arith, c.requires.goes.size, c.requires.room)) (c.args.i * c.args.count) (omega (arith, c.requires.goes.size, before)) in
+    ∙ begun-length c.requires.table c.requires.lent (omega (arith, c.requires.goes.size, c.requires.room)) (c.args.i * c.args.count)
+    (omega (arith, c.requires.goes.size, before)) in
     (omega (arith, before, cells_fit c.args.count c.args.generators c.args.steps.now c.requires.traversed), omega (arith, before, c.requires.room, whole)) in
     let comes : Comes c.args.generators c.args.steps.now c.loop-j.j
     (get_or c.args.earlier.now c.loop-j.j 0) (get_or c.args.generator.now c.loop-j.j 0) =
@@ -78,8 +84,10 @@ bounds-cells-row-in-loop-j c =
     λ j b. let before = place_inside c.args.i j c.args.count c.args.count c.requires.row b in
     let whole : length c.args.cells.now ≡ length c.requires.lent =
     ap length c.requires.filled
-    ∙ begun-length c.requires.table c.requires.lent (omega (arith, c.requires.goes.size, c.requires.room)) (c.args.i * c.args.count) (omega (arith, c.requires.goes.size, before)) in
+    ∙ begun-length c.requires.table c.requires.lent (omega (arith, c.requires.goes.size, c.requires.room)) (c.args.i * c.args.count)
+    (omega (arith, c.requires.goes.size, before)) in
     (omega (arith, before, cells_fit c.args.count c.args.generators c.args.steps.now c.requires.traversed), omega (arith, before, c.requires.room, whole)) in
+    -- There are as many cells as were lent.
     let wide : length c.loop-j.cells ≡ length c.args.cells.now =
     c.loop-j.invariant.2 ∙ length-set c.args.cells.now _ _ in
     let comes : Comes c.args.generators c.args.steps.now c.loop-j.j
@@ -95,11 +103,14 @@ overflow_cast-left c =
     let comes : Comes c.args.generators c.args.steps.now c.loop-j.j
     (get_or c.args.earlier.now c.loop-j.j 0) (get_or c.args.generator.now c.loop-j.j 0) =
     c.requires.parents c.loop-j.j (omega arith) c.loop-j-test.true in
+    -- the cells hold a table as far as column j,
     let held : c.loop-j.cells ≡ begun (c.args.i * c.args.count + c.loop-j.j) c.requires.table
     c.requires.lent =
     c.loop-j.invariant.3 c.requires.table c.requires.lent c.requires.goes c.requires.room
-    (row_first c.args.count c.args.generators c.args.steps.now c.requires.table c.requires.lent c.args.cells.now c.requires.room c.requires.traversed c.requires.goes c.args.i c.requires.row
+    (row_first c.args.count c.args.generators c.args.steps.now c.requires.table c.requires.lent c.args.cells.now c.requires.room c.requires.traversed
+    c.requires.goes c.args.i c.requires.row
     c.requires.filled) in
+    -- and what it has at the parent is an index, whose step has a slot.
     let step-slot : let a = c.args in
     let left = get_or c.loop-j.cells (c.args.i * c.args.count + get_or c.args.earlier.now c.loop-j.j 0) 0 in
     (left < 48) × (left * c.args.generators + get_or c.args.generator.now c.loop-j.j 0 < 432) =
@@ -107,7 +118,8 @@ overflow_cast-left c =
     let p = get_or c.args.earlier.now j 0 in
     let k = get_or c.args.generator.now j 0 in
     let below =
-    row_inside c.args.count c.args.generators c.args.steps.now c.requires.table c.requires.lent c.loop-j.cells c.requires.room c.requires.traversed c.requires.goes c.args.i c.requires.row j
+    row_inside c.args.count c.args.generators c.args.steps.now c.requires.table c.requires.lent c.loop-j.cells c.requires.room c.requires.traversed
+    c.requires.goes c.args.i c.requires.row j
     p k c.loop-j-test.true (comes) (held) in (
       omega (arith, c.requires.traversed.few),
       omega (
@@ -146,7 +158,8 @@ overflow_mul-cells c =
     let held : c.loop-j.cells ≡ begun (c.args.i * c.args.count + c.loop-j.j) c.requires.table
     c.requires.lent =
     c.loop-j.invariant.3 c.requires.table c.requires.lent c.requires.goes c.requires.room
-    (row_first c.args.count c.args.generators c.args.steps.now c.requires.table c.requires.lent c.args.cells.now c.requires.room c.requires.traversed c.requires.goes c.args.i c.requires.row
+    (row_first c.args.count c.args.generators c.args.steps.now c.requires.table c.requires.lent c.args.cells.now c.requires.room c.requires.traversed
+    c.requires.goes c.args.i c.requires.row
     c.requires.filled) in
     let step-slot : let a = c.args in
     let left = get_or c.loop-j.cells (c.args.i * c.args.count + get_or c.args.earlier.now c.loop-j.j 0) 0 in
@@ -155,7 +168,8 @@ overflow_mul-cells c =
     let p = get_or c.args.earlier.now j 0 in
     let k = get_or c.args.generator.now j 0 in
     let below =
-    row_inside c.args.count c.args.generators c.args.steps.now c.requires.table c.requires.lent c.loop-j.cells c.requires.room c.requires.traversed c.requires.goes c.args.i c.requires.row j
+    row_inside c.args.count c.args.generators c.args.steps.now c.requires.table c.requires.lent c.loop-j.cells c.requires.room c.requires.traversed
+    c.requires.goes c.args.i c.requires.row j
     p k c.loop-j-test.true (comes) (held) in (
       omega (arith, c.requires.traversed.few),
       omega (
@@ -174,7 +188,8 @@ overflow_add-cells c =
     let held : c.loop-j.cells ≡ begun (c.args.i * c.args.count + c.loop-j.j) c.requires.table
     c.requires.lent =
     c.loop-j.invariant.3 c.requires.table c.requires.lent c.requires.goes c.requires.room
-    (row_first c.args.count c.args.generators c.args.steps.now c.requires.table c.requires.lent c.args.cells.now c.requires.room c.requires.traversed c.requires.goes c.args.i c.requires.row
+    (row_first c.args.count c.args.generators c.args.steps.now c.requires.table c.requires.lent c.args.cells.now c.requires.room c.requires.traversed
+    c.requires.goes c.args.i c.requires.row
     c.requires.filled) in
     let step-slot : let a = c.args in
     let left = get_or c.loop-j.cells (c.args.i * c.args.count + get_or c.args.earlier.now c.loop-j.j 0) 0 in
@@ -183,7 +198,8 @@ overflow_add-cells c =
     let p = get_or c.args.earlier.now j 0 in
     let k = get_or c.args.generator.now j 0 in
     let below =
-    row_inside c.args.count c.args.generators c.args.steps.now c.requires.table c.requires.lent c.loop-j.cells c.requires.room c.requires.traversed c.requires.goes c.args.i c.requires.row j
+    row_inside c.args.count c.args.generators c.args.steps.now c.requires.table c.requires.lent c.loop-j.cells c.requires.room c.requires.traversed
+    c.requires.goes c.args.i c.requires.row j
     p k c.loop-j-test.true (comes) (held) in (
       omega (arith, c.requires.traversed.few),
       omega (
@@ -202,7 +218,8 @@ bounds-steps-left c =
     let held : c.loop-j.cells ≡ begun (c.args.i * c.args.count + c.loop-j.j) c.requires.table
     c.requires.lent =
     c.loop-j.invariant.3 c.requires.table c.requires.lent c.requires.goes c.requires.room
-    (row_first c.args.count c.args.generators c.args.steps.now c.requires.table c.requires.lent c.args.cells.now c.requires.room c.requires.traversed c.requires.goes c.args.i c.requires.row
+    (row_first c.args.count c.args.generators c.args.steps.now c.requires.table c.requires.lent c.args.cells.now c.requires.room c.requires.traversed
+    c.requires.goes c.args.i c.requires.row
     c.requires.filled) in
     let step-slot : let a = c.args in
     let left = get_or c.loop-j.cells (c.args.i * c.args.count + get_or c.args.earlier.now c.loop-j.j 0) 0 in
@@ -211,7 +228,8 @@ bounds-steps-left c =
     let p = get_or c.args.earlier.now j 0 in
     let k = get_or c.args.generator.now j 0 in
     let below =
-    row_inside c.args.count c.args.generators c.args.steps.now c.requires.table c.requires.lent c.loop-j.cells c.requires.room c.requires.traversed c.requires.goes c.args.i c.requires.row j
+    row_inside c.args.count c.args.generators c.args.steps.now c.requires.table c.requires.lent c.loop-j.cells c.requires.room c.requires.traversed
+    c.requires.goes c.args.i c.requires.row j
     p k c.loop-j-test.true (comes) (held) in (
       omega (arith, c.requires.traversed.few),
       omega (
@@ -229,7 +247,8 @@ overflow_add-cells-in-loop-j c =
     λ j b. let before = place_inside c.args.i j c.args.count c.args.count c.requires.row b in
     let whole : length c.args.cells.now ≡ length c.requires.lent =
     ap length c.requires.filled
-    ∙ begun-length c.requires.table c.requires.lent (omega (arith, c.requires.goes.size, c.requires.room)) (c.args.i * c.args.count) (omega (arith, c.requires.goes.size, before)) in
+    ∙ begun-length c.requires.table c.requires.lent (omega (arith, c.requires.goes.size, c.requires.room)) (c.args.i * c.args.count)
+    (omega (arith, c.requires.goes.size, before)) in
     (omega (arith, before, cells_fit c.args.count c.args.generators c.args.steps.now c.requires.traversed), omega (arith, before, c.requires.room, whole)) in
     record { fits = omega (arith, slot _ c.loop-j-test.true) }
 
@@ -240,7 +259,8 @@ bounds-cells-row-in-loop-j-2 c =
     λ j b. let before = place_inside c.args.i j c.args.count c.args.count c.requires.row b in
     let whole : length c.args.cells.now ≡ length c.requires.lent =
     ap length c.requires.filled
-    ∙ begun-length c.requires.table c.requires.lent (omega (arith, c.requires.goes.size, c.requires.room)) (c.args.i * c.args.count) (omega (arith, c.requires.goes.size, before)) in
+    ∙ begun-length c.requires.table c.requires.lent (omega (arith, c.requires.goes.size, c.requires.room)) (c.args.i * c.args.count)
+    (omega (arith, c.requires.goes.size, before)) in
     (omega (arith, before, cells_fit c.args.count c.args.generators c.args.steps.now c.requires.traversed), omega (arith, before, c.requires.room, whole)) in
     let wide : length c.loop-j.cells ≡ length c.args.cells.now =
     c.loop-j.invariant.2 ∙ length-set c.args.cells.now _ _ in
@@ -264,7 +284,8 @@ loop-j-preserved c =
       omega arith,
       omega arith,
       length-set c.loop-j.cells _ _ ∙ c.loop-j.invariant.2,
-      λ table lent G room e. row_next c.args.count c.args.generators c.args.steps.now table lent c.loop-j.cells room c.requires.traversed G c.args.i c.requires.row
+      λ table lent G room e. row_next c.args.count c.args.generators c.args.steps.now table lent c.loop-j.cells room c.requires.traversed G c.args.i
+          c.requires.row
           c.loop-j.j _ _ c.loop-j-test.true (comes) (c.loop-j.invariant.3 table lent G room e),
     )
 

@@ -9,7 +9,8 @@ use Rattle.group_table.proofs.symbol.fill_rows.Given as goal
 
 abbrev pub invariant-loop-i : goal.invariant-loop-i
 invariant-loop-i l =
-    (l.i ≤ l.count) × (length l.cells ≡ length l.initial.cells) × ((table : List ℕ) → GoesBy l.count l.generators l.steps table → l.cells ≡ begun (l.i * l.count) table l.initial.cells)
+    (l.i ≤ l.count) × (length l.cells ≡ length l.initial.cells) × ((table : List ℕ) → GoesBy l.count l.generators l.steps table → l.cells
+    ≡ begun (l.i * l.count) table l.initial.cells)
 
 abbrev pub decreases-loop-i : goal.decreases-loop-i
 decreases-loop-i l = l.count - l.i

@@ -10,6 +10,7 @@ use Rattle.group_table.proofs.symbol.find_parents.Goals.{then-at-to, else-at-to}
 
 pub overflow_mul-end : goal.overflow_mul-end
 overflow_mul-end c =
+    -- All steps have slots.
     let fit : c.args.count * c.args.generators ≤ 432 =
     steps-fit c.args.count c.args.generators c.args.steps.now c.requires in
     record { fits = let few = fit in omega arith }
@@ -25,6 +26,7 @@ bounds-steps-at c =
 
 pub overflow_cast-to : goal.overflow_cast-to
 overflow_cast-to c =
+    -- A step leads to one of at most 48 operations, by one of at most 9 generators.
     let low : (get_or c.args.steps.now c.loop-at.at 0 < 48) × (c.args.generators ≤ 9) =
     (omega (arith, c.requires.inside c.loop-at.at c.loop-at-test.true, c.requires.few), c.requires.narrow) in
     record { fits = let (below, _) = low in omega arith }
@@ -45,6 +47,7 @@ pub overflow_cast-earlier : goal.overflow_cast-earlier
 overflow_cast-earlier c =
     let low : (get_or c.args.steps.now c.loop-at.at 0 < 48) × (c.args.generators ≤ 9) =
     (omega (arith, c.requires.inside c.loop-at.at c.loop-at-test.true, c.requires.few), c.requires.narrow) in
+    -- Where a step comes from is small.
     let parent : (0 < c.args.generators)
     × (c.loop-at.at / c.args.generators < 48)
     × (c.loop-at.at % c.args.generators < 9) =

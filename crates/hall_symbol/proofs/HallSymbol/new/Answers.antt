@@ -63,4 +63,5 @@ parse-requires c =
 pub returns : goal.returns
 returns c =
     rw c.leading-leading.ensures.listed at c.parse.ensures
-    ∙ ap answer_of (sym (read-lattice c.args.text.now (omega arith) c.scan-allowed.result c.scan-allowed.ensures (omega arith) c.next_word-word.result c.next_word-word.ensures (omega arith) (Is c.in-Is.inverted c.in-Is.centering) (sym c.in-Is.is ∙ c.parse_lattice.ensures)))
+    ∙ ap answer_of (sym (read-lattice c.args.text.now (omega arith) c.scan-allowed.result c.scan-allowed.ensures (omega arith) c.next_word-word.result
+    c.next_word-word.ensures (omega arith) (Is c.in-Is.inverted c.in-Is.centering) (sym c.in-Is.is ∙ c.parse_lattice.ensures)))

@@ -14,10 +14,12 @@ returns-in_default c =
 
 pub overflow_add-result : goal.overflow_add-result
 overflow_add-result c =
-    let right = alone-right c.args.fold c.args.axis c.args.run.now c.translation_of.result c.if-run-eq0.false c.translation_of.ensures c.in-By.field-0 c.in-By.is in
+    let right = alone-right c.args.fold c.args.axis c.args.run.now c.translation_of.result c.if-run-eq0.false c.translation_of.ensures c.in-By.field-0
+    c.in-By.is in
     omega (arith, right, wrong-within c.args.fold c.args.axis c.args.run.now, c.passing-letters.ensures)
 
 pub returns : goal.returns
 returns c =
-    let right = alone-right c.args.fold c.args.axis c.args.run.now c.translation_of.result c.if-run-eq0.false c.translation_of.ensures c.in-By.field-0 c.in-By.is in
+    let right = alone-right c.args.fold c.args.axis c.args.run.now c.translation_of.result c.if-run-eq0.false c.translation_of.ensures c.in-By.field-0
+    c.in-By.is in
     rw c.passing-letters.ensures (sym right)

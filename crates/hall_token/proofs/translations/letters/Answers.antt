@@ -17,15 +17,18 @@ returns-then-not-no_screw c =
 
 pub overflow_add-x : goal.overflow_add-x
 overflow_add-x c =
-    let small = vector-bound c.args.run.now c.loop-i.i c.run_byte-byte.result c.letter_vector-vector.result c.run_byte-byte.ensures c.letter_vector-vector.ensures in omega arith
+    let small = vector-bound c.args.run.now c.loop-i.i c.run_byte-byte.result c.letter_vector-vector.result c.run_byte-byte.ensures
+    c.letter_vector-vector.ensures in omega arith
 
 pub overflow_add-y : goal.overflow_add-y
 overflow_add-y c =
-    let small = vector-bound c.args.run.now c.loop-i.i c.run_byte-byte.result c.letter_vector-vector.result c.run_byte-byte.ensures c.letter_vector-vector.ensures in omega arith
+    let small = vector-bound c.args.run.now c.loop-i.i c.run_byte-byte.result c.letter_vector-vector.result c.run_byte-byte.ensures
+    c.letter_vector-vector.ensures in omega arith
 
 pub overflow_add-z : goal.overflow_add-z
 overflow_add-z c =
-    let small = vector-bound c.args.run.now c.loop-i.i c.run_byte-byte.result c.letter_vector-vector.result c.run_byte-byte.ensures c.letter_vector-vector.ensures in omega arith
+    let small = vector-bound c.args.run.now c.loop-i.i c.run_byte-byte.result c.letter_vector-vector.result c.run_byte-byte.ensures
+    c.letter_vector-vector.ensures in omega arith
 
 pub loop-i-preserved : goal.loop-i-preserved
 loop-i-preserved c = (
@@ -35,7 +38,8 @@ loop-i-preserved c = (
   omega arith,
   c.loop-i.invariant.4
       ∙ letters-next c.args.run.now c.loop-i.i c.loop-i.x c.loop-i.y c.loop-i.z c.run_byte-byte.result c.letter_vector-vector.result c.loop-i-test.true
-      (test-passes no_screw _ c.run_byte-byte.result c.no_screw.result c.run_byte-byte.ensures c.no_screw.ensures (not_from_true _ c.if-not-no_screw.false)) c.run_byte-byte.ensures
+      (test-passes no_screw _ c.run_byte-byte.result c.no_screw.result c.run_byte-byte.ensures c.no_screw.ensures (not_from_true _ c.if-not-no_screw.false))
+      c.run_byte-byte.ensures
       c.letter_vector-vector.ensures,
 )
 

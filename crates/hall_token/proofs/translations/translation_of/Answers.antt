@@ -16,14 +16,18 @@ returns-then-no_screw c =
 
 pub returns-then-not-plain_z : goal.returns-then-not-plain_z
 returns-then-not-plain_z c =
-    sym (front-wrong c.args.fold c.args.axis c.args.run.now c.run_byte-first.result c.no_screw.result c.if-run-eq0.false c.run_byte-first.ensures c.no_screw.ensures
-    c.if-no_screw.false (off-axis c.args.fold c.args.axis (screw_digit c.run_byte-first.result) c.plain_z.result c.plain_z.ensures (not_from_false _ c.if-not-plain_z.true)))
+    sym (front-wrong c.args.fold c.args.axis c.args.run.now c.run_byte-first.result c.no_screw.result c.if-run-eq0.false c.run_byte-first.ensures
+    c.no_screw.ensures
+    c.if-no_screw.false (off-axis c.args.fold c.args.axis (screw_digit c.run_byte-first.result) c.plain_z.result c.plain_z.ensures
+    (not_from_false _ c.if-not-plain_z.true)))
 
 pub returns-then-turn-digit : goal.returns-then-turn-digit
 returns-then-turn-digit c =
     let large = rw (c.fold_number-turn.ensures, c.screw_digit-digit.ensures) at c.if-turn-digit.true in
-    sym (front-wrong c.args.fold c.args.axis c.args.run.now c.run_byte-first.result c.no_screw.result c.if-run-eq0.false c.run_byte-first.ensures c.no_screw.ensures
-    c.if-no_screw.false (too_large c.args.fold c.args.axis (screw_digit c.run_byte-first.result) c.plain_z.result c.plain_z.ensures (not_from_true _ c.if-not-plain_z.false) large))
+    sym (front-wrong c.args.fold c.args.axis c.args.run.now c.run_byte-first.result c.no_screw.result c.if-run-eq0.false c.run_byte-first.ensures
+    c.no_screw.ensures
+    c.if-no_screw.false (too_large c.args.fold c.args.axis (screw_digit c.run_byte-first.result) c.plain_z.result c.plain_z.ensures
+    (not_from_true _ c.if-not-plain_z.false) large))
 
 pub overflow_mul-digit : goal.overflow_mul-digit
 overflow_mul-digit c =
@@ -37,8 +41,10 @@ pub returns : goal.returns
 returns c =
     let small = rw (c.fold_number-turn.ensures, c.screw_digit-digit.ensures) at c.if-turn-digit.false in
     rw (
-      front-screw c.args.fold c.args.axis c.args.run.now c.run_byte-first.result c.no_screw.result c.if-run-eq0.false c.run_byte-first.ensures c.no_screw.ensures
-          c.if-no_screw.false (right-digit c.args.fold c.args.axis (screw_digit c.run_byte-first.result) c.plain_z.result c.plain_z.ensures (not_from_true _ c.if-not-plain_z.false) small),
+      front-screw c.args.fold c.args.axis c.args.run.now c.run_byte-first.result c.no_screw.result c.if-run-eq0.false c.run_byte-first.ensures
+          c.no_screw.ensures
+          c.if-no_screw.false (right-digit c.args.fold c.args.axis (screw_digit c.run_byte-first.result) c.plain_z.result c.plain_z.ensures
+          (not_from_true _ c.if-not-plain_z.false) small),
       ← c.screw_digit-digit.ensures,
       ← c.fold_number-turn.ensures,
     )

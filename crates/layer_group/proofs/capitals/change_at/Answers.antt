@@ -17,15 +17,19 @@ returns-then-is_letter c =
 
 pub returns-then-first-ne45 : goal.returns-then-first-ne45
 returns-then-first-ne45 c =
-    let none = sym c.is_letter.ensures ∙ c.if-is_letter.false in
-    (c.requires.1, ap (set c.args.text.now c.args.start) c.marked_byte-mark.ensures ∙ change-other c.args.text.now c.args.start c.requires.0 c.requires.1 none (λ q. omega arith))
+    let none = sym c.is_letter.ensures ∙ c.if-is_letter.false in (
+      c.requires.1,
+      ap (set c.args.text.now c.args.start) c.marked_byte-mark.ensures
+          ∙ change-other c.args.text.now c.args.start c.requires.0 c.requires.1 none (λ q. omega arith),
+    )
 
 pub returns-then-not-is_letter : goal.returns-then-not-is_letter
 returns-then-not-is_letter c =
     let none = sym c.is_letter.ensures ∙ c.if-is_letter.false in
     let minus : get_or c.args.text.now c.args.start 0 ≡ 45 = omega arith in (
       c.requires.1,
-      ap (set c.args.text.now c.args.start) c.marked_byte-mark.ensures ∙ change-minus c.args.text.now c.args.start c.requires.0 c.requires.1 none minus (sym c.is_letter-2.ensures ∙ not-true _ (not_from_false _ c.if-not-is_letter.true)),
+      ap (set c.args.text.now c.args.start) c.marked_byte-mark.ensures ∙ change-minus c.args.text.now c.args.start c.requires.0 c.requires.1 none minus
+          (sym c.is_letter-2.ensures ∙ not-true _ (not_from_false _ c.if-not-is_letter.true)),
     )
 
 pub bounds-text-next : goal.bounds-text-next

@@ -11,8 +11,11 @@ loop-i-init c = (omega arith, refl, refl)
 
 pub loop-i-preserved : goal.loop-i-preserved
 loop-i-preserved c =
-    let text = c.args.text.now in
-    (omega arith, length-set c.loop-i.copy c.loop-i.i _ ∙ c.loop-i.invariant.1, copied_next c.loop-i.copy text c.loop-i.i (omega arith) (omega arith) c.loop-i.invariant.2)
+    let text = c.args.text.now in (
+      omega arith,
+      length-set c.loop-i.copy c.loop-i.i _ ∙ c.loop-i.invariant.1,
+      copied_next c.loop-i.copy text c.loop-i.i (omega arith) (omega arith) c.loop-i.invariant.2,
+    )
 
 pub returns : goal.returns
 returns c =

@@ -19,4 +19,5 @@ returns-then-text-next c =
 
 pub returns : goal.returns
 returns c =
-    c.is_whitespace.ensures ∙ sym (letter-before c.args.text.now c.args.at (omega arith) (sym c.is_small.ensures ∙ not-false _ (not_from_true _ c.if-not-is_small.false)) (omega arith))
+    c.is_whitespace.ensures ∙ sym (letter-before c.args.text.now c.args.at (omega arith) (sym c.is_small.ensures
+    ∙ not-false _ (not_from_true _ c.if-not-is_small.false)) (omega arith))

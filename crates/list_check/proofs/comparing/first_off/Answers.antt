@@ -26,7 +26,8 @@ returns-then-count-k c =
     let place = c.place_of-k.ensures ∙ at_entry c.args.c c.args.count c.args.operations c.operation_at.ensures in
     let off = past_off c.args.c c.args.count (slot_at c.args.operations) (entry_at c.args.list.now) c.requires.1 c.loop-i.i (omega arith) in
     record {
-      found = first-here (off_at c.args.c c.args.count (slot_at c.args.operations) (entry_at c.args.list.now)) c.args.n c.loop-i.i (omega arith) c.loop-i.invariant.1 off;
+      found = first-here (off_at c.args.c c.args.count (slot_at c.args.operations) (entry_at c.args.list.now)) c.args.n c.loop-i.i (omega arith)
+          c.loop-i.invariant.1 off;
       seen = λ h. absurd (omega arith);
     }
 
@@ -35,9 +36,11 @@ returns-then-contains c =
     let place =
     c.place_of-k.ensures ∙ at_entry c.args.c c.args.count c.args.operations c.operation_at.ensures in
     let there = ap (member c.loop-i.seen) (sym place) ∙ sym (c.contains.ensures (omega arith)) ∙ c.if-contains.true in
-    let off = seen-off c.args.c c.args.count (slot_at c.args.operations) (entry_at c.args.list.now) c.requires.1 c.loop-i.i (omega arith) c.loop-i.seen c.loop-i.invariant.2 there in
+    let off = seen-off c.args.c c.args.count (slot_at c.args.operations) (entry_at c.args.list.now) c.requires.1 c.loop-i.i (omega arith) c.loop-i.seen
+    c.loop-i.invariant.2 there in
     record {
-      found = first-here (off_at c.args.c c.args.count (slot_at c.args.operations) (entry_at c.args.list.now)) c.args.n c.loop-i.i (omega arith) c.loop-i.invariant.1 off;
+      found = first-here (off_at c.args.c c.args.count (slot_at c.args.operations) (entry_at c.args.list.now)) c.args.n c.loop-i.i (omega arith)
+          c.loop-i.invariant.1 off;
       seen = λ h. absurd (omega arith);
     }
 
@@ -47,8 +50,10 @@ loop-i-preserved c =
     c.place_of-k.ensures
     ∙ at_entry c.args.c c.args.count c.args.operations c.operation_at.ensures in
     let absent = ap (member c.loop-i.seen) (sym place) ∙ sym (c.contains.ensures (omega arith)) ∙ c.if-contains.false in
-    let on = new-on c.args.c c.args.count (slot_at c.args.operations) (entry_at c.args.list.now) c.requires.1 c.loop-i.i (omega arith) c.loop-i.seen c.loop-i.invariant.2 absent in
-    let next = seen_next c.args.c c.args.count (slot_at c.args.operations) (entry_at c.args.list.now) c.requires.1 c.loop-i.i (omega arith) c.loop-i.seen c.loop-i.invariant.2 in
+    let on = new-on c.args.c c.args.count (slot_at c.args.operations) (entry_at c.args.list.now) c.requires.1 c.loop-i.i (omega arith) c.loop-i.seen
+    c.loop-i.invariant.2 absent in
+    let next = seen_next c.args.c c.args.count (slot_at c.args.operations) (entry_at c.args.list.now) c.requires.1 c.loop-i.i (omega arith) c.loop-i.seen
+    c.loop-i.invariant.2 in
     let set = ap (λ (k : ℕ). bit_or c.loop-i.seen (2 ^ k)) (sym place) ∙ sym (c.with_element-seen.ensures (omega arith)) in (
       omega arith,
       one_more (off_at c.args.c c.args.count (slot_at c.args.operations) (entry_at c.args.list.now)) c.loop-i.i c.loop-i.invariant.1 on,
@@ -59,6 +64,8 @@ pub returns : goal.returns
 returns c =
     let last : c.loop-i.i ≡ c.args.n = omega arith in
     record {
-      found = first-nowhere (off_at c.args.c c.args.count (slot_at c.args.operations) (entry_at c.args.list.now)) c.args.n c.loop-i.i (omega arith) c.loop-i.invariant.1;
-      seen = λ h. subst (λ (i : ℕ). Seen c.args.c c.args.count (slot_at c.args.operations) (entry_at c.args.list.now) i c.loop-i.seen) last c.loop-i.invariant.2;
+      found = first-nowhere (off_at c.args.c c.args.count (slot_at c.args.operations) (entry_at c.args.list.now)) c.args.n c.loop-i.i (omega arith)
+          c.loop-i.invariant.1;
+      seen = λ h. subst (λ (i : ℕ). Seen c.args.c c.args.count (slot_at c.args.operations) (entry_at c.args.list.now) i c.loop-i.seen) last
+          c.loop-i.invariant.2;
     }

@@ -14,12 +14,14 @@ loop-k-init c = (omega arith, λ j h. absurd (omega arith))
 
 pub returns-then-alike_operations : goal.returns-then-alike_operations
 returns-then-alike_operations c =
+    -- What the test said of an operation.
     let tested : c.alike_operations.result ≡ alike c.args.c c.args.e
     (slot_at c.args.operations c.loop-k.k) =
     let long : length c.args.operations ≡ 48 = search rules in
     c.alike_operations.ensures ∙ ap (λ
     (o : Operation). alike c.args.c c.args.e o) (slot_is c.args.operations c.loop-k.k _ (omega (arith, c.requires))) in
-    first-here (λ k. alike c.args.c c.args.e (slot_at c.args.operations k)) c.args.count c.loop-k.k (omega arith) c.loop-k.invariant.1 (sym (tested) ∙ c.if-alike_operations.true)
+    first-here (λ k. alike c.args.c c.args.e (slot_at c.args.operations k)) c.args.count c.loop-k.k (omega arith) c.loop-k.invariant.1
+    (sym (tested) ∙ c.if-alike_operations.true)
 
 pub loop-k-preserved : goal.loop-k-preserved
 loop-k-preserved c =
@@ -27,8 +29,11 @@ loop-k-preserved c =
     (slot_at c.args.operations c.loop-k.k) =
     let long : length c.args.operations ≡ 48 = search rules in
     c.alike_operations.ensures ∙ ap (λ
-    (o : Operation). alike c.args.c c.args.e o) (slot_is c.args.operations c.loop-k.k _ (omega (arith, c.requires))) in
-    (omega arith, one_more (λ k. alike c.args.c c.args.e (slot_at c.args.operations k)) c.loop-k.k c.loop-k.invariant.1 (sym (tested) ∙ c.if-alike_operations.false))
+    (o : Operation). alike c.args.c c.args.e o) (slot_is c.args.operations c.loop-k.k _ (omega (arith, c.requires))) in (
+      omega arith,
+      one_more (λ k. alike c.args.c c.args.e (slot_at c.args.operations k)) c.loop-k.k c.loop-k.invariant.1
+          (sym (tested) ∙ c.if-alike_operations.false),
+    )
 
 pub returns : goal.returns
 returns c =

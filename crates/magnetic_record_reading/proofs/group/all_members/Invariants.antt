@@ -9,7 +9,8 @@ use Rattle.magnetic_record_reading.proofs.group.all_members.Given as goal
 
 abbrev pub invariant-loop-i : goal.invariant-loop-i
 invariant-loop-i l =
-    (l.i ≤ l.n) × (all (flagged_member l.c (items_of l.n l.bytes)) (drop l.i (items_of l.n l.bytes)) ≡ all (flagged_member l.c (items_of l.n l.bytes)) (items_of l.n l.bytes))
+    (l.i ≤ l.n) × (all (flagged_member l.c (items_of l.n l.bytes)) (drop l.i (items_of l.n l.bytes))
+    ≡ all (flagged_member l.c (items_of l.n l.bytes)) (items_of l.n l.bytes))
 
 abbrev pub decreases-loop-i : goal.decreases-loop-i
 decreases-loop-i l = l.n - l.i

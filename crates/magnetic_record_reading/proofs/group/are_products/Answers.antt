@@ -46,8 +46,11 @@ loop-j-preserved c =
     let f = item_at c.args.bytes.now c.args.i in
     let g = item_at c.args.bytes.now c.loop-j.j in
     let said = pair-said c.args.c items f g _ _ (c.requires.1 c.args.i c.requires.2) (c.requires.1 c.loop-j.j (omega arith)) in
-    let passes = sym (c.is_product.ensures ∙ said) ∙ not-false c.is_product.result (not_from_true _ c.if-not-is_product.false) in
-    (omega arith, sym (all-next 6 magnetic_in c.args.n c.args.bytes.now (flagged_pair_listed items c.args.c f) c.loop-j.j (omega arith) passes) ∙ c.loop-j.invariant.1)
+    let passes = sym (c.is_product.ensures ∙ said) ∙ not-false c.is_product.result (not_from_true _ c.if-not-is_product.false) in (
+      omega arith,
+      sym (all-next 6 magnetic_in c.args.n c.args.bytes.now (flagged_pair_listed items c.args.c f) c.loop-j.j (omega arith) passes)
+          ∙ c.loop-j.invariant.1,
+    )
 
 pub returns : goal.returns
 returns c =

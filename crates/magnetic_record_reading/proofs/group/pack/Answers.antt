@@ -32,9 +32,13 @@ loop-i-preserved c =
     let plain = c.plain_at.ensures in
     let operation = c.operation_of_item.ensures ∙ ap operation_of_item plain in
     let made = c.number.ensures ∙ ap₂ (λ (o : Operation) (flag : ℕ). packed_of (narrowed o) (flag % 2)) operation c.flag_at.ensures in
-    let said = item-said (item_at c.args.bytes.now c.loop-i.i) (c.requires.0.fits c.loop-i.i (omega arith)) (c.requires.0.flag c.loop-i.i (omega arith)) _ made in
-    let inside : c.loop-i.i < length c.loop-i.numbers = omega (arith, c.loop-i.invariant.1, c.requires.0.few) in
-    (omega arith, length-set c.loop-i.numbers c.loop-i.i _ ∙ c.loop-i.invariant.1, packed-next c.args.bytes.now c.loop-i.numbers c.loop-i.i _ inside c.loop-i.invariant.2 said)
+    let said = item-said (item_at c.args.bytes.now c.loop-i.i) (c.requires.0.fits c.loop-i.i (omega arith)) (c.requires.0.flag c.loop-i.i (omega arith)) _
+    made in
+    let inside : c.loop-i.i < length c.loop-i.numbers = omega (arith, c.loop-i.invariant.1, c.requires.0.few) in (
+      omega arith,
+      length-set c.loop-i.numbers c.loop-i.i _ ∙ c.loop-i.invariant.1,
+      packed-next c.args.bytes.now c.loop-i.numbers c.loop-i.i _ inside c.loop-i.invariant.2 said,
+    )
 
 pub returns : goal.returns
 returns c = λ k h. c.loop-i.invariant.2 k (omega arith)

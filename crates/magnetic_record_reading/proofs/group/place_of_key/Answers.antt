@@ -23,8 +23,14 @@ loop-low-preserved-then-key_at-key c =
 pub loop-low-preserved : goal.loop-low-preserved
 loop-low-preserved c =
     let key = c.key_at.ensures in
-    lower-half c.args.n c.args.bytes.now c.requires c.args.key c.loop-low.low c.loop-low.high _ c.loop-low.invariant (omega arith) (omega (arith, key)) (omega arith)
+    lower-half c.args.n c.args.bytes.now c.requires c.args.key c.loop-low.low c.loop-low.high _ c.loop-low.invariant (omega arith) (omega (arith, key))
+    (omega arith)
 
 pub returns : goal.returns
 returns c =
-    record { within = omega (arith, c.loop-low.invariant.order, c.loop-low.invariant.within); below = c.loop-low.invariant.below; above = λ i h k. c.loop-low.invariant.above i (omega arith) k }
+    record {
+      within = omega (arith, c.loop-low.invariant.order, c.loop-low.invariant.within);
+      below = c.loop-low.invariant.below;
+      above = λ i h k.
+          c.loop-low.invariant.above i (omega arith) k;
+    }

@@ -11,6 +11,7 @@ use Rattle.magnetic_record_writing.proofs.copier.copy_record.Goals as goal
 
 pub overflow_mul-from : goal.overflow_mul-from
 overflow_mul-from c =
+    -- The record that was read.
     let ended : RecordAtEnd c.args.bytes.now c.in-Is.n =
     read-end c.args.bytes.now (λ i. omega (arith, c.shared_slice_known-1.given i)) c.in-Is.field-0
     c.in-Is.n (sym c.in-Is.is ∙ c.read_record-read.ensures) in
@@ -35,6 +36,7 @@ returns-then-not-place_bytes c =
     let ended : RecordAtEnd c.args.bytes.now c.in-Is.n =
     read-end c.args.bytes.now (λ i. omega (arith, c.shared_slice_known-1.given i)) c.in-Is.field-0
     c.in-Is.n (sym c.in-Is.is ∙ c.read_record-read.ensures) in
+    -- What is answered, by whether there was room.
     let placed-answer : (b : Bool) → c.place_bytes.result ≡ b
     → (cond b (Written c.in-Is.n) NoRoom
     ≡ magnetic_copied_of c.args.bytes.now

@@ -11,6 +11,7 @@ use Rattle.magnetic_record_writing.proofs.symbol.write_record.Goals as goal
 
 pub slice_bounds-numbers-end : goal.slice_bounds-numbers-end
 slice_bounds-numbers-end c =
+    -- The list in its slots.
     let listed : Listed c.args.text.now c.list-group.result.count
     c.list-group.new.numbers =
     slots-listed c.args.text.now c.list-group.result c.list-group.new.numbers c.in-Group.is
@@ -40,6 +41,7 @@ returns-then-not-place_group c =
     c.list-group.new.numbers =
     slots-listed c.args.text.now c.list-group.result c.list-group.new.numbers c.in-Group.is
     c.list-group.ensures.0 c.list-group.ensures.1 in
+    -- What is answered, by what the writer answered.
     let placed-answer : (b : Bool) → c.place_group.result ≡ b
     → (cond b (Written c.list-group.result.count) NoRoom
     ≡ magnetic_record_of c.args.text.now

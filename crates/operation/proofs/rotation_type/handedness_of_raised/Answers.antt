@@ -51,4 +51,5 @@ unfolding handedness_at
 returns-in_default c =
     let d = c.args.raised in
     is-neither (handedness_at d)
-    (simp (ne_eqb d 5 c.in_default.in_default-own.rest.0.1, ne_eqb d 3 c.in_default.in_default-own.rest.1) at (below 256 sign_or_neither every_byte d (omega arith)))
+    (simp (ne_eqb d 5 c.in_default.in_default-own.rest.0.1, ne_eqb d 3 c.in_default.in_default-own.rest.1) at (below 256 sign_or_neither every_byte d
+    (omega arith)))

@@ -21,6 +21,7 @@ overflow_cast-members c = omega (arith, c.requires.0, c.requires.4)
 
 pub loop-j-init : goal.loop-j-init
 loop-j-init c =
+    -- The listed operations are as many as the items.
     let count-is : length (operations_of c.args.edition c.args.n c.args.bytes.now) ≡ c.args.n =
     length-map (items_of c.args.edition c.args.n c.args.bytes.now) operation_of_item ∙ items-count c.args.edition c.args.n c.args.bytes.now in (
       omega arith,
@@ -88,6 +89,7 @@ pub widen-count-requires : goal.widen-count-requires
 widen-count-requires c =
     let count-is : length (operations_of c.args.edition c.args.n c.args.bytes.now) ≡ c.args.n =
     length-map (items_of c.args.edition c.args.n c.args.bytes.now) operation_of_item ∙ items-count c.args.edition c.args.n c.args.bytes.now in
+    -- What was reached is widened by the columns with the new one.
     let widening-at : Widening c.args.c
     (operations_of c.args.edition
     c.args.n
@@ -106,7 +108,8 @@ widen-count-requires c =
       sound = c.loop-j.invariant.3;
       narrow = omega (arith, c.next_slot-slot.ensures.1);
       made =
-          stored_next c.args.c _ _ c.next_slot-slot.result c.loop-j.columns _ c.make_column.result short (λ i h. c.loop-j.invariant.2 i (omega (arith, c.next_slot-slot.ensures.0))) c.make_column.ensures
+          stored_next c.args.c _ _ c.next_slot-slot.result c.loop-j.columns _ c.make_column.result short
+          (λ i h. c.loop-j.invariant.2 i (omega (arith, c.next_slot-slot.ensures.0))) c.make_column.ensures
           c.if-not-make_column.false;
     } in (
       c.args.c,
@@ -141,7 +144,8 @@ loop-j-preserved c =
       sound = c.loop-j.invariant.3;
       narrow = omega (arith, c.next_slot-slot.ensures.1);
       made =
-          stored_next c.args.c _ _ c.next_slot-slot.result c.loop-j.columns _ c.make_column.result short (λ i h. c.loop-j.invariant.2 i (omega (arith, c.next_slot-slot.ensures.0))) c.make_column.ensures
+          stored_next c.args.c _ _ c.next_slot-slot.result c.loop-j.columns _ c.make_column.result short
+          (λ i h. c.loop-j.invariant.2 i (omega (arith, c.next_slot-slot.ensures.0))) c.make_column.ensures
           c.if-not-make_column.false;
     } in
     let W = widening-at in

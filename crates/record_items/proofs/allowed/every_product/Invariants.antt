@@ -9,7 +9,8 @@ use Rattle.record_items.proofs.allowed.every_product.Given as goal
 
 abbrev pub invariant-loop-j : goal.invariant-loop-j
 invariant-loop-j l =
-    (l.j ≤ l.n) × (length l.columns ≡ 240) × Stored l.c (operations_of l.edition l.n l.bytes) l.columns l.stored × Sound l.c (operations_of l.edition l.n l.bytes) l.known l.members l.count
+    (l.j ≤ l.n) × (length l.columns ≡ 240) × Stored l.c (operations_of l.edition l.n l.bytes) l.columns l.stored
+    × Sound l.c (operations_of l.edition l.n l.bytes) l.known l.members l.count
     × ((k : ℕ) → k < l.j → Right l.c (operations_of l.edition l.n l.bytes) (listed_at (operations_of l.edition l.n l.bytes) k))
 
 abbrev pub decreases-loop-j : goal.decreases-loop-j

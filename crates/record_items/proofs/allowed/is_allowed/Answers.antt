@@ -19,13 +19,15 @@ all_keep-requires c = (c.requires.0, c.requires.1)
 
 pub returns-then-not-all_keep : goal.returns-then-not-all_keep
 returns-then-not-all_keep c =
-    lost c.args.c (items_of c.args.edition c.args.n c.args.bytes.now) (sym c.all_keep.ensures ∙ not-true c.all_keep.result (not_from_false _ c.if-not-all_keep.true))
+    lost c.args.c (items_of c.args.edition c.args.n c.args.bytes.now) (sym c.all_keep.ensures
+    ∙ not-true c.all_keep.result (not_from_false _ c.if-not-all_keep.true))
 
 pub product_at-e-requires : goal.product_at-e-requires
 product_at-e-requires c = (c.requires.0, c.requires.1)
 
 pub returns-then-n-e : goal.returns-then-n-e
 returns-then-n-e c =
+    -- What was sought is the identity.
     let unit-at : c.product_at-e.result ≡ place (alike_items c.args.c) (item_of identity_operation)
     (items_of c.args.edition c.args.n
     c.args.bytes.now) =
@@ -43,6 +45,7 @@ every_product-requires c =
     let items = items_of c.args.edition c.args.n c.args.bytes.now in
     c.product_at-e.ensures ∙ ap₂ (λ (f g : Operation). product_at c.args.c items (product_of f g)) c.identity.ensures
     c.identity-2.ensures ∙ unit-place c.args.c items in
+    -- All rotations keep the lattice.
     let kept_at : all (keeps_item c.args.c)
     (items_of c.args.edition c.args.n c.args.bytes.now) ≡ true =
     sym c.all_keep.ensures ∙ not-false c.all_keep.result (not_from_true _ c.if-not-all_keep.false) in

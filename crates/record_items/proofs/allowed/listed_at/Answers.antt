@@ -38,4 +38,5 @@ returns c =
     let all-passed : c.args.n ≡ c.loop-i.i = omega arith in
     all-passed
     ∙ sym (place_end (alike_items c.args.c) (item_of c.args.f) (items_of c.args.edition c.args.n c.args.bytes.now) c.loop-i.i
-    (none_left (width_in c.args.edition) (edition_of c.args.edition).read c.args.n c.args.bytes.now c.loop-i.i (omega arith) (omega arith))) ∙ c.loop-i.invariant.1
+    (none_left (width_in c.args.edition) (edition_of c.args.edition).read c.args.n c.args.bytes.now c.loop-i.i (omega arith) (omega arith)))
+    ∙ c.loop-i.invariant.1

@@ -10,7 +10,8 @@ use Rattle.record_items.proofs.allowed.listed_at.Given as goal
 
 abbrev pub invariant-loop-i : goal.invariant-loop-i
 invariant-loop-i l =
-    (l.i ≤ l.n) × (l.i + place (alike_items l.c) (item_of l.f) (drop l.i (items_of l.edition l.n l.bytes)) ≡ place (alike_items l.c) (item_of l.f) (items_of l.edition l.n l.bytes))
+    (l.i ≤ l.n) × (l.i + place (alike_items l.c) (item_of l.f) (drop l.i (items_of l.edition l.n l.bytes))
+    ≡ place (alike_items l.c) (item_of l.f) (items_of l.edition l.n l.bytes))
 
 abbrev pub decreases-loop-i : goal.decreases-loop-i
 decreases-loop-i l = l.n - l.i

@@ -75,7 +75,8 @@ loop-i-preserved c =
       omega arith,
       length-set c.loop-i.columns (c.args.at + c.loop-i.i) _ ∙ c.loop-i.invariant.1,
       λ t h. get_or-set_other c.loop-i.columns (c.args.at + c.loop-i.i) t _ 0 (λ (q : t ≡ c.args.at + c.loop-i.i). omega arith) ∙ c.loop-i.invariant.2 t h,
-      column-next c.args.c (map operation_of_item items) _ c.loop-i.columns c.args.at c.loop-i.i _ (omega (arith, c.requires.0, c.requires.3, c.requires.4, c.loop-i.invariant.1)) c.loop-i.invariant.3
+      column-next c.args.c (map operation_of_item items) _ c.loop-i.columns c.args.at c.loop-i.i _
+          (omega (arith, c.requires.0, c.requires.3, c.requires.4, c.loop-i.invariant.1)) c.loop-i.invariant.3
           (omega (arith, count, length-map items operation_of_item, c.if-n-k.false)) found,
     )
 

@@ -14,6 +14,7 @@ loop-i-init c = (omega arith, refl, refl, λ letter operations W. W.sound)
 
 pub overflow_add-i : goal.overflow_add-i
 overflow_add-i c =
+    -- There are 48 slots, and at most as many are reached.
     let few-at : (length c.loop-i.known ≡ 48) × (length c.loop-i.members ≡ 48) × (c.loop-i.reached ≤ 48) =
     let (letter, operations, W) = c.requires in
     let S = c.loop-i.invariant.3 letter operations W in
@@ -41,6 +42,7 @@ bounds-members-i c =
 
 pub overflow_cast-p : goal.overflow_cast-p
 overflow_cast-p c =
+    -- From a member that was reached a column leads to such a one.
     let leads-to : (letter : Centering) (operations : List Operation)
     → Widening letter operations c.args.known.now c.args.members.now
     c.args.count c.args.columns.now c.args.stored
@@ -55,6 +57,7 @@ overflow_cast-p c =
     let (g, column) = W.made c.loop-i.j (omega arith) in
     let (low, right) = reaches letter operations W.into _ g c.args.columns.now (48 * c.loop-i.j) h R column in
     (h, low, right) in
+    -- So both are indices, and the column has a slot for the first.
     let low-at : ((get_or c.loop-i.members c.loop-i.i 0) < 48)
     × (48 * c.loop-i.j + (get_or c.loop-i.members c.loop-i.i 0) < 240)
     × ((get_or c.args.columns.now

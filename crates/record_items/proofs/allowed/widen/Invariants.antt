@@ -7,7 +7,8 @@ use Rattle.record_items.proofs.allowed.widen.Given as goal
 
 abbrev pub invariant-loop-i : goal.invariant-loop-i
 invariant-loop-i l =
-    (l.j ≤ l.stored) × (length l.known ≡ length l.initial.known) × (length l.members ≡ length l.initial.members) × WidenedTo l.initial.known l.initial.members l.count l.columns l.stored l.known l.members l.reached
+    (l.j ≤ l.stored) × (length l.known ≡ length l.initial.known) × (length l.members ≡ length l.initial.members)
+    × WidenedTo l.initial.known l.initial.members l.count l.columns l.stored l.known l.members l.reached
 
 abbrev pub decreases-loop-i : goal.decreases-loop-i
 decreases-loop-i l = 49 * (48 - l.i) + (48 - l.j)

@@ -30,7 +30,8 @@ returns-then-next-item c =
     let fails =
     le-ltb (item_at c.args.edition c.args.bytes.now c.loop-i.i).code (item_at c.args.edition c.args.bytes.now (c.loop-i.i + 1)).code
     (omega (arith, first, second, c.if-next-item.true)) in
-    sym (ascending-stop (width_in c.args.edition) (edition_of c.args.edition).read c.args.n c.args.bytes.now item_before c.loop-i.i (omega arith) fails) ∙ c.loop-i.invariant.1
+    sym (ascending-stop (width_in c.args.edition) (edition_of c.args.edition).read c.args.n c.args.bytes.now item_before c.loop-i.i (omega arith) fails)
+    ∙ c.loop-i.invariant.1
 
 pub loop-i-preserved : goal.loop-i-preserved
 unfolding item_at
@@ -47,4 +48,5 @@ loop-i-preserved c =
 
 pub returns : goal.returns
 returns c =
-    sym (ascending-end (width_in c.args.edition) (edition_of c.args.edition).read c.args.n c.args.bytes.now item_before c.loop-i.i (omega arith) (omega arith)) ∙ c.loop-i.invariant.1
+    sym (ascending-end (width_in c.args.edition) (edition_of c.args.edition).read c.args.n c.args.bytes.now item_before c.loop-i.i (omega arith) (omega arith))
+    ∙ c.loop-i.invariant.1

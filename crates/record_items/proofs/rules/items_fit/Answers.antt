@@ -35,4 +35,5 @@ loop-i-preserved c =
 
 pub returns : goal.returns
 returns c =
-    sym (all_end (width_in c.args.edition) (edition_of c.args.edition).read c.args.n c.args.bytes.now (is_item c.args.c) c.loop-i.i (omega arith) (omega arith)) ∙ c.loop-i.invariant.1
+    sym (all_end (width_in c.args.edition) (edition_of c.args.edition).read c.args.n c.args.bytes.now (is_item c.args.c) c.loop-i.i (omega arith)
+    (omega arith)) ∙ c.loop-i.invariant.1

@@ -30,7 +30,8 @@ loop-i-preserved c =
     let there = operation-there c.args.edition c.args.n c.loop-i.i c.args.bytes.now (omega arith) wide in
     let said = sym (c.is_layer.ensures ∙ ap is_layer (c.operation_in.ensures ∙ there)) in (
       omega arith,
-      sym (all-next (width_in c.args.edition) (edition_of c.args.edition).read c.args.n c.args.bytes.now (λ (j : Item). is_layer (operation_of_item j)) c.loop-i.i
+      sym (all-next (width_in c.args.edition) (edition_of c.args.edition).read c.args.n c.args.bytes.now (λ (j : Item). is_layer (operation_of_item j))
+          c.loop-i.i
           (omega arith) (said ∙ not-false c.is_layer.result (not_from_true _ c.if-not-is_layer.false))) ∙ c.loop-i.invariant.1,
     )
 

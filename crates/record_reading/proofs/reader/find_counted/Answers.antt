@@ -25,11 +25,13 @@ returns-then-not-length_fits c =
     (sym c.length_fits.ensures ∙ not-true c.length_fits.result (not_from_false _ c.if-not-length_fits.true)))
 
 pub overflow_sub-start : goal.overflow_sub-start
-overflow_sub-start c = let fits = (length-test _ _ _ _ _).0 (sym c.length_fits.ensures ∙ not-false c.length_fits.result (not_from_true _ c.if-not-length_fits.false)) in
+overflow_sub-start c = let fits = (length-test _ _ _ _ _).0 (sym c.length_fits.ensures
+    ∙ not-false c.length_fits.result (not_from_true _ c.if-not-length_fits.false)) in
     omega (arith, fits)
 
 pub are_layers-requires : goal.are_layers-requires
 are_layers-requires c =
+    -- Count and length fit,
     let fits-at : length_fits (width_in c.args.edition) 48
     c.from_end-n.result
     (c.from_end.result * 256 + c.from_end-2.result)
@@ -48,6 +50,7 @@ returns-then-not-are_layers c =
     (c.from_end.result * 256 + c.from_end-2.result)
     (length c.args.bytes.now) ≡ true =
     sym c.length_fits.ensures ∙ not-false c.length_fits.result (not_from_true _ c.if-not-length_fits.false) in
+    -- so the items decide.
     let told_at : read_counted c.args.edition
     c.args.sign
     (from_end c.args.bytes.now 3)

@@ -41,7 +41,8 @@ slice_bounds-put_difference-end c =
 
 pub put_difference-requires : goal.put_difference-requires
 put_difference-requires c =
-    let room = next-room c.args.first.now c.args.second.now c.args.n c.args.m c.args.out.now c.loop-i.out c.loop-i.at c.loop-i.i c.loop-i.j c.kind_at-kind.result
+    let room = next-room c.args.first.now c.args.second.now c.args.n c.args.m c.args.out.now c.loop-i.out c.loop-i.at c.loop-i.i c.loop-i.j
+    c.kind_at-kind.result
     c.loop-i.invariant c.loop-i-test.true c.kind_at-kind.ensures c.requires.4 in (
       omega (arith, c.loop-i.invariant.counted.within, c.requires.2),
       omega (arith, c.loop-i.invariant.counted.inside, c.requires.3),

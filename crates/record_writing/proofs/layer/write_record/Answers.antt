@@ -18,6 +18,7 @@ place_group-requires c =
 
 pub returns-then-not-place_group : goal.returns-then-not-place_group
 returns-then-not-place_group c =
+    -- What is answered, by what the writer answered.
     let placed-answer : (b : Bool) → c.place_group.result ≡ b
     → (cond b (Written c.in-Is.n) NoRoom
     ≡ layer_record_of c.args.text.now

@@ -12,8 +12,12 @@ pub loop-i-init : goal.loop-i-init
 loop-i-init c = (omega arith, refl, refl)
 
 pub loop-i-preserved : goal.loop-i-preserved
-loop-i-preserved c =
-    (omega arith, simp length-set c.loop-i.invariant.1, ap (λ (x : List ℕ). set x c.loop-i.i unit_number) c.loop-i.invariant.2 ∙ fill_more c.loop-i.i unit_number _ (omega arith))
+loop-i-preserved c = (
+  omega arith,
+  simp length-set c.loop-i.invariant.1,
+  ap (λ (x : List ℕ). set x c.loop-i.i unit_number) c.loop-i.invariant.2
+      ∙ fill_more c.loop-i.i unit_number _ (omega arith),
+)
 
 pub shape_of-numbers : goal.shape_of-numbers
 shape_of-numbers c = c.loop-i.invariant.1

@@ -23,7 +23,8 @@ loop-i-preserved c =
     (sym (with_at c.args.generators c.args.flags c.loop-i.i _ _ (flagged_by false identity_operation) (omega arith) (omega arith))) in (
       omega arith,
       simp length-set c.loop-i.invariant.1,
-      ap₂ (λ m x. set m c.loop-i.i x) c.loop-i.invariant.2 next ∙ filled_more flagged_number (with_flags c.args.generators c.args.flags) c.args.numbers.now c.loop-i.i _ (omega arith)
+      ap₂ (λ m x. set m c.loop-i.i x) c.loop-i.invariant.2 next ∙ filled_more flagged_number (with_flags c.args.generators c.args.flags) c.args.numbers.now
+          c.loop-i.i _ (omega arith)
           (omega arith),
     )
 

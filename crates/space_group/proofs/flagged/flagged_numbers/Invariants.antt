@@ -8,7 +8,8 @@ use Rattle.space_group.proofs.flagged.flagged_numbers.Given as goal
 
 abbrev pub invariant-loop-i : goal.invariant-loop-i
 invariant-loop-i l =
-    (l.i ≤ l.n) × (length l.numbers ≡ length l.initial.numbers) × (l.numbers ≡ map flagged_number (take l.i (with_flags l.generators l.flags)) ++ drop l.i l.initial.numbers)
+    (l.i ≤ l.n) × (length l.numbers ≡ length l.initial.numbers) × (l.numbers ≡ map flagged_number (take l.i (with_flags l.generators l.flags))
+    ++ drop l.i l.initial.numbers)
 
 abbrev pub decreases-loop-i : goal.decreases-loop-i
 decreases-loop-i l = l.n - l.i

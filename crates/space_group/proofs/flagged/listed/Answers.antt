@@ -8,6 +8,7 @@ use Rattle.space_group.proofs.flagged.listed.Goals as goal
 
 pub returns-then-off-n : goal.returns-then-off-n
 returns-then-off-n c =
+    -- There are nine generators.
     let nine : length c.args.generators ≡ 9 =
     c.well_formed.1.1.0.1.0.1 in
     begins-off c.args.c c.args.n c.args.generators c.args.flags (nine) c.requires.0 c.first_off-off.result c.first_off-off.ensures

@@ -21,4 +21,5 @@ pub returns : goal.returns
 returns c =
     let s = c.args.steps.now in
     let e : c.loop-i.i ≡ length s = omega arith in
-    c.loop-i.invariant.2 ∙ ap (λ (k : ℕ). replicate k 0 ++ drop k s) e ∙ ap (λ r. replicate (length s) 0 ++ r) (drop-length s) ∙ append-nil (replicate (length s) 0)
+    c.loop-i.invariant.2 ∙ ap (λ (k : ℕ). replicate k 0 ++ drop k s) e ∙ ap (λ r. replicate (length s) 0 ++ r) (drop-length s)
+    ∙ append-nil (replicate (length s) 0)

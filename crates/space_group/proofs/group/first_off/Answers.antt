@@ -16,9 +16,11 @@ use Rattle.space_group.proofs.group.first_off.Goals as goal
 
 pub loop-i-preserved : goal.loop-i-preserved
 loop-i-preserved c =
+    -- As many generators as are tested.
     let gens-long : (length c.args.generators ≡ 9) × (length (take c.args.n c.args.generators) ≡ c.args.n) =
     let whole : length c.args.generators ≡ 9 = search rules in
     (whole, length-take-le c.args.n c.args.generators (omega (arith, c.requires))) in
+    -- What the test said of a generator.
     let tested : c.keeps.result ≡ keeps_of c.args.c (get_or (take c.args.n c.args.generators) c.loop-i.i identity_operation).rotation =
     let g = generator-at c.args.n c.args.generators c.loop-i.i _ identity_operation c.if-n-i.false (omega (arith, gens-long, c.requires)) in
     c.keeps.ensures ∙ ap (λ (g : Operation). keeps_of c.args.c g.rotation) g in

@@ -16,7 +16,8 @@ loop-i-preserved c =
     let whole : length c.args.generators ≡ 9 = search rules in (
       omega arith,
       simp length-set c.loop-i.invariant.1,
-      ap₂ (λ m x. set m c.loop-i.i x) c.loop-i.invariant.2 c.generator_number.ensures ∙ filled_more generator_number c.args.generators c.args.numbers.now c.loop-i.i _ (omega arith) (omega arith),
+      ap₂ (λ m x. set m c.loop-i.i x) c.loop-i.invariant.2 c.generator_number.ensures
+          ∙ filled_more generator_number c.args.generators c.args.numbers.now c.loop-i.i _ (omega arith) (omega arith),
     )
 
 pub returns : goal.returns

@@ -12,7 +12,9 @@ use Rattle.space_group.proofs.traverse.place_of.Goals as goal
 
 pub returns-then-hint-eq0 : goal.returns-then-hint-eq0
 returns-then-hint-eq0 c =
-    let signs-long : (length (take c.args.count c.args.numbers.now) ≡ c.args.count) × (length (map sign_of (take c.args.count c.args.numbers.now)) ≡ c.args.count) =
+    -- As many signs as are looked at.
+    let signs-long : (length (take c.args.count c.args.numbers.now) ≡ c.args.count)
+    × (length (map sign_of (take c.args.count c.args.numbers.now)) ≡ c.args.count) =
     let s = take c.args.count c.args.numbers.now in
     let long = length-take-le c.args.count c.args.numbers.now c.requires.0 in
     (long, length-map s sign_of ∙ long) in
@@ -23,7 +25,8 @@ returns-then-hint-eq0 c =
 
 pub returns : goal.returns
 returns c =
-    let signs-long : (length (take c.args.count c.args.numbers.now) ≡ c.args.count) × (length (map sign_of (take c.args.count c.args.numbers.now)) ≡ c.args.count) =
+    let signs-long : (length (take c.args.count c.args.numbers.now) ≡ c.args.count)
+    × (length (map sign_of (take c.args.count c.args.numbers.now)) ≡ c.args.count) =
     let s = take c.args.count c.args.numbers.now in
     let long = length-take-le c.args.count c.args.numbers.now c.requires.0 in
     (long, length-map s sign_of ∙ long) in
@@ -31,5 +34,6 @@ returns c =
     let s = take c.args.count c.args.numbers.now in
     let long = signs-long in
     let low : k < c.args.count = omega arith in
-    let e = image-at sign_of s k 0 0 (omega arith) ∙ ap sign_of (get_or-take c.args.count c.args.numbers.now k 0 low) ∙ sym c.sign.ensures ∙ c.if-sign-sought.false in
+    let e = image-at sign_of s k 0 0 (omega arith) ∙ ap sign_of (get_or-take c.args.count c.args.numbers.now k 0 low) ∙ sym c.sign.ensures
+    ∙ c.if-sign-sought.false in
     sym (hint_holds (map sign_of s) c.args.hints.now c.requires.1 c.args.sought k (omega arith) e)

@@ -13,7 +13,9 @@ use Rattle.space_group.proofs.traverse.search.Goals as goal
 
 pub loop-i-preserved : goal.loop-i-preserved
 loop-i-preserved c =
-    let signs-long : (length (take c.args.count c.args.numbers.now) ≡ c.args.count) × (length (map sign_of (take c.args.count c.args.numbers.now)) ≡ c.args.count) =
+    -- As many signs as are looked at.
+    let signs-long : (length (take c.args.count c.args.numbers.now) ≡ c.args.count)
+    × (length (map sign_of (take c.args.count c.args.numbers.now)) ≡ c.args.count) =
     let s = take c.args.count c.args.numbers.now in
     let long = length-take-le c.args.count c.args.numbers.now (omega arith) in
     (long, length-map s sign_of ∙ long) in
@@ -26,7 +28,8 @@ loop-i-preserved c =
 
 pub returns-then-count-i : goal.returns-then-count-i
 returns-then-count-i c =
-    let signs-long : (length (take c.args.count c.args.numbers.now) ≡ c.args.count) × (length (map sign_of (take c.args.count c.args.numbers.now)) ≡ c.args.count) =
+    let signs-long : (length (take c.args.count c.args.numbers.now) ≡ c.args.count)
+    × (length (map sign_of (take c.args.count c.args.numbers.now)) ≡ c.args.count) =
     let s = take c.args.count c.args.numbers.now in
     let long = length-take-le c.args.count c.args.numbers.now (omega arith) in
     (long, length-map s sign_of ∙ long) in
@@ -38,7 +41,8 @@ returns-then-count-i c =
 
 pub returns-then-sign-sought : goal.returns-then-sign-sought
 returns-then-sign-sought c =
-    let signs-long : (length (take c.args.count c.args.numbers.now) ≡ c.args.count) × (length (map sign_of (take c.args.count c.args.numbers.now)) ≡ c.args.count) =
+    let signs-long : (length (take c.args.count c.args.numbers.now) ≡ c.args.count)
+    × (length (map sign_of (take c.args.count c.args.numbers.now)) ≡ c.args.count) =
     let s = take c.args.count c.args.numbers.now in
     let long = length-take-le c.args.count c.args.numbers.now (omega arith) in
     (long, length-map s sign_of ∙ long) in

@@ -12,7 +12,10 @@ use Rattle.space_group.proofs.traverse.traverse.Given as goal
 
 abbrev pub invariant-loop-i : goal.invariant-loop-i
 invariant-loop-i l =
-    (s : Growth ℕ) × Shows s l.count l.steady l.made l.initial.numbers l.numbers l.initial.steps l.steps × (l.count ≤ l.limit) × (l.i ≤ l.count) × (l.j ≤ l.n) × (l.made ≤ 9 * l.i + l.j) × (length l.numbers ≡ length l.initial.numbers) × (length l.steps ≡ length l.initial.steps) × (number_growth l.c l.limit (take l.n l.generators) ≡ resume l.c l.limit (take l.n l.generators) l.i l.j s) × Hinted (map sign_of s.found) l.hints × (length l.hints ≡ 151)
+    (s : Growth ℕ) × Shows s l.count l.steady l.made l.initial.numbers l.numbers l.initial.steps l.steps × (l.count ≤ l.limit) × (l.i ≤ l.count) × (l.j ≤ l.n)
+    × (l.made ≤ 9 * l.i + l.j) × (length l.numbers ≡ length l.initial.numbers) × (length l.steps ≡ length l.initial.steps)
+    × (number_growth l.c l.limit (take l.n l.generators) ≡ resume l.c l.limit (take l.n l.generators) l.i l.j s) × Hinted (map sign_of s.found) l.hints
+    × (length l.hints ≡ 151)
 
 abbrev pub decreases-loop-i : goal.decreases-loop-i
 decreases-loop-i l =

@@ -30,7 +30,8 @@ loop-left-preserved c =
     let small : c.cell-y.result < 64 = omega arith in
     let found : c.with_element-more.result ≡ bit_or c.loop-left.found (2 ^ value c.args.t.now c.args.n c.args.b x) =
     c.with_element-more.ensures small ∙ ap (λ (z : ℕ). bit_or c.loop-left.found (2 ^ z)) c.cell-y.ensures.0 in
-    rw found (imaging-step _ _ _ c.loop-left.left c.loop-left.found x c.without-rest.result c.loop-left.invariant low.0 (c.without-rest.ensures low.0) (rw (← c.cell-y.ensures.0) c.cell-y.ensures.1))
+    rw found (imaging-step _ _ _ c.loop-left.left c.loop-left.found x c.without-rest.result c.loop-left.invariant low.0 (c.without-rest.ensures low.0)
+    (rw (← c.cell-y.ensures.0) c.cell-y.ensures.1))
 
 pub returns : goal.returns
 returns c =

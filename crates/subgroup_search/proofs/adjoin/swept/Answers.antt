@@ -17,26 +17,33 @@ taken-first-requires c = (c.requires.0, c.requires.1.small, c.cell.ensures.1, om
 pub returns-then-not-first : goal.returns-then-not-first
 returns-then-not-first c =
     let times = product c.args.n c.args.t.now in
-    let F = product-forced c.args.n times c.args.e c.args.h c.args.g c.requires.0.group c.requires.1 c.args.g c.args.r c.args.g c.requires.3 (new-forced c.args.n times c.args.e c.args.h
+    let F = product-forced c.args.n times c.args.e c.args.h c.args.g c.requires.0.group c.requires.1 c.args.g c.args.r c.args.g c.requires.3
+    (new-forced c.args.n times c.args.e c.args.h
     c.args.g c.requires.0.group c.requires.1 c.args.g c.requires.2) in
     let q = not-true _ c.if-not-first.true in
     swept-barred _ _ _ _ _ _ _ _ q
-    (taken-barred c.args.n times c.args.e c.args.h c.args.g c.args.g c.requires.0.group c.requires.1 (λ x. x ≡ c.args.r) c.args.k c.args.waiting (times c.args.r c.args.g) c.requires.4 F
+    (taken-barred c.args.n times c.args.e c.args.h c.args.g c.args.g c.requires.0.group c.requires.1 (λ x. x ≡ c.args.r) c.args.k c.args.waiting
+    (times c.args.r c.args.g) c.requires.4 F
     (rw c.cell.ensures.0 at c.taken-first.ensures) q)
 
 pub loop-left-init : goal.loop-left-init
 loop-left-init c =
     let times = product c.args.n c.args.t.now in
-    let F = product-forced c.args.n times c.args.e c.args.h c.args.g c.requires.0.group c.requires.1 c.args.g c.args.r c.args.g c.requires.3 (new-forced c.args.n times c.args.e c.args.h
+    let F = product-forced c.args.n times c.args.e c.args.h c.args.g c.requires.0.group c.requires.1 c.args.g c.args.r c.args.g c.requires.3
+    (new-forced c.args.n times c.args.e c.args.h
     c.args.g c.requires.0.group c.requires.1 c.args.g c.requires.2) in
     let q = not-false _ c.if-not-first.false in
     sweeping-start _ _ _ _ _ _ _ _ _
-    (taken-grown c.args.n times c.args.e c.args.h c.args.g c.args.g c.requires.0.group c.requires.1 (λ x. x ≡ c.args.r) c.args.k c.args.waiting (times c.args.r c.args.g) c.requires.4 F
+    (taken-grown c.args.n times c.args.e c.args.h c.args.g c.args.g c.requires.0.group c.requires.1 (λ x. x ≡ c.args.r) c.args.k c.args.waiting
+    (times c.args.r c.args.g) c.requires.4 F
     (rw c.cell.ensures.0 at c.taken-first.ensures) q)
 
 pub cell-requires-in-loop-left : goal.cell-requires-in-loop-left
-cell-requires-in-loop-left c =
-    (c.requires.0.cells, c.requires.3.below, member_below _ _ _ c.requires.1.small (c.loop-left.invariant.inside _ (c.lowest-x.ensures c.loop-left-test.true).0))
+cell-requires-in-loop-left c = (
+  c.requires.0.cells,
+  c.requires.3.below,
+  member_below _ _ _ c.requires.1.small (c.loop-left.invariant.inside _ (c.lowest-x.ensures c.loop-left-test.true).0),
+)
 
 pub taken-next-requires : goal.taken-next-requires
 taken-next-requires c = (c.requires.0, c.requires.1.small, c.cell-in-loop-left.ensures.1, omega arith)
@@ -50,7 +57,8 @@ returns-then-not-next c =
     (c.loop-left.invariant.inside x (c.lowest-x.ensures c.loop-left-test.true).0)) in
     let q = not-true _ c.if-not-next.true in
     swept-barred _ _ _ _ _ _ _ _ q
-    (taken-barred c.args.n times c.args.e c.args.h c.args.g c.args.g c.requires.0.group c.requires.1 (λ x. x ≡ c.args.r) c.loop-left.set c.loop-left.rest (times c.args.r x) c.loop-left.invariant.state F
+    (taken-barred c.args.n times c.args.e c.args.h c.args.g c.args.g c.requires.0.group c.requires.1 (λ x. x ≡ c.args.r) c.loop-left.set c.loop-left.rest
+    (times c.args.r x) c.loop-left.invariant.state F
     (rw c.cell-in-loop-left.ensures.0 at c.taken-next.ensures) q)
 
 pub loop-left-smaller : goal.loop-left-smaller
@@ -66,10 +74,12 @@ loop-left-preserved c =
     (c.loop-left.invariant.inside x (c.lowest-x.ensures
     c.loop-left-test.true).0)) in
     let q = not-false _ c.if-not-next.false in
-    sweeping-step c.args.n times c.args.e c.args.h c.args.g c.args.g c.args.k c.args.waiting c.args.r c.loop-left.set c.loop-left.rest c.loop-left.left x c.without-less.result c.loop-left.invariant
+    sweeping-step c.args.n times c.args.e c.args.h c.args.g c.args.g c.args.k c.args.waiting c.args.r c.loop-left.set c.loop-left.rest c.loop-left.left x
+    c.without-less.result c.loop-left.invariant
     (c.without-less.ensures (c.lowest-x.ensures
     c.loop-left-test.true).0)
-    (taken-grown c.args.n times c.args.e c.args.h c.args.g c.args.g c.requires.0.group c.requires.1 (λ x. x ≡ c.args.r) c.loop-left.set c.loop-left.rest (times c.args.r x) c.loop-left.invariant.state F
+    (taken-grown c.args.n times c.args.e c.args.h c.args.g c.args.g c.requires.0.group c.requires.1 (λ x. x ≡ c.args.r) c.loop-left.set c.loop-left.rest
+    (times c.args.r x) c.loop-left.invariant.state F
     (rw c.cell-in-loop-left.ensures.0 at c.taken-next.ensures) q)
 
 pub returns : goal.returns

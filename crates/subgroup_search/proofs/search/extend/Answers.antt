@@ -17,7 +17,8 @@ loop-left-init c =
       refl,
       rest_below c.args.n c.args.h,
       rest-apart c.args.n c.args.h,
-      extended-start c.args.n (product c.args.n c.args.t.now) c.args.e c.args.classes c.requires.0.group c.args.h c.requires.1 c.args.count c.args.sets.now c.requires.2,
+      extended-start c.args.n (product c.args.n c.args.t.now) c.args.e c.args.classes c.requires.0.group c.args.h c.requires.1 c.args.count c.args.sets.now
+          c.requires.2,
     )
 
 pub coset-done-requires : goal.coset-done-requires
@@ -36,10 +37,12 @@ pub returns-in_default : goal.returns-in_default
 returns-in_default c =
     let low = c.lowest-g.ensures c.loop-left-test.true in
     let below = member_below c.args.n c.loop-left.left c.lowest-g.result c.loop-left.invariant.1 low.0 in
-    let X = extended-next c.args.n (product c.args.n c.args.t.now) c.args.e c.args.classes c.requires.0.group c.args.h c.requires.1 c.loop-left.left c.lowest-g.result c.args.count c.loop-left.c
+    let X = extended-next c.args.n (product c.args.n c.args.t.now) c.args.e c.args.classes c.requires.0.group c.args.h c.requires.1 c.loop-left.left
+    c.lowest-g.result c.args.count c.loop-left.c
     c.args.sets.now c.loop-left.sets c.extend_by.new.sets Full
     c.loop-left.invariant.0 below (c.loop-left.invariant.2 _ low.0) low.2 c.loop-left.invariant.3 (rw c.in_default.is at c.extend_by.ensures) in
-    extended-overflow c.args.n (product c.args.n c.args.t.now) c.args.e c.args.classes c.requires.0.group c.args.h c.requires.1 _ c.args.count c.args.sets.now _ X
+    extended-overflow c.args.n (product c.args.n c.args.t.now) c.args.e c.args.classes c.requires.0.group c.args.h c.requires.1 _ c.args.count c.args.sets.now
+    _ X
 
 pub loop-left-smaller : goal.loop-left-smaller
 loop-left-smaller c =
@@ -53,20 +56,23 @@ loop-left-smaller c =
       c.outside-rest.ensures,
       c.coset-done.ensures ∙ plain,
     )
-    (outside-less c.loop-left.left _ _ i (coset-new c.args.n (product c.args.n c.args.t.now) c.args.e c.requires.0.group c.args.h c.requires.1 _ (member_below _ _ _ c.loop-left.invariant.1 i)))
+    (outside-less c.loop-left.left _ _ i (coset-new c.args.n (product c.args.n c.args.t.now) c.args.e c.requires.0.group c.args.h c.requires.1 _
+    (member_below _ _ _ c.loop-left.invariant.1 i)))
 
 pub loop-left-preserved : goal.loop-left-preserved
 loop-left-preserved c =
     let low = c.lowest-g.ensures c.loop-left-test.true in
     let below = member_below c.args.n c.loop-left.left c.lowest-g.result c.loop-left.invariant.1 low.0 in
-    let X = extended-next c.args.n (product c.args.n c.args.t.now) c.args.e c.args.classes c.requires.0.group c.args.h c.requires.1 c.loop-left.left c.lowest-g.result c.args.count c.loop-left.c
+    let X = extended-next c.args.n (product c.args.n c.args.t.now) c.args.e c.args.classes c.requires.0.group c.args.h c.requires.1 c.loop-left.left
+    c.lowest-g.result c.args.count c.loop-left.c
     c.args.sets.now c.loop-left.sets c.extend_by.new.sets (Count c.in-Count.k)
     c.loop-left.invariant.0 below (c.loop-left.invariant.2 _ low.0) low.2 c.loop-left.invariant.3 (rw c.in-Count.is at
     c.extend_by.ensures) in
     let same : length c.extend_by.new.sets ≡ length c.loop-left.sets = omega arith in
     let plain = coset-plain c.args.n (product c.args.n c.args.t.now) c.args.e c.requires.0.group c.args.h c.lowest-g.result c.requires.1.small below in
     let coset = coset_of c.args.n (product c.args.n c.args.t.now) c.args.e c.args.h c.lowest-g.result in
-    let less = outside-less c.loop-left.left coset c.lowest-g.result low.0 (coset-new c.args.n (product c.args.n c.args.t.now) c.args.e c.requires.0.group c.args.h c.requires.1
+    let less = outside-less c.loop-left.left coset c.lowest-g.result low.0 (coset-new c.args.n (product c.args.n c.args.t.now) c.args.e c.requires.0.group
+    c.args.h c.requires.1
     c.lowest-g.result below) in
     rw (
       c.outside-rest.ensures,
@@ -80,5 +86,6 @@ shape_of-sets c = c.loop-left.invariant.0
 pub returns : goal.returns
 returns c =
     let none : c.loop-left.left ≡ 0 = omega arith in
-    extended-end c.args.n (product c.args.n c.args.t.now) c.args.e c.args.classes c.requires.0.group c.args.h c.requires.1 c.loop-left.left c.args.count c.loop-left.c c.args.sets.now c.loop-left.sets none
+    extended-end c.args.n (product c.args.n c.args.t.now) c.args.e c.args.classes c.requires.0.group c.args.h c.requires.1 c.loop-left.left c.args.count
+    c.loop-left.c c.args.sets.now c.loop-left.sets none
     c.loop-left.invariant.3

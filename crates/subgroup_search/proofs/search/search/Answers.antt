@@ -53,7 +53,8 @@ returns-in_default c =
     (c.set_slot.ensures
     c.if-sets-lt8.false)
     c.if-sets-lt8.false _ Full
-    (searching-overflow c.args.n (product c.args.n c.args.t.now) c.args.e c.args.classes c.requires.group c.requires.cells.limit _ c.loop-done.sets c.loop-done.count c.loop-done.done c.loop-done.invariant.1
+    (searching-overflow c.args.n (product c.args.n c.args.t.now) c.args.e c.args.classes c.requires.group c.requires.cells.limit _ c.loop-done.sets
+    c.loop-done.count c.loop-done.done c.loop-done.invariant.1
     c.loop-done-test.true _ c.loop-done.invariant.0 X)
 
 pub overflow_add-done : goal.overflow_add-done
@@ -87,5 +88,6 @@ returns c =
     c.set_slot.new.sets _
     (c.set_slot.ensures c.if-sets-lt8.false)
     c.if-sets-lt8.false _ (Count c.loop-done.count)
-    (searching-end c.args.n (product c.args.n c.args.t.now) c.args.e c.args.classes c.requires.group c.requires.cells.limit _ c.loop-done.sets c.loop-done.count c.loop-done.done c.loop-done.invariant.1
+    (searching-end c.args.n (product c.args.n c.args.t.now) c.args.e c.args.classes c.requires.group c.requires.cells.limit _ c.loop-done.sets
+    c.loop-done.count c.loop-done.done c.loop-done.invariant.1
     c.loop-done-test.false)

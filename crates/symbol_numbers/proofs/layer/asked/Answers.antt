@@ -22,5 +22,6 @@ returns-in-Refused c =
 pub returns-in-Group : goal.returns-in-Group
 returns-in-Group c =
     let g = c.new-group.result in
-    c.answered.ensures ∙ ap (λ (b : ℕ). packed (list_answer c.args.question c.new-group.result.count (b + 32) c.new-group.result.operations)) c.byte-letter.ensures
+    c.answered.ensures ∙ ap (λ (b : ℕ). packed (list_answer c.args.question c.new-group.result.count (b + 32) c.new-group.result.operations))
+    c.byte-letter.ensures
     ∙ ap packed (layer-lists _ g c.new-group.ensures c.in-Group.is c.args.question)

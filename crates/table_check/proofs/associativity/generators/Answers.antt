@@ -12,7 +12,8 @@ overflow_shl-reached c = omega arith
 pub loop-left-init : goal.loop-left-init
 loop-left-init c =
     let h : c.args.e < 64 = let y = c.requires.0.limit in omega arith in
-    rw (c.rest_of-left.ensures (let y = c.requires.0.limit in omega arith), shifted_one 64 c.args.e h) (generating-start _ _ _ c.requires.1 (product-below _ _ c.requires.0))
+    rw (c.rest_of-left.ensures (let y = c.requires.0.limit in omega arith), shifted_one 64 c.args.e h)
+    (generating-start _ _ _ c.requires.1 (product-below _ _ c.requires.0))
 
 pub widen-wider-requires : goal.widen-wider-requires
 widen-wider-requires c = (
@@ -46,5 +47,7 @@ loop-left-preserved c =
 
 pub returns : goal.returns
 returns c =
-    let none : c.loop-left.left ≡ 0 = omega arith in
-    (generating-end _ _ _ c.requires.1 (product-below _ _ c.requires.0) c.loop-left.found c.loop-left.reached c.loop-left.left none c.loop-left.invariant, c.loop-left.invariant.taken-small)
+    let none : c.loop-left.left ≡ 0 = omega arith in (
+      generating-end _ _ _ c.requires.1 (product-below _ _ c.requires.0) c.loop-left.found c.loop-left.reached c.loop-left.left none c.loop-left.invariant,
+      c.loop-left.invariant.taken-small,
+    )

@@ -17,7 +17,8 @@ decreases-loop-k l = l.n - l.k
 
 abbrev pub invariant-loop-i : goal.invariant-loop-i
 invariant-loop-i l =
-    (l.i ≤ l.n) × (l.good ≡ true) × ((m : ℕ) → m < l.i → (k : ℕ) → k < l.n → product l.n l.t (product l.n l.t m l.j) k ≡ product l.n l.t m (product l.n l.t l.j k))
+    (l.i ≤ l.n) × (l.good ≡ true) × ((m : ℕ) → m < l.i → (k : ℕ) → k < l.n → product l.n l.t (product l.n l.t m l.j) k
+    ≡ product l.n l.t m (product l.n l.t l.j k))
 
 abbrev pub decreases-loop-i : goal.decreases-loop-i
 decreases-loop-i l = l.n - l.i
