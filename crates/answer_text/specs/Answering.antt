@@ -1,5 +1,5 @@
 -- From the answer and the bytes of the record's writer to the text: which group or refusal they say, and that its text fits.
-use Rattle.std.specs.Prelude.{◌≡◌, true, ℕ, ◌+◌, ◌*◌, ◌-◌, ◌<◌, ◌≤◌, get_or, take, drop, replicate}
+use Rattle.std.specs.Prelude.{◌≡◌, true, ℕ, ◌+◌, ◌*◌, ◌-◌, ◌<◌, ◌≤◌, get_or, take, drop, replicate, Err, Ok, Result}
 use Rattle.std.proofs.Math.Path.{refl, ap}
 use Rattle.std.proofs.Common.{sym, ◌∙◌, ap₂, subst, arith, length-take, drop_at}
 use mathlib.Core.List.{List, [], ◌∷◌, ◌++◌, append_assoc, Memᴰ as Mem}
@@ -27,8 +27,6 @@ use Rattle.record_writing.specs.Places.{room-there, all_placed}
 use Rattle.record_writing.specs.Copying.{room_for}
 use Rattle.record_writing.specs.AcceptedSymbols.{symbol-writable}
 use Rattle.record_writing.specs.SymbolRecords.{text_record, symbol_record_of, symbol_buffer_of}
-use Rattle.record_writing.specs.declared.SymbolRecord.{SymbolRecord}
-use Rattle.record_writing.specs.declared.SymbolRecord.TheVariants.{Written, NoRoom, Refused as NotWritten}
 use Rattle.answer_text.specs.Words.{newline, decimal, line_of, number_short}
 use Rattle.answer_text.specs.Text.{operation_line, group_text, refusal_text, answer_of, text_of, text_answer}
 use Rattle.answer_text.specs.Lines.{Plain, refusal-parts, lines-short}
@@ -36,6 +34,8 @@ use Rattle.answer_text.specs.RecordLines.{operations_in, AllPlain}
 use Rattle.answer_text.specs.Places.{place-small, number_small}
 use Rattle.placed_text.specs.Placing.{Put, put_front, put-named}
 use Rattle.answer_text.specs.declared.AnswerText.{AnswerText}
+use Rattle.record_writing.specs.declared.Unwritten.TheVariants.{NoRoom, Refused as NotWritten}
+use Rattle.record_writing.specs.declared.Unwritten.{Unwritten}
 
 -- Operations in the listed form have short words.
 form-plain : (c : Centering) (form : List Operation) → Form c form → (f : Operation) → Mem f form → Plain f
@@ -78,9 +78,9 @@ abbrev pub zeros : List ℕ
 zeros = replicate 245 0
 
 -- What it answers, where there is room.
-abbrev told_by : Answer → ℕ → SymbolRecord
-told_by Group n = Written n
-told_by (Refused r) n = NotWritten r
+abbrev told_by : Answer → ℕ → Result ℕ (Unwritten Refusal)
+told_by Group n = Ok n
+told_by (Refused r) n = Err (NotWritten r)
 
 module _ (line : List ℕ) where
   -- There is room for every symbol's record.
@@ -95,40 +95,41 @@ module _ (line : List ℕ) where
   told-by Group e = rw (e, enough-room e)
   told-by (Refused r) e = rw e
 
-  module _ (w : SymbolRecord) (e : w ≡ symbol_record_of line zeros 0) where
+  module _ (w : Result ℕ (Unwritten Refusal)) (e : w ≡ symbol_record_of line zeros 0) where
     -- Operations were written: a group, of so many.
-    pub told-written : (n : ℕ) → w ≡ Written n → ((symbol_answer line).answer ≡ Group) × ((symbol_answer line).count ≡ n)
+    pub told-written : (n : ℕ) → w ≡ Ok n → ((symbol_answer line).answer ≡ Group) × ((symbol_answer line).count ≡ n)
     told-written n p = go (symbol_answer line).answer refl
       where
         go : (a : Answer) → (symbol_answer line).answer ≡ a → ((symbol_answer line).answer ≡ Group) × ((symbol_answer line).count ≡ n)
-        go Group h = let q : Written (symbol_answer line).count ≡ Written n = sym (told-by Group h) ∙ sym e ∙ p in (h, cc)
+        go Group h = let q : (Ok (symbol_answer line).count) ≡ (Ok n) = sym (told-by Group h) ∙ sym e ∙ p in (h, cc)
         go (Refused r) h =
-            let q : NotWritten r ≡ Written n = sym (told-by (Refused r) h) ∙ sym e ∙ p in
+            let q : (Err (NotWritten r)) ≡ (Ok n) = sym (told-by (Refused r) h) ∙ sym e ∙ p in
             let z : ◌≡◌ {A = ℕ} 0 1 = cc in
             absurd (omega arith)
 
     -- A refusal: the symbol's.
-    pub told-refused : (r : Refusal) → w ≡ NotWritten r → (symbol_answer line).answer ≡ Refused r
+    pub told-refused : (r : Refusal) → w ≡ Err (NotWritten r) → (symbol_answer line).answer ≡ Refused r
     told-refused r p = go (symbol_answer line).answer refl
       where
         go : (a : Answer) → (symbol_answer line).answer ≡ a → (symbol_answer line).answer ≡ Refused r
         go Group h =
-            let q : Written (symbol_answer line).count ≡ NotWritten r = sym (told-by Group h) ∙ sym e ∙ p in
+            let q : (Ok (symbol_answer line).count) ≡ (Err (NotWritten r)) = sym (told-by Group h) ∙ sym e ∙ p in
             let z : ◌≡◌ {A = ℕ} 0 1 = cc in
             absurd (omega arith)
-        go (Refused q) h = let k : NotWritten q ≡ NotWritten r = sym (told-by (Refused q) h) ∙ sym e ∙ p in let same : q ≡ r = cc in h ∙ ap Refused same
+        go (Refused q) h = let k : (Err (NotWritten q)) ≡ (Err (NotWritten r)) = sym (told-by (Refused q) h) ∙ sym e ∙ p in let same : q ≡ r = cc in
+            h ∙ ap Refused same
 
     -- Never that there is no room.
-    pub told-room : w ≡ NoRoom → ⊥
+    pub told-room : w ≡ Err NoRoom → ⊥
     told-room p = go (symbol_answer line).answer refl
       where
         go : (a : Answer) → (symbol_answer line).answer ≡ a → ⊥
         go Group h =
-            let q : Written (symbol_answer line).count ≡ NoRoom = sym (told-by Group h) ∙ sym e ∙ p in
+            let q : (Ok (symbol_answer line).count) ≡ (Err NoRoom) = sym (told-by Group h) ∙ sym e ∙ p in
             let z : ◌≡◌ {A = ℕ} 0 1 = cc in
             omega arith
         go (Refused r) h =
-            let q : NotWritten r ≡ NoRoom = sym (told-by (Refused r) h) ∙ sym e ∙ p in
+            let q : (Err (NotWritten r)) ≡ (Err NoRoom) = sym (told-by (Refused r) h) ∙ sym e ∙ p in
             let z : ◌≡◌ {A = ℕ} 0 1 = cc in
             omega arith
 

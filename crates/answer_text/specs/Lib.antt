@@ -10,3 +10,4 @@ pub mod Lines
 pub mod RecordLines
 pub mod Places
 pub mod Answering
+pub mod Growing

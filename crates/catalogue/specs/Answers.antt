@@ -1,5 +1,5 @@
 -- What a call on a catalogue answers, what the catalogue is behind it, and what the lent room holds then, by R12.
-use Rattle.std.specs.Prelude.{Bool, cond, List, [], ◌∷◌, ℕ, ltb, length, take}
+use Rattle.std.specs.Prelude.{Bool, cond, List, [], ◌∷◌, ℕ, ltb, length, take, Err, Ok, Result}
 use Rattle.operation.specs.Answer as answer
 use Rattle.lines.specs.Lines.{last_line}
 use Rattle.lines.specs.Feeding.{kept_behind, handed_over, taken_of}
@@ -8,8 +8,10 @@ use Rattle.lines.specs.declared.Kept.{Kept}
 use Rattle.record_writing.specs.SymbolRecords.{symbol_record_answer, symbol_record_of, symbol_buffer_of}
 use Rattle.catalogue.specs.declared.Catalogue.{Catalogue}
 use Rattle.catalogue.specs.declared.Step.{Step}
-use Rattle.catalogue.specs.declared.Answer.{Answer}
-use Rattle.catalogue.specs.declared.Answer.TheVariants.{NoLine, Told, LongPiece, AfterEnd}
+use Rattle.catalogue.specs.declared.Progress.TheVariants.{NoLine, Told}
+use Rattle.catalogue.specs.declared.Refusal.TheVariants.{AfterEnd, LongPiece}
+use Rattle.catalogue.specs.declared.Progress.{Progress}
+use Rattle.catalogue.specs.declared.Refusal.{Refusal}
 
 -- How many bytes a piece may have.
 abbrev pub most_at_once : ℕ
@@ -44,16 +46,16 @@ is_ended c = ltb 81 c.status
 
 -- ---- what is answered
 -- At most one line is finished by a call: it is answered by the writing of its record from the start of the room.
-abbrev pub told_by : ℕ → List (List ℕ) → List ℕ → Answer
-told_by taken [] out = NoLine taken
-told_by taken (line ∷ lines) out = Told taken (symbol_record_of line out 0)
+abbrev pub told_by : ℕ → List (List ℕ) → List ℕ → Result Progress Refusal
+told_by taken [] out = Ok (NoLine taken)
+told_by taken (line ∷ lines) out = Ok (Told taken (symbol_record_of line out 0))
 
 abbrev pub room_by : List (List ℕ) → List ℕ → List ℕ
 room_by [] out = out
 room_by (line ∷ lines) out = symbol_buffer_of line out 0
 
 -- A refusal leaves the catalogue as it was.
-abbrev pub refusing : Answer → Catalogue → Step
+abbrev pub refusing : Result Progress Refusal → Catalogue → Step
 refusing a c = record { answer = a; catalogue = c }
 
 -- The part of a piece that one call takes: up to the first byte 10, with it, or all.
@@ -63,8 +65,8 @@ part_of piece = take (taken_of piece) piece
 -- A piece: 45 goes first, then 46.
 unfoldable pub piece_step : Catalogue → List ℕ → List ℕ → Step
 piece_step c piece out =
-    cond (ltb most_at_once (length piece)) (refusing LongPiece c)
-    (cond (is_ended c) (refusing AfterEnd c)
+    cond (ltb most_at_once (length piece)) (refusing (Err LongPiece) c)
+    (cond (is_ended c) (refusing (Err AfterEnd) c)
     (record {
       answer = told_by (taken_of piece) (handed_over (line_so_far c) (part_of piece)) out;
       catalogue = keeping (stored c.bytes (kept_behind (line_so_far c) (part_of piece)));
@@ -78,7 +80,7 @@ piece_room c piece out =
 -- The end: no byte is taken, and a last line counts unless it holds no byte.
 unfoldable pub end_step : Catalogue → List ℕ → Step
 end_step c out =
-    cond (is_ended c) (refusing AfterEnd c) (record { answer = told_by 0 (last_line (line_so_far c)) out; catalogue = ended_in c.bytes })
+    cond (is_ended c) (refusing (Err AfterEnd) c) (record { answer = told_by 0 (last_line (line_so_far c)) out; catalogue = ended_in c.bytes })
 
 unfoldable pub end_room : Catalogue → List ℕ → List ℕ
 end_room c out = cond (is_ended c) out (room_by (last_line (line_so_far c)) out)
@@ -90,8 +92,8 @@ pub data Said : Type 0 where
   line : answer.Answer ℕ answer.Nothing → Said
 
 -- How many bytes were taken and what is said, or the refusal's number and place.
-abbrev pub catalogue_answer : Answer → answer.Answer (ℕ × Said) answer.Nothing
-catalogue_answer (NoLine taken) = answer.given (taken, nothing)
-catalogue_answer (Told taken r) = answer.given (taken, line (symbol_record_answer r))
-catalogue_answer LongPiece = answer.refused 45 0 tt
-catalogue_answer AfterEnd = answer.refused 46 0 tt
+abbrev pub catalogue_answer : Result Progress Refusal → answer.Answer (ℕ × Said) answer.Nothing
+catalogue_answer (Ok (NoLine taken)) = answer.given (taken, nothing)
+catalogue_answer (Ok (Told taken r)) = answer.given (taken, line (symbol_record_answer r))
+catalogue_answer (Err LongPiece) = answer.refused 45 0 tt
+catalogue_answer (Err AfterEnd) = answer.refused 46 0 tt

@@ -1,14 +1,12 @@
 -- However a catalogue is cut, the answers are those for the lines of the uncut text. The idea: what one call takes and hands over is a part of what all of
 -- the rest would hand over, and a line is answered alike whether it is shortened or not.
-use Rattle.std.specs.Prelude.{◌≡◌, Bool, true, false, cond, List, [], ◌∷◌, ◌++◌, map, ℕ, suc, ◌+◌, ◌<◌, ◌≤◌, leb, ltb, length, drop}
+use Rattle.std.specs.Prelude.{◌≡◌, Bool, true, false, cond, List, [], ◌∷◌, ◌++◌, map, ℕ, suc, ◌+◌, ◌<◌, ◌≤◌, leb, ltb, length, drop, Err, Ok, Result}
 use Rattle.std.proofs.Math.Path.{refl}
 use Rattle.std.proofs.Common.{sym, ◌∙◌, ap, ap₂, subst, append_assoc, arith, length-drop, take-append-drop, drop_of_length-le, leb-true, leb-false, ltb-false}
 use Rattle.hall_symbol.specs.declared.refusal.Refusal.TheVariants.{TooLong}
 use Rattle.symbol_group.specs.Answers.{long-refused}
 use Rattle.symbol_group.specs.declared.refusal.Refusal.TheVariants.{Text}
 use Rattle.record_writing.specs.SymbolRecords.{symbol_record_of, symbol_buffer_of}
-use Rattle.record_writing.specs.declared.SymbolRecord.{SymbolRecord}
-use Rattle.record_writing.specs.declared.SymbolRecord.TheVariants.{Refused as NotWritten}
 use Rattle.lines.specs.Lines.{last_line, lines_of, in_a_row, last-once}
 use Rattle.lines.specs.Feeding.{shortened, kept_behind, handed_over, all_handed_over, taken_of, short-whole, long-shortened, long-length, all-parts, handed-lines}
 use Rattle.lines.specs.Keeping.{held, stored}
@@ -18,23 +16,28 @@ use Rattle.catalogue.specs.Answers.{most_at_once, kept_in, keeping, line_so_far,
 use Rattle.catalogue.specs.Steps.{piece-open, end-open}
 use Rattle.catalogue.specs.declared.Catalogue.{Catalogue}
 use Rattle.catalogue.specs.declared.Step.{Step}
-use Rattle.catalogue.specs.declared.Answer.{Answer}
-use Rattle.catalogue.specs.declared.Answer.TheVariants.{NoLine, Told, LongPiece, AfterEnd}
+use Rattle.catalogue.specs.declared.Progress.TheVariants.{NoLine, Told}
+use Rattle.catalogue.specs.declared.Refusal.TheVariants.{AfterEnd, LongPiece}
+use Rattle.record_writing.specs.declared.Unwritten.TheVariants.{Refused as NotWritten}
+use Rattle.catalogue.specs.declared.Progress.{Progress}
+use Rattle.catalogue.specs.declared.Refusal.{Refusal}
+use Rattle.record_writing.specs.declared.Unwritten.{Unwritten}
+use Rattle.symbol_group.specs.declared.refusal.Refusal.{Refusal as SymbolRefusal}
 
 -- ---- a caller's calls
 -- How many bytes a call took.
-abbrev pub taken_by : Answer → ℕ
-taken_by (NoLine taken) = taken
-taken_by (Told taken r) = taken
-taken_by LongPiece = 0
-taken_by AfterEnd = 0
+abbrev pub taken_by : Result Progress Refusal → ℕ
+taken_by (Ok (NoLine taken)) = taken
+taken_by (Ok (Told taken r)) = taken
+taken_by (Err LongPiece) = 0
+taken_by (Err AfterEnd) = 0
 
 -- What a caller has of a call: the answer for the line that was finished, with the room as the call left it.
-abbrev pub heard : Answer → List ℕ → List (SymbolRecord × List ℕ)
-heard (NoLine taken) room = []
-heard (Told taken r) room = (r, room) ∷ []
-heard LongPiece room = []
-heard AfterEnd room = []
+abbrev pub heard : Result Progress Refusal → List ℕ → List (Result ℕ (Unwritten SymbolRefusal) × List ℕ)
+heard (Ok (NoLine taken)) room = []
+heard (Ok (Told taken r)) room = (r, room) ∷ []
+heard (Err LongPiece) room = []
+heard (Err AfterEnd) room = []
 
 -- The pieces that are still to be handed in: what a call left of the piece goes first.
 abbrev pub still_to_come : ℕ → List ℕ → List (List ℕ) → List (List ℕ)
@@ -48,22 +51,23 @@ AllFit (piece ∷ pieces) = (length piece ≤ most_at_once) × AllFit pieces
 -- A caller lends a room for each answer, with anything in it: this is the one for the answer of number i.
 module _ (rooms : ℕ → List ℕ) where
   -- The calls of a caller: `piece` on each piece until it is taken whole, and `end` behind them; and what the caller has of them, in order.
-  pub data Calls : Catalogue → ℕ → List (List ℕ) → List (SymbolRecord × List ℕ) → Type 0 where
+  pub data Calls : Catalogue → ℕ → List (List ℕ) → List (Result ℕ (Unwritten SymbolRefusal) × List ℕ) → Type 0 where
     ending : (c : Catalogue) (i : ℕ) → Calls c i [] (heard (end_step c (rooms i)).answer (end_room c (rooms i)))
-    handing : (c : Catalogue) (i : ℕ) (piece : List ℕ) (pieces : List (List ℕ)) (later : List (SymbolRecord × List ℕ))
+    handing : (c : Catalogue) (i : ℕ) (piece : List ℕ) (pieces : List (List ℕ)) (later : List (Result ℕ (Unwritten SymbolRefusal) × List ℕ))
         → Calls (piece_step c piece (rooms i)).catalogue (i + length (heard (piece_step c piece (rooms i)).answer (piece_room c piece (rooms i))))
         (still_to_come (taken_by (piece_step c piece (rooms i)).answer) piece pieces) later
         → Calls c i (piece ∷ pieces) (heard (piece_step c piece (rooms i)).answer (piece_room c piece (rooms i)) ++ later)
 
   -- The answers for lines, from number i on: of each, what the writing of its record answers, and what it leaves in the room.
-  abbrev pub answers_from : ℕ → List (List ℕ) → List (SymbolRecord × List ℕ)
+  abbrev pub answers_from : ℕ → List (List ℕ) → List (Result ℕ (Unwritten SymbolRefusal) × List ℕ)
   answers_from i [] = []
   answers_from i (line ∷ lines) = (symbol_record_of line (rooms i) 0, symbol_buffer_of line (rooms i) 0) ∷ answers_from (suc i) lines
 
 -- ---- lines that are shortened are answered alike
 
 -- So it is answered 1, and nothing is written.
-pub long-answer : (line room : List ℕ) → 80 < length line → (symbol_record_of line room 0 ≡ NotWritten (Text TooLong)) × (symbol_buffer_of line room 0 ≡ room)
+pub long-answer : (line room : List ℕ) → 80 < length line
+    → (symbol_record_of line room 0 ≡ Err (NotWritten (Text TooLong))) × (symbol_buffer_of line room 0 ≡ room)
 unfolding symbol_record_of symbol_buffer_of
 long-answer line room h = (rw (long-refused line h), rw (long-refused line h))
 
@@ -120,7 +124,7 @@ module _ (rooms : ℕ → List ℕ) where
       ≡ answers_from rooms i (lines ++ more)
   answers-parts i [] more = ap (λ (n : ℕ). answers_from rooms n more) (omega arith)
   answers-parts i (line ∷ lines) more =
-      ap (λ (l : List (SymbolRecord × List ℕ)). (symbol_record_of line (rooms i) 0, symbol_buffer_of line (rooms i) 0) ∷ l)
+      ap (λ (l : List (Result ℕ (Unwritten SymbolRefusal) × List ℕ)). (symbol_record_of line (rooms i) 0, symbol_buffer_of line (rooms i) 0) ∷ l)
       (ap (λ (n : ℕ). answers_from rooms (suc i) lines ++ answers_from rooms n more) (omega arith) ∙ answers-parts (suc i) lines more)
 
   -- What is heard of at most one line.
@@ -141,7 +145,8 @@ module _ (rooms : ℕ → List ℕ) where
   answers-shortened i [] = refl
   answers-shortened i (line ∷ lines) =
       let alike = shortened-answer line (rooms i) in
-      ap₂ (λ (r : SymbolRecord × List ℕ) (l : List (SymbolRecord × List ℕ)). r ∷ l) (λ j. (alike.0 j, alike.1 j)) (answers-shortened (suc i) lines)
+      ap₂ (λ (r : Result ℕ (Unwritten SymbolRefusal) × List ℕ) (l : List (Result ℕ (Unwritten SymbolRefusal) × List ℕ)). r ∷ l) (λ j. (alike.0 j, alike.1 j))
+      (answers-shortened (suc i) lines)
 
 pub taken-told : (taken : ℕ) (lines : List (List ℕ)) (room : List ℕ) → taken_by (told_by taken lines room) ≡ taken
 taken-told taken [] room = refl
@@ -207,7 +212,8 @@ module _ (rooms : ℕ → List ℕ) where
     piece-next = ap (λ (s : Step). s.catalogue) (sym (piece-open c piece (rooms i) fits O.going).0)
 
   -- From any state of a catalogue on.
-  from-calls : {c : Catalogue} {i : ℕ} {pieces : List (List ℕ)} {answers : List (SymbolRecord × List ℕ)} → Calls rooms c i pieces answers → Open c
+  from-calls : {c : Catalogue} {i : ℕ} {pieces : List (List ℕ)} {answers : List (Result ℕ (Unwritten SymbolRefusal) × List ℕ)} → Calls rooms c i pieces answers
+      → Open c
       → AllFit pieces → answers ≡ answers_from rooms i (all_handed_over (line_so_far c) (in_a_row pieces))
   from-calls (ending c i) O fit = end-heard c O i ∙ ap (answers_from rooms i) (none_left (line_so_far c))
   from-calls (handing c i piece pieces later calls) O fit =
@@ -236,7 +242,8 @@ module _ (rooms : ℕ → List ℕ) where
   fresh-line bytes = refl
 
   -- However a text is cut into pieces, the answers, each with what is left in its room, are in order those for the lines of the uncut text.
-  pub cut-anywhere : (bytes : List ℕ) → length bytes ≡ 80 → (pieces : List (List ℕ)) → AllFit pieces → (answers : List (SymbolRecord × List ℕ))
+  pub cut-anywhere : (bytes : List ℕ) → length bytes ≡ 80 → (pieces : List (List ℕ)) → AllFit pieces
+      → (answers : List (Result ℕ (Unwritten SymbolRefusal) × List ℕ))
       → Calls rooms (fresh bytes) 0 pieces answers → answers ≡ answers_from rooms 0 (lines_of (in_a_row pieces))
   cut-anywhere bytes places pieces fit answers calls =
       from-calls calls (record { going = omega arith; places = places }) fit

@@ -7,7 +7,7 @@ ghost use Rattle.record_writing.specs.SymbolRecords.{symbol_record_of, symbol_bu
 ghost use Rattle.catalogue.specs.Answers.{fresh, piece_step, piece_room, end_step, end_room};
 
 use lines::{Kept, Line, last_line, take_line};
-use record_writing::SymbolRecord;
+use record_writing::Unwritten;
 use record_writing::symbol::write_record;
 
 // What a catalogue is after the bytes that were taken of it: `status` bytes of a line that goes on are kept; 81 says that it has over 80, of which 80 are kept;
@@ -18,19 +18,24 @@ pub struct Catalogue {
     pub bytes: [u8; 80],
 }
 
-// What one call answers. So many bytes were taken, and none of them ended a line; or the last of them did, and this is what was answered for it, its record in
-// the lent room. Refused: `LongPiece` is 45 and `AfterEnd` 46, at place 0.
+// What a call made of a catalogue. So many bytes were taken, and none of them ended a line; or the last of them did, and this is what was answered for it, its
+// record in the lent room.
 #[derive(Clone, Copy)]
-pub enum Answer {
+pub enum Progress {
     NoLine(usize),
-    Told(usize, SymbolRecord),
+    Told(usize, Result<usize, Unwritten<symbol_group::refusal::Refusal>>),
+}
+
+// Why nothing is taken: `LongPiece` is refusal 45 and `AfterEnd` 46, at place 0.
+#[derive(Clone, Copy)]
+pub enum Refusal {
     LongPiece,
     AfterEnd,
 }
 
 #[derive(Clone, Copy)]
 pub struct Step {
-    pub answer: Answer,
+    pub answer: Result<Progress, Refusal>,
     pub catalogue: Catalogue,
 }
 
@@ -52,13 +57,13 @@ impl Catalogue {
         let bytes = self.bytes;
         if 4096 < piece.len() {
             return Step {
-                answer: Answer::LongPiece,
+                answer: Err(Refusal::LongPiece),
                 catalogue: self,
             };
         }
         if 81 < status {
             return Step {
-                answer: Answer::AfterEnd,
+                answer: Err(Refusal::AfterEnd),
                 catalogue: self,
             };
         }
@@ -80,7 +85,7 @@ impl Catalogue {
         let bytes = self.bytes;
         if 81 < status {
             return Step {
-                answer: Answer::AfterEnd,
+                answer: Err(Refusal::AfterEnd),
                 catalogue: self,
             };
         }
@@ -105,14 +110,14 @@ fn going_on(kept: Kept) -> Catalogue
 }
 
 // A finished line is answered by the writing of its record from the start of the room.
-fn told(finished: bool, taken: usize, line: Line, out: &mut [u8]) -> Answer
+fn told(finished: bool, taken: usize, line: Line, out: &mut [u8]) -> Result<Progress, Refusal>
     requires { line.length ≤ 81 }
-    ensures { (result ≡ cond finished (Answer.Told taken (symbol_record_of (take line.length line.bytes) out.old 0)) (Answer.NoLine taken)) × (out.new ≡ cond finished (symbol_buffer_of (take line.length line.bytes) out.old 0) out.old) }
+    ensures { (result ≡ cond finished (Ok (Progress.Told taken (symbol_record_of (take line.length line.bytes) out.old 0))) (Ok (Progress.NoLine taken))) × (out.new ≡ cond finished (symbol_buffer_of (take line.length line.bytes) out.old 0) out.old) }
 {
     if !finished {
-        return Answer::NoLine(taken);
+        return Ok(Progress::NoLine(taken));
     }
     let n = line.length;
     let bytes = line.bytes;
-    Answer::Told(taken, write_record(&bytes[..n], out, 0))
+    Ok(Progress::Told(taken, write_record(&bytes[..n], out, 0)))
 }

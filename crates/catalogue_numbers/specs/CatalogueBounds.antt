@@ -1,5 +1,5 @@
 -- What is answered on a catalogue can be packed: at most 4,096 bytes are taken, and what is said of a line is a count, or a number and a place, of a byte each.
-use Rattle.std.specs.Prelude.{◌≡◌, refl, Bool, true, false, cond, List, [], ◌∷◌, ℕ, ◌≤◌, ltb, length}
+use Rattle.std.specs.Prelude.{◌≡◌, refl, Bool, true, false, cond, List, [], ◌∷◌, ℕ, ◌≤◌, ltb, length, Err, Ok, Result}
 use Rattle.std.proofs.Common.{ap, ap₂, arith, ltb-false}
 use Rattle.operation.specs.Answer.{Answer, given, refused}
 use Rattle.lines.specs.Lines.{last_line}
@@ -11,14 +11,15 @@ use Rattle.symbol_group.specs.declared.Answer as symbol-answer
 use Rattle.symbol_group.specs.declared.Answer.TheVariants.{Group, Refused}
 use Rattle.record_writing.specs.Copying.{room_for}
 use Rattle.record_writing.specs.SymbolRecords.{written_by, symbol_record_of, symbol_record_answer}
-use Rattle.record_writing.specs.declared.SymbolRecord.TheVariants.{Written, NoRoom}
 use Rattle.catalogue.specs.Answers.{most_at_once, is_ended, keeping, line_so_far, ended_in, told_by, refusing, part_of, piece_step, end_step, Said, nothing, line, catalogue_answer}
 use Rattle.catalogue.specs.declared.Catalogue.{Catalogue}
-use Rattle.catalogue.specs.declared.Answer as call
-use Rattle.catalogue.specs.declared.Answer.TheVariants.{LongPiece, AfterEnd}
 use Rattle.answer_numbers.specs.Packing.{Close, near, Within, Low, Numbers}
 use Rattle.catalogue_numbers.specs.Catalogues.{said_number, step_number, step_of}
 use Rattle.symbol_numbers.specs.SymbolBounds.{symbol-close}
+use Rattle.catalogue.specs.declared.Refusal.TheVariants.{AfterEnd, LongPiece}
+use Rattle.record_writing.specs.declared.Unwritten.TheVariants.{NoRoom}
+use Rattle.catalogue.specs.declared.Progress.{Progress}
+use Rattle.catalogue.specs.declared.Refusal.{Refusal}
 
 -- What can be said of a line.
 abbrev pub Short : Said → Type 0
@@ -31,7 +32,7 @@ abbrev pub ShortStep : ℕ × Said → Type 0
 ShortStep (taken, said) = (taken ≤ most_at_once) × Short said
 
 -- An answer that can be packed.
-abbrev pub Tellable : call.Answer → Type 0
+abbrev pub Tellable : Result Progress Refusal → Type 0
 Tellable a = Within ShortStep (catalogue_answer a)
 
 -- ---- it can be told from its number
@@ -73,7 +74,7 @@ record-by : (text : List ℕ) (start size : ℕ) (a : symbol-answer.Answer) → 
     → Short (line (symbol_record_answer (written_by a (symbol_answer text).count start size)))
 record-by text start size Group e = by-room (room_for start (symbol_answer text).count size)
   where
-    by-room : (b : Bool) → Short (line (symbol_record_answer (cond b (Written (symbol_answer text).count) NoRoom)))
+    by-room : (b : Bool) → Short (line (symbol_record_answer (cond b (Ok (symbol_answer text).count) (Err NoRoom))))
     by-room true = omega (arith, (symbol-slots text).0)
     by-room false = record { some = omega arith; one_byte = omega arith; at_most = omega arith }
 record-by text start size (Refused r) e = symbol-close text r e
@@ -94,7 +95,7 @@ piece-short c piece out =
     by_tests (ltb most_at_once (length piece)) (is_ended c) (keeping (stored c.bytes (kept_behind (line_so_far c) (part_of piece)))) refl
   where
     by_tests : (t u : Bool) (then : Catalogue) → ltb most_at_once (length piece) ≡ t
-        → Tellable (cond t (refusing LongPiece c) (cond u (refusing AfterEnd c)
+        → Tellable (cond t (refusing (Err LongPiece) c) (cond u (refusing (Err AfterEnd) c)
         (record { answer = told_by (taken_of piece) (handed_over (line_so_far c) (part_of piece)) out; catalogue = then }))).answer
     by_tests true u then e = near (omega arith) (omega arith) (omega arith)
     by_tests false true then e = near (omega arith) (omega arith) (omega arith)
@@ -108,7 +109,7 @@ unfolding end_step
 end_short c out = by-test (is_ended c) (ended_in c.bytes)
   where
     by-test : (t : Bool) (then : Catalogue)
-        → Tellable (cond t (refusing AfterEnd c) (record { answer = told_by 0 (last_line (line_so_far c)) out; catalogue = then })).answer
+        → Tellable (cond t (refusing (Err AfterEnd) c) (record { answer = told_by 0 (last_line (line_so_far c)) out; catalogue = then })).answer
     by-test true then = near (omega arith) (omega arith) (omega arith)
     by-test false then = told-short 0 (last_line (line_so_far c)) out (omega arith)
 

@@ -9,8 +9,8 @@ ghost use Rattle.catalogue_numbers.specs.Catalogues.{catalogue_in, put_back, sai
 ghost use Rattle.answer_numbers.specs.Packing.{packed, mapped};
 
 use answer_numbers::refused;
-use catalogue::{Answer, Catalogue, Step};
-use record_writing::SymbolRecord;
+use catalogue::{Catalogue, Progress, Refusal, Step};
+use record_writing::Unwritten;
 
 pub fn start(state: &mut [u8]) -> u64
     ensures { (result ≡ packed (start_answer state.old)) × (state.new ≡ start_state state.old) }
@@ -94,26 +94,26 @@ fn put_back(state: &mut [u8], catalogue: Catalogue)
 }
 
 // The bytes that were taken, and above them what is said of the line.
-fn answered(answer: Answer) -> u64
+fn answered(answer: Result<Progress, Refusal>) -> u64
     requires { Tellable answer }
     ensures { result ≡ packed (mapped step_number (catalogue_answer answer)) }
 {
     match answer {
-        Answer::NoLine(taken) => taken as u64,
-        Answer::Told(taken, written) => taken as u64 + 65536 * said(written),
-        Answer::LongPiece => refused(45, 0),
-        Answer::AfterEnd => refused(46, 0),
+        Ok(Progress::NoLine(taken)) => taken as u64,
+        Ok(Progress::Told(taken, written)) => taken as u64 + 65536 * said(written),
+        Err(Refusal::LongPiece) => refused(45, 0),
+        Err(Refusal::AfterEnd) => refused(46, 0),
     }
 }
 
-fn said(written: SymbolRecord) -> u64
+fn said(written: Result<usize, Unwritten<symbol_group::refusal::Refusal>>) -> u64
     requires { Short (line (symbol_record_answer written)) }
     ensures { result ≡ said_number (line (symbol_record_answer written)) }
 {
     match written {
-        SymbolRecord::Written(n) => n as u64 + 1,
-        SymbolRecord::NoRoom => 5121,
-        SymbolRecord::Refused(refusal) => {
+        Ok(n) => n as u64 + 1,
+        Err(Unwritten::NoRoom) => 5121,
+        Err(Unwritten::Refused(refusal)) => {
             (refusal.number() as u64) * 256 + refusal.place() as u64 + 1
         }
     }

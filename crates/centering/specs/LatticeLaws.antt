@@ -1,8 +1,7 @@
 -- What the answers of this room say of L, a set of integer vectors; and that a letter is told by its byte and by its L.
-use Rattle.std.specs.Prelude.{◌≡◌, refl, ◌↔◌, Bool, true, false, cond, ◌&&◌, ◌||◌, not, ℕ, ◌<◌, T, eqb, ltb}
+use Rattle.std.specs.Prelude.{◌≡◌, refl, ◌↔◌, Bool, true, false, cond, ◌&&◌, ◌||◌, not, ℕ, ◌<◌, T, eqb, ltb, Some}
 use Rattle.std.proofs.Common.{sym, ◌∙◌, ap, inl, inr, arith, T_not, eqb→eq, eqb-true, ltb-true}
 use Rattle.std.proofs.Math.Bool.{and-eq-true_iff}
-use mathlib.Core.List.Memᴰ.{cases_cons as cases}
 use mathlib.Core.List.Memᴰ.{cast as mem-cast}
 use mathlib.Core.List.Memᴰ.{head as here}
 use mathlib.Core.List.Memᴰ.{tail as there}
@@ -17,7 +16,6 @@ use Rattle.operation.specs.declared.Translation.{Translation}
 use Rattle.centering.specs.Letters.{letters, byte_of, points_of, letter_of, letter_among}
 use Rattle.centering.specs.Lattices.{listed, points, triple_of, translation_of, contains_of, congruent_of, smallest_of}
 use Rattle.centering.specs.declared.Centering.{Centering}
-use Rattle.centering.specs.declared.Letter.TheVariants.{Is}
 
 point-test : (c : Centering) (t : Triple) → (has same_triple t (points_of c) ≡ true) ↔ Mem t (points_of c)
 point-test c t = (
@@ -66,25 +64,25 @@ at_each f g (b ∷ l) e a (here p) = ap f p ∙ (cc) ∙ ap g (sym p)
 at_each f g (b ∷ l) e a (there m) = at_each f g l (cc) a m
 at_each {A = A} {B = B} f g [] e a x'' = elim x'' [ ]
 
-letters-by-byte : map (λ c. letter_of (byte_of c)) letters ≡ map Is letters
+letters-by-byte : map (λ c. letter_of (byte_of c)) letters ≡ map Some letters
 unfolding letter_of letter_among
 letters-by-byte = refl
 
 -- A letter's byte spells it, so letters with one byte are one letter.
-pub letter-by-byte : (c : Centering) → letter_of (byte_of c) ≡ Is c
-letter-by-byte c = at_each (λ c. letter_of (byte_of c)) Is letters letters-by-byte c (listed c)
+pub letter-by-byte : (c : Centering) → letter_of (byte_of c) ≡ Some c
+letter-by-byte c = at_each (λ c. letter_of (byte_of c)) Some letters letters-by-byte c (listed c)
 
 -- The way back: a byte that spells a letter among some is that letter's.
-pub among-byte : (b : ℕ) (cs : List Centering) (c : Centering) → letter_among b cs ≡ Is c → b ≡ byte_of c
+pub among-byte : (b : ℕ) (cs : List Centering) (c : Centering) → letter_among b cs ≡ Some c → b ≡ byte_of c
 unfolding letter_among
 among-byte b [] c h = let z : ◌≡◌ {A = ℕ} 0 1 = cc in absurd (omega arith)
 among-byte b (d ∷ cs) c h = go (eqb b (byte_of d)) refl h (among-byte b cs c)
   where
-    go : (t : Bool) → eqb b (byte_of d) ≡ t → cond t (Is d) (letter_among b cs) ≡ Is c → (letter_among b cs ≡ Is c → b ≡ byte_of c) → b ≡ byte_of c
+    go : (t : Bool) → eqb b (byte_of d) ≡ t → cond t (Some d) (letter_among b cs) ≡ Some c → (letter_among b cs ≡ Some c → b ≡ byte_of c) → b ≡ byte_of c
     go true e k r = let same : d ≡ c = cc in eqb-true b (byte_of d) e ∙ ap byte_of same
     go false e k r = r k
 
-pub letter-byte : (b : ℕ) (c : Centering) → letter_of b ≡ Is c → b ≡ byte_of c
+pub letter-byte : (b : ℕ) (c : Centering) → letter_of b ≡ Some c → b ≡ byte_of c
 unfolding letter_of
 letter-byte b c h = among-byte b letters c h
 
@@ -102,7 +100,7 @@ letter-capital c =
 
 pub byte-injective : (c d : Centering) → byte_of c ≡ byte_of d → c ≡ d
 byte-injective c d e =
-    let same : Is c ≡ Is d = sym (letter-by-byte c) ∙ ap letter_of e ∙ letter-by-byte d in
+    let same : Some c ≡ Some d = sym (letter-by-byte c) ∙ ap letter_of e ∙ letter-by-byte d in
     cc
 
 -- Different letters have a point that tells them apart: one test over all pairs.

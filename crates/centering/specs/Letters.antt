@@ -1,10 +1,8 @@
 -- The letters and their centring points in twelfths, as R3.4 lists them: the one place where a letter is data.
-use Rattle.std.specs.Prelude.{cond, List, [], ◌∷◌, ℕ, eqb}
+use Rattle.std.specs.Prelude.{cond, List, [], ◌∷◌, ℕ, eqb, None, Option, Some}
 use Rattle.laws.specs.Residue.{Triple}
 use Rattle.centering.specs.declared.Centering.{Centering}
 use Rattle.centering.specs.declared.Centering.TheVariants.{P, A, B, C, I, R, F, H}
-use Rattle.centering.specs.declared.Letter.{Letter}
-use Rattle.centering.specs.declared.Letter.TheVariants.{Is, None}
 
 abbrev pub point : ℕ → ℕ → ℕ → Triple
 point a b c = record { x = a; y = b; z = c }
@@ -36,9 +34,9 @@ abbrev pub letters : List Centering
 letters = P ∷ A ∷ B ∷ C ∷ I ∷ R ∷ F ∷ H ∷ []
 
 -- The letter among some that a byte spells.
-unfoldable pub letter_among : ℕ → List Centering → Letter
+unfoldable pub letter_among : ℕ → List Centering → Option Centering
 letter_among b [] = None
-letter_among b (c ∷ cs) = cond (eqb b (byte_of c)) (Is c) (letter_among b cs)
+letter_among b (c ∷ cs) = cond (eqb b (byte_of c)) (Some c) (letter_among b cs)
 
-unfoldable pub letter_of : ℕ → Letter
+unfoldable pub letter_of : ℕ → Option Centering
 letter_of b = letter_among b letters

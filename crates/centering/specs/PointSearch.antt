@@ -1,9 +1,11 @@
 -- What the code's four tests for a point say: the points are filled up to four with (0,0,0), so the tests find a point exactly if there is one.
-use Rattle.std.specs.Prelude.{◌≡◌, refl, true, false, List, [], ◌∷◌, map, ℕ, zero, suc, min, ◌<◌, T, eqb, get_or}
+use Rattle.std.specs.Prelude.{◌≡◌, refl, Bool, true, false, ◌&&◌, ◌||◌, List, [], ◌∷◌, map, ℕ, zero, suc, min, ◌-◌, ◌<◌, T, eqb, get_or, take, drop}
+use Rattle.std.specs.List.{list_any, list_all}
 use Rattle.std.proofs.Math.Path.{sym, ap}
-use Rattle.std.proofs.Common.{◌∙◌, arith, eq-eqb, eqb→eq}
+use Rattle.std.proofs.Common.{◌∙◌, ◌+◌, add-one, arith, eq-eqb, ne_eqb, eqb-true, eqb→eq, true≢false}
 use Rattle.std.proofs.Math.Bool.{or-false}
 use Rattle.std.proofs.Math.ListN.{length}
+use Rattle.std.proofs.Math.Seq.{drop-cons, drop-length}
 use Rattle.laws.specs.Residue.{Triple, ◌⊕◌, ⊕-reduced}
 use Rattle.laws.specs.Distinct.{has}
 use Rattle.laws.specs.Lattice.{same_triple, filled, has-filled-same, rank, unrank, rank_lt, least_rank, smallest, smallest-filled}
@@ -12,6 +14,7 @@ use Rattle.operation.specs.declared.Translation.{Translation}
 use Rattle.centering.specs.Letters.{letters, points_of}
 use Rattle.centering.specs.Lattices.{listed, points, triple_of, translation_of, lattice_points_of, smallest_of}
 use Rattle.centering.specs.declared.Centering.{Centering}
+use Rattle.centering.specs.declared.Centering.TheVariants.{P, A, B, C, I, R, F, H}
 use Rattle.centering.specs.declared.LatticePoints.{LatticePoints}
 
 -- Two triples that agree in x and y are the same exactly if they agree in z.
@@ -105,3 +108,94 @@ module _ (c : Centering) (r : LatticePoints) (answer : r ≡ lattice_points_of c
     where
       whole : unrank (least_rank (map triple_of r.points) (triple_of t)) ≡ smallest (points_of c) (triple_of t)
       whole = ap (λ (p : LatticePoints). unrank (least_rank (map triple_of p.points) (triple_of t))) answer ∙ smallest-points c (triple_of t)
+
+-- ---- the library's searches through the points
+eqb-flipped : (a b : ℕ) → eqb a b ≡ eqb b a
+eqb-flipped a b = go (eqb a b) refl
+  where
+    go : (t : Bool) → eqb a b ≡ t → eqb a b ≡ eqb b a
+    go true e = e ∙ sym (eq-eqb b a (sym (eqb-true a b e)))
+    go false e = e ∙ sym (ne_eqb b a (λ h. true≢false (sym (eq-eqb a b (sym h)) ∙ e)))
+
+-- Two translations are equal exactly if their triples are.
+pub same-flipped : (s t : Translation) → (eqb s.x t.x && (eqb s.y t.y && eqb s.z t.z)) ≡ same_triple (triple_of t) (triple_of s)
+unfolding same_triple
+same-flipped s t = rw (eqb-flipped s.x t.x, eqb-flipped s.y t.y, eqb-flipped s.z t.z)
+
+any-has : (same : Translation → Bool) (u : Triple) → ((s : Translation) → same s ≡ same_triple u (triple_of s)) → (l : List Translation)
+    → list_any same l ≡ has same_triple u (map triple_of l)
+unfolding has
+any-has same u e [] = refl
+any-has same u e (s ∷ l) = rw (e s) (ap (λ (b : Bool). same_triple u (triple_of s) || b) (any-has same u e l))
+
+-- Each point passes exactly if its triple does.
+pub all-points : (test : Translation → Bool) (pass : Triple → Bool) → ((s : Translation) → test s ≡ pass (triple_of s)) → (l : List Translation)
+    → list_all test l ≡ all pass (map triple_of l)
+unfolding all
+all-points test pass e [] = refl
+all-points test pass e (s ∷ l) = rw (e s) (ap (λ (b : Bool). pass (triple_of s) && b) (all-points test pass e l))
+
+-- The points behind the first, and no more than there are.
+pub others-listed : (c : Centering) → map triple_of (take ((lattice_points_of c).count - 1) (drop 1 (lattice_points_of c).points)) ≡ drop 1 (points_of c)
+unfolding lattice_points_of filled
+others-listed P = refl
+others-listed A = refl
+others-listed B = refl
+others-listed C = refl
+others-listed I = refl
+others-listed R = refl
+others-listed F = refl
+others-listed H = refl
+
+module _ (c : Centering) (r : LatticePoints) (answer : r ≡ lattice_points_of c) where
+  pub found-among : (same : Translation → Bool) (t : Translation) → ((s : Translation) → same s ≡ same_triple (triple_of t) (triple_of s))
+      → list_any same r.points ≡ has same_triple (triple_of t) (points_of c)
+  found-among same t e =
+      any-has same (triple_of t) e r.points ∙ ap (λ (p : LatticePoints). has same_triple (triple_of t) (map triple_of p.points)) answer
+      ∙ among-points c (triple_of t)
+
+  pub others-pass : (test : Translation → Bool) (pass : Triple → Bool) → ((s : Translation) → test s ≡ pass (triple_of s))
+      → list_all test (take (r.count - 1) (drop 1 r.points)) ≡ all pass (drop 1 (points_of c))
+  others-pass test pass e =
+      all-points test pass e (take (r.count - 1) (drop 1 r.points))
+      ∙ ap (λ (p : LatticePoints). all pass (map triple_of (take (p.count - 1) (drop 1 p.points)))) answer ∙ ap (all pass) (others-listed c)
+
+  -- What is left behind the first point, as the loop sees it.
+  pub rest-listed : take 3 (drop 1 r.points) ≡ drop 1 (lattice_points_of c).points
+  unfolding lattice_points_of filled
+  rest-listed = ap (λ (p : LatticePoints). take 3 (drop 1 p.points)) answer ∙ three c
+    where
+      three : (c : Centering) → take 3 (drop 1 (lattice_points_of c).points) ≡ drop 1 (lattice_points_of c).points
+      three P = refl
+      three A = refl
+      three B = refl
+      three C = refl
+      three I = refl
+      three R = refl
+      three F = refl
+      three H = refl
+
+-- ---- the least rank, a point at a time
+pub least-first : (c : Centering) (u : Triple) (d : Translation) → min (rank (u ⊕ triple_of (get_or (lattice_points_of c).points 0 d)))
+    (least_rank (map triple_of (drop 1 (lattice_points_of c).points)) u) ≡ least_rank (map triple_of (lattice_points_of c).points) u
+unfolding least_rank
+least-first c u d = go (lattice_points_of c).points (four-points c)
+  where
+    go : (l : List Translation) → length l ≡ 4
+        → min (rank (u ⊕ triple_of (get_or l 0 d))) (least_rank (map triple_of (drop 1 l)) u) ≡ least_rank (map triple_of l) u
+    go [] h = absurd (omega arith)
+    go (p ∷ l) h = refl
+
+pub least-next : (l : List Translation) (u : Triple) (i : ℕ) → i < length l → least_rank (map triple_of (drop i l)) u
+    ≡ min (rank (u ⊕ triple_of (get_or l i (record { x = 0; y = 0; z = 0 })))) (least_rank (map triple_of (drop (i + 1) l)) u)
+unfolding least_rank
+least-next l u i h = rw (add-one i, drop-cons l i (record { x = 0; y = 0; z = 0 }))
+
+pub least_end : (l : List Translation) (u : Triple) → least_rank (map triple_of (drop (length l) l)) u ≡ 1728
+unfolding least_rank
+least_end l u = rw drop-length
+
+pub least-smallest : (c : Centering) (t : Translation) (n : ℕ) → n ≡ least_rank (map triple_of (lattice_points_of c).points) (triple_of t)
+    → translation_of (unrank n) ≡ smallest_of c t
+unfolding smallest_of
+least-smallest c t n e = ap translation_of (ap unrank e ∙ smallest-points c (triple_of t))

@@ -2,7 +2,7 @@
 // Ported from data/centering.rs of moyo 0.21.0 (`Centering`, `lattice_points`), and changed: points in twelfths, no primitive cells.
 #![tactic(auto)]
 
-ghost use Rattle.std.specs.Prelude.{◌≡◌, min, ◌<◌};
+ghost use Rattle.std.specs.Prelude.{◌≡◌, ◌<◌, ◌≤◌};
 ghost use Rattle.laws.specs.Distinct.{has};
 ghost use Rattle.laws.specs.Lattice.{same_triple, rank, unrank};
 ghost use Rattle.laws.specs.Residue.{◌⊕◌};
@@ -29,14 +29,8 @@ pub enum Centering {
     H,
 }
 
-// The letter that a byte spells, if it spells one.
-#[derive(Clone, Copy)]
-pub enum Letter {
-    Is(Centering),
-    None,
-}
-
 // The points of a letter, count of them; the rest of the four is (0,0,0) again.
+// `lattice_points` is public and answers this by its clause, so a count stands beside an array.
 #[derive(Clone, Copy)]
 pub struct LatticePoints {
     pub count: usize,
@@ -46,19 +40,20 @@ pub struct LatticePoints {
 const ORIGIN: Translation = Translation { x: 0, y: 0, z: 0 };
 
 impl Centering {
-    pub fn from_byte(byte: u8) -> Letter
+    #[tactic(auto, unfolding(crate::specs::Letters::letter_of, crate::specs::Letters::letter_among))]
+    pub fn from_byte(byte: u8) -> Option<Centering>
         ensures { result ≡ letter_of byte }
     {
         match byte {
-            b'P' => Letter::Is(Centering::P),
-            b'A' => Letter::Is(Centering::A),
-            b'B' => Letter::Is(Centering::B),
-            b'C' => Letter::Is(Centering::C),
-            b'I' => Letter::Is(Centering::I),
-            b'R' => Letter::Is(Centering::R),
-            b'F' => Letter::Is(Centering::F),
-            b'H' => Letter::Is(Centering::H),
-            _ => Letter::None,
+            b'P' => Some(Centering::P),
+            b'A' => Some(Centering::A),
+            b'B' => Some(Centering::B),
+            b'C' => Some(Centering::C),
+            b'I' => Some(Centering::I),
+            b'R' => Some(Centering::R),
+            b'F' => Some(Centering::F),
+            b'H' => Some(Centering::H),
+            _ => None,
         }
     }
 
@@ -77,8 +72,10 @@ impl Centering {
         }
     }
 
+    #[tactic(auto, unfolding(crate::specs::Lattices::lattice_points_of, laws::specs::Lattice::filled))]
     pub fn lattice_points(self) -> LatticePoints
-        ensures { result ≡ lattice_points_of self }
+        ensures points { result ≡ lattice_points_of self }
+        ensures counted { (1 ≤ result.count) × (result.count ≤ 4) }
     {
         match self {
             Centering::P => LatticePoints {
@@ -139,12 +136,12 @@ impl Centering {
     }
 
     // Whether a rotation has its entries in −1..1 and maps the lattice onto itself.
+    #[tactic(auto, unfolding(crate::specs::Keeps::keeps_of))]
     pub fn keeps(self, r: Rotation) -> bool
         ensures { result ≡ keeps_of self r }
     {
         match identify_handedness(r) {
-            Handedness::Proper => keeps_points(self, r),
-            Handedness::Improper => keeps_points(self, r),
+            Handedness::Proper | Handedness::Improper => keeps_points(self, r),
             Handedness::Neither => false,
         }
     }
@@ -153,13 +150,12 @@ impl Centering {
     pub fn smallest(self, t: Translation) -> Translation
         ensures { result ≡ smallest_of self t }
     {
-        let found = self.lattice_points();
-        let points = found.points;
-        let first = moved_rank(t, points[0]);
-        let second = moved_rank(t, points[1]);
-        let third = moved_rank(t, points[2]);
-        let fourth = moved_rank(t, points[3]);
-        of_rank(lesser(first, lesser(second, lesser(third, fourth))))
+        let points = self.lattice_points().points;
+        let mut least = moved_rank(t, points[0]);
+        for point in &points[1..] {
+            least = least.min(moved_rank(t, *point));
+        }
+        of_rank(least)
     }
 
     // Whether two translations are in one class modulo the lattice.
@@ -168,18 +164,6 @@ impl Centering {
     {
         is_point(self, difference(s, t))
     }
-}
-
-fn same(s: Translation, t: Translation) -> bool
-    ensures { result ≡ same_triple (triple_of s) (triple_of t) }
-{
-    if s.x != t.x {
-        return false;
-    }
-    if s.y != t.y {
-        return false;
-    }
-    s.z == t.z
 }
 
 // s − t modulo 12: −1 is 11.
@@ -196,18 +180,7 @@ fn difference(s: Translation, t: Translation) -> Translation
 fn is_point(c: Centering, t: Translation) -> bool
     ensures { result ≡ has same_triple (triple_of t) (points_of c) }
 {
-    let found = c.lattice_points();
-    let points = found.points;
-    if same(t, points[0]) {
-        return true;
-    }
-    if same(t, points[1]) {
-        return true;
-    }
-    if same(t, points[2]) {
-        return true;
-    }
-    same(t, points[3])
+    c.lattice_points().points.contains(&t)
 }
 
 // Whether a rotation takes points to points. The first point is (0,0,0), which stays.
@@ -215,16 +188,8 @@ fn keeps_points(c: Centering, r: Rotation) -> bool
     ensures { result ≡ keeps_points (points_of c) (matrix_of r) }
 {
     let found = c.lattice_points();
-    let count = found.count;
-    let points = found.points;
-    let mut i = 1usize;
-    while i < count {
-        if !c.contains(rotated(r, points[i])) {
-            return false;
-        }
-        i += 1;
-    }
-    true
+    let others = &found.points[1..found.count];
+    others.iter().all(|p| c.contains(rotated(r, *p)))
 }
 
 // The rank of t + p modulo 12: triples below 12 compare as their ranks do, x first.
@@ -237,15 +202,7 @@ fn moved_rank(t: Translation, p: Translation) -> u32
     x * 144 + y * 12 + z
 }
 
-fn lesser(a: u32, b: u32) -> u32
-    ensures { result ≡ min a b }
-{
-    if a < b {
-        return a;
-    }
-    b
-}
-
+#[tactic(auto, unfolding(laws::specs::Lattice::unrank))]
 fn of_rank(rank: u32) -> Translation
     requires { rank < 1728 }
     ensures { result ≡ translation_of (unrank rank) }

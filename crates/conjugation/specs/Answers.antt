@@ -1,5 +1,5 @@
 -- What is answered on a subgroup of a table's group: its conjugates, its normalizer, and the permutations of its members.
-use Rattle.std.specs.Prelude.{cond, List, ◌++◌, ℕ, eqb, ltb, length, drop, replicate}
+use Rattle.std.specs.Prelude.{cond, List, ◌++◌, ℕ, eqb, ltb, length, drop, replicate, Err, Ok, Result}
 use Rattle.std.specs.Int.Count.{ones}
 use Rattle.subgroup_laws.specs.Conjugates.{conjugates_of, conjugators_of}
 use Rattle.subgroup_laws.specs.Permutations.{permutation_of}
@@ -9,19 +9,17 @@ use Rattle.subgroup_laws.specs.Table.{product}
 use Rattle.conjugation.specs.LentConjugates.{too_short}
 use Rattle.table_check.specs.OnGroup.{on_group, on_bytes}
 use Rattle.table_check.specs.CheckAnswers.{check_of}
-use Rattle.table_check.specs.declared.Answer.{Answer}
-use Rattle.table_check.specs.declared.Answer.TheVariants.{Value, Refused}
 use Rattle.table_check.specs.declared.Refusal.{Refusal}
 use Rattle.table_check.specs.declared.Refusal.TheVariants.{Slots, Subgroup, Element, Normalizer}
 
 -- the conjugate of a subgroup: 27 goes before 28
-unfoldable pub conjugate_answer : ℕ → (ℕ → ℕ → ℕ) → ℕ → ℕ → ℕ → Answer
+unfoldable pub conjugate_answer : ℕ → (ℕ → ℕ → ℕ) → ℕ → ℕ → ℕ → Result ℕ Refusal
 conjugate_answer n times e s g =
-    cond (is_subgroup n times e s) (cond (ltb g n) (Value (conjugate_of n times e s g)) (Refused Element)) (Refused Subgroup)
+    cond (is_subgroup n times e s) (cond (ltb g n) (Ok (conjugate_of n times e s g)) (Err Element)) (Err Subgroup)
 
 -- the normalizer of a subgroup
-unfoldable pub normalizer_answer : ℕ → (ℕ → ℕ → ℕ) → ℕ → ℕ → Answer
-normalizer_answer n times e s = cond (is_subgroup n times e s) (Value (normalizer_of n times e s)) (Refused Subgroup)
+unfoldable pub normalizer_answer : ℕ → (ℕ → ℕ → ℕ) → ℕ → ℕ → Result ℕ Refusal
+normalizer_answer n times e s = cond (is_subgroup n times e s) (Ok (normalizer_of n times e s)) (Err Subgroup)
 
 -- one of three for each way that a permutation is not asked for rightly, or what follows
 abbrev pub of_normalizer : {A : Type 0} → ℕ → (ℕ → ℕ → ℕ) → ℕ → ℕ → ℕ → (Refusal → A) → A → A
@@ -29,8 +27,8 @@ of_normalizer n times e s g refuse answer =
     cond (is_subgroup n times e s) (cond (ltb g n) (cond (eqb (conjugate_of n times e s g) s) answer (refuse Normalizer)) (refuse Element)) (refuse Subgroup)
 
 -- the permutation by an element of the normalizer: 27 to 29 go before 26
-unfoldable pub permutation_answer : ℕ → (ℕ → ℕ → ℕ) → ℕ → ℕ → ℕ → List ℕ → Answer
-permutation_answer n times e s g b = of_normalizer n times e s g Refused (cond (ltb (length b) (ones s)) (Refused Slots) (Value (ones s)))
+unfoldable pub permutation_answer : ℕ → (ℕ → ℕ → ℕ) → ℕ → ℕ → ℕ → List ℕ → Result ℕ Refusal
+permutation_answer n times e s g b = of_normalizer n times e s g Err (cond (ltb (length b) (ones s)) (Err Slots) (Ok (ones s)))
 
 -- what the lent list holds then: the positions, or zeros
 unfoldable pub permutation_bytes : ℕ → (ℕ → ℕ → ℕ) → ℕ → ℕ → ℕ → List ℕ → List ℕ
@@ -38,15 +36,15 @@ permutation_bytes n times e s g b =
     of_normalizer n times e s g (λ r. b) (cond (ltb (length b) (ones s)) (replicate (length b) 0) (permutation_of n times e s g ++ drop (ones s) b))
 
 -- the same on the group of a table
-abbrev pub conjugate_entry : ℕ → List ℕ → ℕ → ℕ → Answer
+abbrev pub conjugate_entry : ℕ → List ℕ → ℕ → ℕ → Result ℕ Refusal
 conjugate_entry n t s g = on_group (check_of n t) (λ e. conjugate_answer n (product n t) e s g)
 
 -- the normalizer on the group of a table
-abbrev pub normalizer_entry : ℕ → List ℕ → ℕ → Answer
+abbrev pub normalizer_entry : ℕ → List ℕ → ℕ → Result ℕ Refusal
 normalizer_entry n t s = on_group (check_of n t) (λ e. normalizer_answer n (product n t) e s)
 
 -- the permutation on the group of a table
-abbrev pub permutation_entry : ℕ → List ℕ → ℕ → ℕ → List ℕ → Answer
+abbrev pub permutation_entry : ℕ → List ℕ → ℕ → ℕ → List ℕ → Result ℕ Refusal
 permutation_entry n t s g b = on_group (check_of n t) (λ e. permutation_answer n (product n t) e s g b)
 
 -- and what the lent list holds then
@@ -54,9 +52,9 @@ abbrev pub permutation_list : ℕ → List ℕ → ℕ → ℕ → List ℕ → 
 permutation_list n t s g b = on_bytes (check_of n t) b (λ e. permutation_bytes n (product n t) e s g b)
 
 -- the conjugates of a subgroup: 27 goes before 26
-unfoldable pub conjugates_answer : ℕ → (ℕ → ℕ → ℕ) → ℕ → ℕ → List ℕ → List ℕ → Answer
+unfoldable pub conjugates_answer : ℕ → (ℕ → ℕ → ℕ) → ℕ → ℕ → List ℕ → List ℕ → Result ℕ Refusal
 conjugates_answer n times e s b c =
-    cond (is_subgroup n times e s) (cond (too_short n times e s b c) (Refused Slots) (Value (length (conjugates_of n times e s)))) (Refused Subgroup)
+    cond (is_subgroup n times e s) (cond (too_short n times e s b c) (Err Slots) (Ok (length (conjugates_of n times e s)))) (Err Subgroup)
 
 -- what the list of sets holds then
 unfoldable pub conjugates_bytes : ℕ → (ℕ → ℕ → ℕ) → ℕ → ℕ → List ℕ → List ℕ → List ℕ
@@ -71,7 +69,7 @@ conjugators_bytes n times e s b c =
     c
 
 -- the same on the group of a table
-abbrev pub conjugates_entry : ℕ → List ℕ → ℕ → List ℕ → List ℕ → Answer
+abbrev pub conjugates_entry : ℕ → List ℕ → ℕ → List ℕ → List ℕ → Result ℕ Refusal
 conjugates_entry n t s b c = on_group (check_of n t) (λ e. conjugates_answer n (product n t) e s b c)
 
 -- and what the list of sets holds then

@@ -9,29 +9,29 @@ ghost use Rattle.conjugation.specs.Answers.{conjugate_entry, normalizer_entry, p
 use conjugate_list::conjugates_in;
 use permutation::permutation_in;
 use subgroup::{conjugate_in, normalizer_in};
-use table_check::{Answer, Checked, from_table};
+use table_check::{Refusal, from_table};
 
 mod conjugate_list;
 mod permutation;
 mod subgroup;
 
 // The conjugate g⁻¹ H g of a subgroup.
-pub fn conjugate(n: usize, table: &[u8], set: u64, element: usize) -> Answer
+pub fn conjugate(n: usize, table: &[u8], set: u64, element: usize) -> Result<u64, Refusal>
     ensures { result ≡ conjugate_entry n table.now set element }
 {
     match from_table(n, table) {
-        Checked::Group(e) => conjugate_in(table, n, e, set, element),
-        Checked::NoGroup(r) => Answer::Refused(r),
+        Ok(e) => conjugate_in(table, n, e, set, element),
+        Err(r) => Err(r),
     }
 }
 
 // The elements that conjugate a subgroup to itself, as a set.
-pub fn normalizer(n: usize, table: &[u8], set: u64) -> Answer
+pub fn normalizer(n: usize, table: &[u8], set: u64) -> Result<u64, Refusal>
     ensures { result ≡ normalizer_entry n table.now set }
 {
     match from_table(n, table) {
-        Checked::Group(e) => normalizer_in(table, n, e, set),
-        Checked::NoGroup(r) => Answer::Refused(r),
+        Ok(e) => normalizer_in(table, n, e, set),
+        Err(r) => Err(r),
     }
 }
 
@@ -42,13 +42,13 @@ pub fn normalizer_action(
     set: u64,
     element: usize,
     positions: &mut [u8],
-) -> Answer
+) -> Result<u64, Refusal>
     ensures { (result ≡ permutation_entry n table.now set element positions.old)
         × (positions.new ≡ permutation_list n table.now set element positions.old) }
 {
     match from_table(n, table) {
-        Checked::Group(e) => permutation_in(positions, table, n, e, set, element),
-        Checked::NoGroup(r) => Answer::Refused(r),
+        Ok(e) => permutation_in(positions, table, n, e, set, element),
+        Err(r) => Err(r),
     }
 }
 
@@ -60,13 +60,13 @@ pub fn conjugates(
     set: u64,
     sets: &mut [u8],
     conjugators: &mut [u8],
-) -> Answer
+) -> Result<u64, Refusal>
     ensures { (result ≡ conjugates_entry n table.now set sets.old conjugators.old)
         × (sets.new ≡ conjugates_list n table.now set sets.old conjugators.old)
         × (conjugators.new ≡ conjugators_list n table.now set sets.old conjugators.old) }
 {
     match from_table(n, table) {
-        Checked::Group(e) => conjugates_in(sets, conjugators, table, n, e, set),
-        Checked::NoGroup(r) => Answer::Refused(r),
+        Ok(e) => conjugates_in(sets, conjugators, table, n, e, set),
+        Err(r) => Err(r),
     }
 }

@@ -8,8 +8,7 @@ ghost use Rattle.conjugation.specs.Answers.{permutation_answer, permutation_byte
 
 use super::subgroup::{cell, is_subgroup};
 use element_sets::sets::contains;
-use element_sets::slots::clear;
-use table_check::{Answer, Refusal};
+use table_check::Refusal;
 use table_products::{conjugate_set, inverse};
 
 // A member's position: how many members are lower.
@@ -27,16 +26,12 @@ fn permute(list: &mut [u8], t: &[u8], n: usize, e: usize, s: u64, g: usize)
 {
     let back = inverse(t, n, e, g);
     let mut i = 0usize;
-    let mut x = 0usize;
-    while x < n {
-        if !contains(s, x) {
-            x += 1;
-            continue;
+    for x in 0..n {
+        if contains(s, x) {
+            let y = cell(t, n, cell(t, n, back, x), g);
+            list[i] = position(s, y);
+            i += 1;
         }
-        let y = cell(t, n, cell(t, n, back, x), g);
-        list[i] = position(s, y);
-        i += 1;
-        x += 1;
     }
 }
 
@@ -47,26 +42,25 @@ pub(crate) fn permutation_in(
     e: usize,
     s: u64,
     g: usize,
-) -> Answer
+) -> Result<u64, Refusal>
     requires { GroupTable n t.now e }
     ensures { (result ≡ permutation_answer n (product n t.now) e s g list.old)
         × (list.new ≡ permutation_bytes n (product n t.now) e s g list.old) }
 {
     if !is_subgroup(t, n, e, s) {
-        return Answer::Refused(Refusal::Subgroup);
+        return Err(Refusal::Subgroup);
     }
     if n <= g {
-        return Answer::Refused(Refusal::Element);
+        return Err(Refusal::Element);
     }
     if conjugate_set(t, n, e, s, g) != s {
-        return Answer::Refused(Refusal::Normalizer);
+        return Err(Refusal::Normalizer);
     }
     let count = u64::count_ones(s) as usize;
     if list.len() < count {
-        let all = list.len();
-        clear(list, all);
-        return Answer::Refused(Refusal::Slots);
+        list.fill(0);
+        return Err(Refusal::Slots);
     }
     permute(list, t, n, e, s, g);
-    Answer::Value(count as u64)
+    Ok(count as u64)
 }

@@ -7,7 +7,7 @@ ghost use Rattle.subgroup_laws.specs.Table.{product, Cells, GroupTable};
 ghost use Rattle.conjugation.specs.Answers.{conjugate_answer, normalizer_answer};
 
 use element_sets::sets::contains;
-use table_check::{Answer, Refusal};
+use table_check::Refusal;
 use table_products::conjugate_set;
 
 // The product of i and j.
@@ -23,10 +23,7 @@ fn holds_product(t: &[u8], n: usize, s: u64, x: usize, y: usize) -> bool
     requires { (Cells n t.now) × (x < n) × (y < n) }
     ensures { result ≡ cond (member s y) (member s (product n t.now x y)) true }
 {
-    if !contains(s, y) {
-        return true;
-    }
-    contains(s, cell(t, n, x, y))
+    !contains(s, y) || contains(s, cell(t, n, x, y))
 }
 
 // Whether s holds the products of x and its members.
@@ -34,12 +31,10 @@ fn holds_row(t: &[u8], n: usize, s: u64, x: usize) -> bool
     requires { (Cells n t.now) × (x < n) }
     ensures { result ≡ holds_row n (product n t.now) s x }
 {
-    let mut y = 0usize;
-    while y < n {
+    for y in 0..n {
         if !holds_product(t, n, s, x, y) {
             return false;
         }
-        y += 1;
     }
     true
 }
@@ -49,28 +44,20 @@ fn holds_products(t: &[u8], n: usize, s: u64, x: usize) -> bool
     requires { (Cells n t.now) × (x < n) }
     ensures { result ≡ cond (member s x) (holds_row n (product n t.now) s x) true }
 {
-    if !contains(s, x) {
-        return true;
-    }
-    holds_row(t, n, s, x)
+    !contains(s, x) || holds_row(t, n, s, x)
 }
 
 pub(crate) fn is_subgroup(t: &[u8], n: usize, e: usize, s: u64) -> bool
     requires { (Cells n t.now) × (e < n) }
     ensures { result ≡ is_subgroup n (product n t.now) e s }
 {
-    if (1u64 << n) <= s {
+    if 1u64 << n <= s || !contains(s, e) {
         return false;
     }
-    if !contains(s, e) {
-        return false;
-    }
-    let mut x = 0usize;
-    while x < n {
+    for x in 0..n {
         if !holds_products(t, n, s, x) {
             return false;
         }
-        x += 1;
     }
     true
 }
@@ -81,35 +68,33 @@ fn normalizer_set(t: &[u8], n: usize, e: usize, s: u64) -> u64
     ensures { result ≡ normalizer_of n (product n t.now) e s }
 {
     let mut found = 0u64;
-    let mut g = 0usize;
-    while g < n {
+    for g in 0..n {
         if conjugate_set(t, n, e, s, g) == s {
             found += 1u64 << g;
         }
-        g += 1;
     }
     found
 }
 
-pub(crate) fn conjugate_in(t: &[u8], n: usize, e: usize, s: u64, g: usize) -> Answer
+pub(crate) fn conjugate_in(t: &[u8], n: usize, e: usize, s: u64, g: usize) -> Result<u64, Refusal>
     requires { GroupTable n t.now e }
     ensures { result ≡ conjugate_answer n (product n t.now) e s g }
 {
     if !is_subgroup(t, n, e, s) {
-        return Answer::Refused(Refusal::Subgroup);
+        return Err(Refusal::Subgroup);
     }
     if n <= g {
-        return Answer::Refused(Refusal::Element);
+        return Err(Refusal::Element);
     }
-    Answer::Value(conjugate_set(t, n, e, s, g))
+    Ok(conjugate_set(t, n, e, s, g))
 }
 
-pub(crate) fn normalizer_in(t: &[u8], n: usize, e: usize, s: u64) -> Answer
+pub(crate) fn normalizer_in(t: &[u8], n: usize, e: usize, s: u64) -> Result<u64, Refusal>
     requires { GroupTable n t.now e }
     ensures { result ≡ normalizer_answer n (product n t.now) e s }
 {
     if !is_subgroup(t, n, e, s) {
-        return Answer::Refused(Refusal::Subgroup);
+        return Err(Refusal::Subgroup);
     }
-    Answer::Value(normalizer_set(t, n, e, s))
+    Ok(normalizer_set(t, n, e, s))
 }

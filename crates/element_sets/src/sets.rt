@@ -2,6 +2,7 @@
 // Ported from subgroup/finite_group.rs of moyo 0.21.0, and changed: 64-bit numbers for ordered sets.
 ghost use Rattle.std.specs.Prelude.{◌≡◌, true, false, cond, ℕ, ◌<◌, ◌^◌, eqb};
 ghost use Rattle.std.specs.Int.Bits.{bit_and, bit_or};
+ghost use Rattle.std.specs.Iterator.{at_most};
 ghost use Rattle.laws.specs.Sets.{member};
 ghost use Rattle.laws.specs.ListOrder.{earlier};
 ghost use Rattle.subgroup_laws.specs.Removal.{Without, outside_of, rest_of};
@@ -22,7 +23,7 @@ pub fn with_element(s: u64, i: usize) -> u64
 pub fn lowest(s: u64) -> usize
     ensures { 0 < s → (member s result ≡ true) × (result < 64) × ((j : ℕ) → j < result → member s j ≡ false) }
 {
-    u64::trailing_zeros(s) as usize
+    s.trailing_zeros() as usize
 }
 
 // A set without one of its members.
@@ -30,6 +31,39 @@ pub fn without(s: u64, i: usize) -> u64
     ensures { member s i ≡ true → Without s i result }
 {
     s ^ (1u64 << (i % 64))
+}
+
+// The members of a set that are still to come, the lowest first.
+#[derive(Drop)]
+pub struct Members {
+    pub left: u64,
+}
+
+impl Members {
+    pub fn of(s: u64) -> Self
+        ensures { result.left ≡ s }
+    {
+        Members { left: s }
+    }
+}
+
+impl Iterator for Members {
+    ghost use Rattle.element_sets.specs.Members.{Step};
+
+    type Item = usize;
+
+    ghost remaining = { λ s. at_most s.left };
+
+    ghost next_gives = { λ s r t. Step s.left r t.left };
+
+    fn next(&mut self) -> Option<usize> {
+        if self.left == 0 {
+            return None;
+        }
+        let x = lowest(self.left);
+        self.left = without(self.left, x);
+        Some(x)
+    }
 }
 
 // The members of a that are none of b.
@@ -57,27 +91,18 @@ pub fn within(a: u64, b: u64) -> bool
 pub fn precedes(a: u64, b: u64) -> bool
     ensures { result ≡ earlier 64 a b }
 {
-    let p = u64::count_ones(a);
-    let q = u64::count_ones(b);
-    if q < p {
-        return true;
+    let p = a.count_ones();
+    let q = b.count_ones();
+    if p != q {
+        return q < p;
     }
-    if p < q {
-        return false;
-    }
-    let d = u64::trailing_zeros(a ^ b);
-    if d < 64 {
-        return contains(a, d as usize);
-    }
-    false
+    let d = (a ^ b).trailing_zeros();
+    d < 64 && contains(a, d as usize)
 }
 
 // The one of the two that stands before the other.
 pub fn earlier_of(a: u64, b: u64) -> u64
     ensures { result ≡ cond (earlier 64 a b) a b }
 {
-    if precedes(a, b) {
-        return a;
-    }
-    b
+    if precedes(a, b) { a } else { b }
 }

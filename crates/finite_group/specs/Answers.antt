@@ -1,9 +1,7 @@
 -- What each answer says: its number, its place, and its value. What is answered on subgroups is said in the rooms that find it.
-use Rattle.std.specs.Prelude.{List, ℕ}
+use Rattle.std.specs.Prelude.{List, ℕ, Err, Ok, Result}
 use Rattle.operation.specs.Answer as answer
 use Rattle.table_check.specs.CheckAnswers.{check_of}
-use Rattle.table_check.specs.declared.Answer.{Answer}
-use Rattle.table_check.specs.declared.Answer.TheVariants.{Value, Refused}
 use Rattle.table_check.specs.declared.Refusal.{Refusal}
 use Rattle.table_check.specs.declared.Refusal.TheVariants.{Order, Cells, Identity, Inverse, Associativity, Slots, Subgroup, Element, Normalizer}
 pub use Rattle.table_check.specs.OnGroup.{on_group, on_bytes}
@@ -46,14 +44,14 @@ unfoldable pub place_of : Refusal → ℕ
 place_of r = 0
 
 -- what an answer on a table says
-abbrev pub table_answer : Answer → answer.Answer ℕ answer.Nothing
-table_answer (Value v) = answer.given v
-table_answer (Refused r) = answer.refused (number_of r) (place_of r) tt
+abbrev pub table_answer : Result ℕ Refusal → answer.Answer ℕ answer.Nothing
+table_answer (Ok v) = answer.given v
+table_answer (Err r) = answer.refused (number_of r) (place_of r) tt
 
 -- the order of a table's group
-abbrev pub order_answer : ℕ → List ℕ → Answer
-order_answer n t = on_group (check_of n t) (λ e. Value n)
+abbrev pub order_answer : ℕ → List ℕ → Result ℕ Refusal
+order_answer n t = on_group (check_of n t) (λ e. Ok n)
 
 -- its identity
-abbrev pub identity_answer : ℕ → List ℕ → Answer
-identity_answer n t = on_group (check_of n t) (λ e. Value e)
+abbrev pub identity_answer : ℕ → List ℕ → Result ℕ Refusal
+identity_answer n t = on_group (check_of n t) (λ e. Ok e)

@@ -6,8 +6,8 @@
 ghost use Rattle.std.specs.Prelude.{◌≡◌};
 ghost use Rattle.finite_group.specs.Answers.{number_of, order_answer, identity_answer, subgroups_answer, subgroups_bytes, classes_answer, classes_bytes, conjugate_entry, normalizer_entry, permutation_entry, permutation_list, conjugates_entry, conjugates_list, conjugators_list};
 
-pub use table_check::{Answer, Refusal};
-use table_check::{Checked, from_table};
+pub use table_check::Refusal;
+use table_check::from_table;
 
 pub fn number(refusal: Refusal) -> u8
     ensures { result ≡ number_of refusal }
@@ -25,26 +25,26 @@ pub fn number(refusal: Refusal) -> u8
     }
 }
 
-pub fn order(n: usize, table: &[u8]) -> Answer
+pub fn order(n: usize, table: &[u8]) -> Result<u64, Refusal>
     ensures { result ≡ order_answer n table.now }
 {
     match from_table(n, table) {
-        Checked::Group(_) => Answer::Value(n as u64),
-        Checked::NoGroup(r) => Answer::Refused(r),
+        Ok(_) => Ok(n as u64),
+        Err(r) => Err(r),
     }
 }
 
-pub fn identity(n: usize, table: &[u8]) -> Answer
+pub fn identity(n: usize, table: &[u8]) -> Result<u64, Refusal>
     ensures { result ≡ identity_answer n table.now }
 {
     match from_table(n, table) {
-        Checked::Group(e) => Answer::Value(e as u64),
-        Checked::NoGroup(r) => Answer::Refused(r),
+        Ok(e) => Ok(e as u64),
+        Err(r) => Err(r),
     }
 }
 
 // All subgroups into lent slots of eight bytes, in list order; the answer is their count.
-pub fn enumerate_subgroups(n: usize, table: &[u8], sets: &mut [u8]) -> Answer
+pub fn enumerate_subgroups(n: usize, table: &[u8], sets: &mut [u8]) -> Result<u64, Refusal>
     ensures { (result ≡ subgroups_answer n table.now sets.old)
         × (sets.new ≡ subgroups_bytes n table.now sets.old) }
 {
@@ -52,7 +52,7 @@ pub fn enumerate_subgroups(n: usize, table: &[u8], sets: &mut [u8]) -> Answer
 }
 
 // The first subgroup of each class into lent slots of eight bytes, in list order; the answer is the count of classes.
-pub fn conjugacy_classes(n: usize, table: &[u8], sets: &mut [u8]) -> Answer
+pub fn conjugacy_classes(n: usize, table: &[u8], sets: &mut [u8]) -> Result<u64, Refusal>
     ensures { (result ≡ classes_answer n table.now sets.old)
         × (sets.new ≡ classes_bytes n table.now sets.old) }
 {
@@ -60,14 +60,14 @@ pub fn conjugacy_classes(n: usize, table: &[u8], sets: &mut [u8]) -> Answer
 }
 
 // The conjugate g⁻¹ H g of a subgroup.
-pub fn conjugate(n: usize, table: &[u8], set: u64, element: usize) -> Answer
+pub fn conjugate(n: usize, table: &[u8], set: u64, element: usize) -> Result<u64, Refusal>
     ensures { result ≡ conjugate_entry n table.now set element }
 {
     conjugation::conjugate(n, table, set, element)
 }
 
 // The elements that conjugate a subgroup to itself, as a set.
-pub fn normalizer(n: usize, table: &[u8], set: u64) -> Answer
+pub fn normalizer(n: usize, table: &[u8], set: u64) -> Result<u64, Refusal>
     ensures { result ≡ normalizer_entry n table.now set }
 {
     conjugation::normalizer(n, table, set)
@@ -80,7 +80,7 @@ pub fn normalizer_action(
     set: u64,
     element: usize,
     positions: &mut [u8],
-) -> Answer
+) -> Result<u64, Refusal>
     ensures { (result ≡ permutation_entry n table.now set element positions.old)
         × (positions.new ≡ permutation_list n table.now set element positions.old) }
 {
@@ -95,7 +95,7 @@ pub fn conjugates(
     set: u64,
     sets: &mut [u8],
     conjugators: &mut [u8],
-) -> Answer
+) -> Result<u64, Refusal>
     ensures { (result ≡ conjugates_entry n table.now set sets.old conjugators.old)
         × (sets.new ≡ conjugates_list n table.now set sets.old conjugators.old)
         × (conjugators.new ≡ conjugators_list n table.now set sets.old conjugators.old) }

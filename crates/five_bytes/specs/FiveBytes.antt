@@ -1,13 +1,11 @@
 -- The five bytes of an operation, by R5.2: the rotation's code, high byte first, then x y z; and which bytes are so.
-use Rattle.std.specs.Prelude.{Bool, cond, ◌&&◌, List, [], ◌∷◌, ℕ, ◌+◌, ◌*◌, ◌/◌, ◌%◌, ◌<◌, ltb, eqb, length, get_or}
+use Rattle.std.specs.Prelude.{◌≡◌, Bool, cond, ◌&&◌, List, [], ◌∷◌, ℕ, ◌+◌, ◌*◌, ◌/◌, ◌%◌, ◌<◌, ltb, eqb, length, get_or, None, Option, Some}
+use Rattle.std.proofs.Common.{ne_eqb}
 use Rattle.operation.specs.Code.{code_of, decoded_of}
 use Rattle.operation.specs.Meaning.{Digits}
 use Rattle.operation.specs.declared.Operation.{Operation}
 use Rattle.operation.specs.declared.Translation.{Translation}
-use Rattle.operation.specs.declared.code.Decoded.{Decoded}
-use Rattle.operation.specs.declared.code.Decoded.TheVariants.{Inside, Outside}
-use Rattle.five_bytes.specs.declared.FiveBytes.{FiveBytes}
-use Rattle.five_bytes.specs.declared.FiveBytes.TheVariants.{Is, Wrong}
+use Rattle.operation.specs.declared.Rotation.{Rotation}
 
 -- The code, high byte first, then x y z.
 unfoldable pub operation_bytes : Operation → List ℕ
@@ -33,11 +31,16 @@ abbrev pub translation_in : List ℕ → Translation
 translation_in bytes = record { x = get_or bytes 2 0; y = get_or bytes 3 0; z = get_or bytes 4 0 }
 
 -- A code that is no rotation's stands for no operation.
-abbrev pub with_translation : Decoded → Translation → FiveBytes
-with_translation (Inside r) t = Is (record { rotation = r; translation = t })
-with_translation Outside t = Wrong
+abbrev pub with_translation : Option Rotation → Translation → Option Operation
+with_translation (Some r) t = Some (record { rotation = r; translation = t })
+with_translation None t = None
 
 -- Exactly five bytes, coordinates at most 11, a code at most 19682.
-unfoldable pub five_bytes_of : List ℕ → FiveBytes
+unfoldable pub five_bytes_of : List ℕ → Option Operation
 five_bytes_of bytes =
-    cond (eqb (length bytes) 5) (cond (below_twelve (translation_in bytes)) (with_translation (decoded_of (code_in bytes)) (translation_in bytes)) Wrong) Wrong
+    cond (eqb (length bytes) 5) (cond (below_twelve (translation_in bytes)) (with_translation (decoded_of (code_in bytes)) (translation_in bytes)) None) None
+
+-- Bytes that are not five are wrong.
+pub wrong-length : (bytes : List ℕ) → (length bytes ≡ 5 → ⊥) → None ≡ five_bytes_of bytes
+unfolding five_bytes_of
+wrong-length bytes other = simp (ne_eqb (length bytes) 5 other)

@@ -1,14 +1,12 @@
 -- Five bytes and the operation they say determine one another: every operation with entries in −1..1 and coordinates below 12 is said by its bytes and no
 -- others.
-use Rattle.std.specs.Prelude.{◌≡◌, refl, Bool, true, false, ◌&&◌, List, [], ◌∷◌, ℕ, ◌+◌, ◌*◌, ◌/◌, ◌%◌, ◌<◌, ltb, length, get_or}
+use Rattle.std.specs.Prelude.{◌≡◌, refl, Bool, true, false, ◌&&◌, List, [], ◌∷◌, ℕ, ◌+◌, ◌*◌, ◌/◌, ◌%◌, ◌<◌, ltb, length, get_or, None, Option, Some}
 use Rattle.std.proofs.Common.{sym, ◌∙◌, ap, ap₂, arith, ltb-true, lt-ltb, eq-eqb, ne_eqb}
 use Rattle.std.proofs.Math.Bool.{and-eq-true_iff}
 use Rattle.operation.specs.Code.{code_of, rotation_of, decoded_of, code_lt, rotation-code, rotation-digits, code-rotation}
 use Rattle.operation.specs.declared.Operation.{Operation}
 use Rattle.operation.specs.declared.Translation.{Translation}
 use Rattle.five_bytes.specs.FiveBytes.{operation_bytes, Sayable, below_twelve, code_in, translation_in, with_translation, five_bytes_of}
-use Rattle.five_bytes.specs.declared.FiveBytes.{FiveBytes}
-use Rattle.five_bytes.specs.declared.FiveBytes.TheVariants.{Is, Wrong}
 
 -- Bytes are numbers below 256.
 abbrev pub Bytes : List ℕ → Type 0
@@ -42,23 +40,23 @@ unfolding five_bytes_of
 code-decides bytes five below = rw (eq-eqb (length bytes) 5 five, below) refl
 
 -- A code below 3⁹ is a rotation's.
-decoded-inside : (c : ℕ) (t : Translation) → c < 19683 → with_translation (decoded_of c) t ≡ Is (record { rotation = rotation_of c; translation = t })
+decoded-inside : (c : ℕ) (t : Translation) → c < 19683 → with_translation (decoded_of c) t ≡ Some (record { rotation = rotation_of c; translation = t })
 decoded-inside c t h = rw (lt-ltb c 19683 h) refl
 
 -- Any two bytes that make a code that fits, with coordinates below 12, say the operation of that code.
 pub five-said : (p q x y z : ℕ) → p * 256 + q < 19683 → x < 12 → y < 12 → z < 12
-    → five_bytes_of (p ∷ q ∷ x ∷ y ∷ z ∷ []) ≡ Is (record { rotation = rotation_of (p * 256 + q); translation = record { x = x; y = y; z = z } })
+    → five_bytes_of (p ∷ q ∷ x ∷ y ∷ z ∷ []) ≡ Some (record { rotation = rotation_of (p * 256 + q); translation = record { x = x; y = y; z = z } })
 unfolding five_bytes_of
 five-said p q x y z h i j k =
     rw (twelve-below (record { x = x; y = y; z = z }) i j k) (decoded-inside (p * 256 + q) _ h)
 
 -- The five bytes of an operation say it.
-pub operation-again : (f : Operation) → Sayable f → five_bytes_of (operation_bytes f) ≡ Is f
+pub operation-again : (f : Operation) → Sayable f → five_bytes_of (operation_bytes f) ≡ Some f
 unfolding operation_bytes
 operation-again f s =
     let whole : code_of f.rotation / 256 * 256 + code_of f.rotation % 256 ≡ code_of f.rotation = omega arith in
     five-said _ _ _ _ _ (omega (arith, code_lt f.rotation s.digits)) s.x s.y s.z
-    ∙ ap Is (operation≡ (ap rotation_of whole ∙ rotation-code f.rotation s.digits) refl)
+    ∙ ap Some (operation≡ (ap rotation_of whole ∙ rotation-code f.rotation s.digits) refl)
 
 -- What five bytes say.
 abbrev Said : List ℕ → Operation → Type 0
@@ -67,22 +65,22 @@ Said bytes f = (bytes ≡ operation_bytes f) × Sayable f
 code-said : (p q c : ℕ) → q < 256 → c ≡ p * 256 + q → (p ≡ c / 256) × (q ≡ c % 256)
 code-said p q c h e = (omega arith, omega arith)
 
-is-injective : (f g : Operation) → Is f ≡ Is g → f ≡ g
+is-injective : (f g : Operation) → Some f ≡ Some g → f ≡ g
 is-injective f g e = ap unwrapped e
   where
-    unwrapped : FiveBytes → Operation
-    unwrapped (Is h) = h
-    unwrapped Wrong = f
+    unwrapped : Option Operation → Operation
+    unwrapped (Some h) = h
+    unwrapped None = f
 
-wrong-is-none : (f : Operation) → Wrong ≡ Is f → ⊥
+wrong-is-none : (f : Operation) → None ≡ Some f → ⊥
 wrong-is-none f e = let z : ◌≡◌ {A = ℕ} 0 1 = ap mark e in absurd (omega arith)
   where
-    mark : FiveBytes → ℕ
-    mark (Is h) = 1
-    mark Wrong = 0
+    mark : Option Operation → ℕ
+    mark (Some h) = 1
+    mark None = 0
 
 -- Bytes that say an operation are its five bytes.
-inside-said : (p q x y z : ℕ) (f : Operation) → q < 256 → p * 256 + q < 19683 → x < 12 → y < 12 → z < 12 → five_bytes_of (p ∷ q ∷ x ∷ y ∷ z ∷ []) ≡ Is f
+inside-said : (p q x y z : ℕ) (f : Operation) → q < 256 → p * 256 + q < 19683 → x < 12 → y < 12 → z < 12 → five_bytes_of (p ∷ q ∷ x ∷ y ∷ z ∷ []) ≡ Some f
     → Said (p ∷ q ∷ x ∷ y ∷ z ∷ []) f
 unfolding operation_bytes
 inside-said p q x y z f low h i j k e = rw (← same) (bytes, record { digits = rotation-digits (p * 256 + q); x = i; y = j; z = k })
@@ -103,7 +101,7 @@ by-test : {P : Type 0} (t : Bool) → (t ≡ true → P) → (t ≡ false → P)
 by-test true passed failed = passed refl
 by-test false passed failed = failed refl
 
-five-bytes-said : (p q x y z : ℕ) (f : Operation) → q < 256 → five_bytes_of (p ∷ q ∷ x ∷ y ∷ z ∷ []) ≡ Is f → Said (p ∷ q ∷ x ∷ y ∷ z ∷ []) f
+five-bytes-said : (p q x y z : ℕ) (f : Operation) → q < 256 → five_bytes_of (p ∷ q ∷ x ∷ y ∷ z ∷ []) ≡ Some f → Said (p ∷ q ∷ x ∷ y ∷ z ∷ []) f
 unfolding five_bytes_of
 five-bytes-said p q x y z f low e =
     by-test (below_twelve t)
@@ -115,7 +113,7 @@ five-bytes-said p q x y z f low e =
     t : Translation
     t = record { x = x; y = y; z = z }
 
-pub bytes-again : (bytes : List ℕ) (f : Operation) → Bytes bytes → five_bytes_of bytes ≡ Is f → (bytes ≡ operation_bytes f) × Sayable f
+pub bytes-again : (bytes : List ℕ) (f : Operation) → Bytes bytes → five_bytes_of bytes ≡ Some f → (bytes ≡ operation_bytes f) × Sayable f
 unfolding five_bytes_of
 bytes-again [] f g e = absurd (wrong-is-none f e)
 bytes-again (a ∷ []) f g e = absurd (wrong-is-none f e)

@@ -4,31 +4,20 @@
 ghost use Rattle.std.specs.Prelude.{◌≡◌};
 ghost use Rattle.five_bytes.specs.FiveBytes.{five_bytes_of, below_twelve, with_translation};
 
-use operation::code::{Decoded, rotation_of_code};
-use operation::{Operation, Translation};
-
-// What some bytes are: an operation, or nothing that stands for one.
-#[derive(Clone, Copy)]
-pub enum FiveBytes {
-    Is(Operation),
-    Wrong,
-}
+use operation::code::rotation_of_code;
+use operation::{Operation, Rotation, Translation};
 
 // Wrong unless there are exactly five bytes, the code is at most 19682 and each coordinate at most 11.
-pub fn operation_in(bytes: &[u8]) -> FiveBytes
+pub fn operation_in(bytes: &[u8]) -> Option<Operation>
     ensures { result ≡ five_bytes_of bytes.now }
 {
-    if bytes.len() != 5 {
-        return FiveBytes::Wrong;
-    }
-    let code = bytes[0] as u32 * 256 + bytes[1] as u32;
-    let translation = Translation {
-        x: bytes[2],
-        y: bytes[3],
-        z: bytes[4],
+    let &[high, low, x, y, z] = bytes else {
+        return None;
     };
+    let code = u32::from(high) * 256 + u32::from(low);
+    let translation = Translation { x, y, z };
     if !below_twelve(translation) {
-        return FiveBytes::Wrong;
+        return None;
     }
     with_translation(rotation_of_code(code), translation)
 }
@@ -36,23 +25,17 @@ pub fn operation_in(bytes: &[u8]) -> FiveBytes
 fn below_twelve(t: Translation) -> bool
     ensures { result ≡ below_twelve t }
 {
-    if 12 <= t.x {
-        return false;
-    }
-    if 12 <= t.y {
-        return false;
-    }
-    t.z < 12
+    t.x < 12 && t.y < 12 && t.z < 12
 }
 
-fn with_translation(decoded: Decoded, translation: Translation) -> FiveBytes
+fn with_translation(decoded: Option<Rotation>, translation: Translation) -> Option<Operation>
     ensures { result ≡ with_translation decoded translation }
 {
     match decoded {
-        Decoded::Inside(rotation) => FiveBytes::Is(Operation {
+        Some(rotation) => Some(Operation {
             rotation,
             translation,
         }),
-        Decoded::Outside => FiveBytes::Wrong,
+        None => None,
     }
 }

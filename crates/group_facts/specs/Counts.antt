@@ -3,7 +3,7 @@
 -- Said of the definitions for every accepted table, and of the entries' answers.
 use Rattle.std.proofs.Math.Path.{◌≡◌, refl}
 use Rattle.std.proofs.Common.{sym, ap, ap₂, ◌∙◌, subst, arith}
-use Rattle.std.specs.Prelude.{Bool, ℕ, ◌*◌, ◌/◌, ◌<◌, ltb, length, get_or, drop}
+use Rattle.std.specs.Prelude.{Bool, ℕ, ◌*◌, ◌/◌, ◌<◌, ltb, length, get_or, drop, Err, Ok, Result}
 use Rattle.std.proofs.Math.Bool.{true, false, cond}
 use mathlib.Core.List.{List, ◌++◌, Memᴰ as Mem}
 use Rattle.std.specs.Int.Count.{ones}
@@ -13,7 +13,6 @@ use borrow.Author.Tests.{ltb-true, eqb-true}
 use Rattle.laws.specs.Counting.{total, total-same}
 use Rattle.laws.specs.Sets.{members}
 use Rattle.symbol_group.specs.Answers.{order_of}
-use Rattle.symbol_group.specs.declared.SymbolOrder.TheVariants as symbol-order
 use Rattle.group_record.specs.Acceptance.{Bytes}
 use Rattle.subgroup_laws.specs.ClassCounts as classes
 use Rattle.subgroup_laws.specs.Conjugates.{conjugates_of}
@@ -26,18 +25,15 @@ use Rattle.subgroup_laws.specs.SubgroupLaws.{test-subgroup}
 use Rattle.subgroup_laws.specs.Subsets.{Subgroup, is_subgroup, conjugate_of, normalizer_of}
 use Rattle.subgroup_laws.specs.Table.{product}
 use Rattle.group_table.specs.Tables.{order_of_record}
-use Rattle.group_table.specs.declared.RecordOrder.TheVariants as record-order
 use Rattle.finite_group.specs.Answers.{list_answer, subgroups_answer, conjugates_answer, conjugates_entry, normalizer_answer, normalizer_entry, permutation_answer, permutation_bytes, permutation_entry, permutation_list}
 use Rattle.conjugation.specs.LentConjugates.{too_short}
 use Rattle.table_check.specs.CheckAnswers.{Accepts}
 use Rattle.table_check.specs.TableVerdict.{checked-table}
-use Rattle.table_check.specs.declared.Answer.{Answer as TableAnswer}
-use Rattle.table_check.specs.declared.Answer.TheVariants as table-answers
 use Rattle.table_check.specs.declared.Refusal.TheVariants as table-refusals
 use Rattle.motion_tables.specs.Answers.{on_symbol, on_record}
-use Rattle.motion_tables.specs.declared.Answer.{Answer}
-use Rattle.motion_tables.specs.declared.Answer.TheVariants.{Value}
 use Rattle.group_facts.specs.Asked.{Asked, told-value, symbol-asked, record-asked}
+use Rattle.motion_tables.specs.declared.Refusal.{Refusal}
+use Rattle.table_check.specs.declared.Refusal.{Refusal as TableRefusal}
 
 -- the first k entries of p are the positions of h's members, each once, and they move products to products
 pub record Permutes (n : ℕ) (t : List ℕ) (h k : ℕ) (p : List ℕ) : Type 0 where
@@ -81,7 +77,7 @@ module _ (n : ℕ) (t : List ℕ) (e : ℕ) (accepted : Accepts n t e) where
   -- ---- the answers
 
   -- a value of conjugates is the number of a subgroup's
-  counted : (h k : ℕ) (b c : List ℕ) → conjugates_entry n t h b c ≡ table-answers.Value k
+  counted : (h k : ℕ) (b c : List ℕ) → conjugates_entry n t h b c ≡ Ok k
       → Subgroup n (product n t) e h × (length (conjugates_of n (product n t) e h) ≡ k)
   unfolding conjugates_answer
   counted h k b c p =
@@ -89,35 +85,35 @@ module _ (n : ℕ) (t : List ℕ) (e : ℕ) (accepted : Accepts n t e) where
       (test-subgroup n (product n t) e the-group h a, q)
     where
       read : (a d : Bool) (v : ℕ)
-          → cond a (cond d (table-answers.Refused table-refusals.Slots) (table-answers.Value v)) (table-answers.Refused table-refusals.Subgroup)
-          ≡ table-answers.Value k
+          → cond a (cond d (Err table-refusals.Slots) (Ok v)) (Err table-refusals.Subgroup)
+          ≡ Ok k
           → (a ≡ true) × (v ≡ k)
       read true false v q = (refl, cc)
       read true true v q = let z : ◌≡◌ {A = ℕ} 0 1 = cc in absurd (omega arith)
       read false d v q = let z : ◌≡◌ {A = ℕ} 0 1 = cc in absurd (omega arith)
 
   -- a value of the normalizer is that of a subgroup
-  normalized : (h s : ℕ) → normalizer_entry n t h ≡ table-answers.Value s → Subgroup n (product n t) e h × (normalizer_of n (product n t) e h ≡ s)
+  normalized : (h s : ℕ) → normalizer_entry n t h ≡ Ok s → Subgroup n (product n t) e h × (normalizer_of n (product n t) e h ≡ s)
   unfolding normalizer_answer
   normalized h s p =
       let (a, q) = read (is_subgroup n (product n t) e h) (normalizer_of n (product n t) e h) (rw accepted at p) in
       (test-subgroup n (product n t) e the-group h a, q)
     where
-      read : (a : Bool) (v : ℕ) → cond a (table-answers.Value v) (table-answers.Refused table-refusals.Subgroup) ≡ table-answers.Value s → (a ≡ true) × (v ≡ s)
+      read : (a : Bool) (v : ℕ) → cond a (Ok v) (Err table-refusals.Subgroup) ≡ Ok s → (a ≡ true) × (v ≡ s)
       read true v q = (refl, cc)
       read false v q = let z : ◌≡◌ {A = ℕ} 0 1 = cc in absurd (omega arith)
 
   -- a value of the list of subgroups is their number
-  subgroups-counted : (k : ℕ) (b : List ℕ) → subgroups_answer n t b ≡ table-answers.Value k → length (subgroups_of n (product n t) e) ≡ k
+  subgroups-counted : (k : ℕ) (b : List ℕ) → subgroups_answer n t b ≡ Ok k → length (subgroups_of n (product n t) e) ≡ k
   unfolding list_answer
   subgroups-counted k b p = read (ltb (length b / 8) (length (subgroups_of n (product n t) e))) (length (subgroups_of n (product n t) e)) (rw accepted at p)
     where
-      read : (d : Bool) (v : ℕ) → cond d (table-answers.Refused table-refusals.Slots) (table-answers.Value v) ≡ table-answers.Value k → v ≡ k
+      read : (d : Bool) (v : ℕ) → cond d (Err table-refusals.Slots) (Ok v) ≡ Ok k → v ≡ k
       read false v q = cc
       read true v q = let z : ◌≡◌ {A = ℕ} 0 1 = cc in absurd (omega arith)
 
   -- the number of conjugates that is answered, times the order of the normalizer that is answered, is the group's order
-  pub answers-fit : (h k s : ℕ) (b c : List ℕ) → conjugates_entry n t h b c ≡ table-answers.Value k → normalizer_entry n t h ≡ table-answers.Value s
+  pub answers-fit : (h k s : ℕ) (b c : List ℕ) → conjugates_entry n t h b c ≡ Ok k → normalizer_entry n t h ≡ Ok s
       → k * ones s ≡ n
   answers-fit h k s b c p q =
       let (H, a) = counted h k b c p in
@@ -125,13 +121,13 @@ module _ (n : ℕ) (t : List ℕ) (e : ℕ) (accepted : Accepts n t e) where
       ap₂ (λ (i j : ℕ). i * ones j) (sym a) (sym d) ∙ conjugates-times-normalizer h H
 
   -- the order of each set that is taken for a subgroup divides the group's
-  pub answer-divides : (h s : ℕ) → normalizer_entry n t h ≡ table-answers.Value s → (k : ℕ) × (k * ones h ≡ n)
+  pub answer-divides : (h s : ℕ) → normalizer_entry n t h ≡ Ok s → (k : ℕ) × (k * ones h ≡ n)
   answer-divides h s q = order-divides h (normalized h s q).0
 
   -- the numbers of conjugates that are answered for the representatives add up to the number of subgroups that is answered
   pub answers-add-up : (count : ℕ → ℕ) (k : ℕ) (b : List ℕ)
-      → ((r : ℕ) → Mem r (representatives_of n (product n t) e) → (c d : List ℕ) × (conjugates_entry n t r c d ≡ table-answers.Value (count r)))
-      → subgroups_answer n t b ≡ table-answers.Value k → total count (representatives_of n (product n t) e) ≡ k
+      → ((r : ℕ) → Mem r (representatives_of n (product n t) e) → (c d : List ℕ) × (conjugates_entry n t r c d ≡ Ok (count r)))
+      → subgroups_answer n t b ≡ Ok k → total count (representatives_of n (product n t) e) ≡ k
   answers-add-up count k b each p =
       total-same count (λ r. length (conjugates_of n (product n t) e r)) (representatives_of n (product n t) e)
       (λ r m. let (c, d, q) = each r m in sym (counted r (count r) c d q).1)
@@ -140,7 +136,7 @@ module _ (n : ℕ) (t : List ℕ) (e : ℕ) (accepted : Accepts n t e) where
   -- ---- permutations
 
   -- a permutation that is answered is that of a subgroup by an element of its normalizer, at the front of the lent list
-  permuted : (h g k : ℕ) (b : List ℕ) → permutation_entry n t h g b ≡ table-answers.Value k
+  permuted : (h g k : ℕ) (b : List ℕ) → permutation_entry n t h g b ≡ Ok k
       → Subgroup n (product n t) e h × (g < n) × (conjugate_of n (product n t) e h g ≡ h) × (ones h ≡ k)
       × (permutation_list n t h g b ≡ permutation_of n (product n t) e h g ++ drop (ones h) b)
   unfolding permutation_answer permutation_bytes
@@ -152,10 +148,10 @@ module _ (n : ℕ) (t : List ℕ) (e : ℕ) (accepted : Accepts n t e) where
       read : (a c d f : Bool) (v : ℕ)
           → cond a
           (cond c
-          (cond d (cond f (table-answers.Refused table-refusals.Slots) (table-answers.Value v)) (table-answers.Refused table-refusals.Normalizer))
-          (table-answers.Refused table-refusals.Element))
-          (table-answers.Refused table-refusals.Subgroup)
-          ≡ table-answers.Value k
+          (cond d (cond f (Err table-refusals.Slots) (Ok v)) (Err table-refusals.Normalizer))
+          (Err table-refusals.Element))
+          (Err table-refusals.Subgroup)
+          ≡ Ok k
           → (a ≡ true) × (c ≡ true) × (d ≡ true) × (f ≡ false) × (v ≡ k)
       read true true true false v q = (refl, refl, refl, refl, cc)
       read true true true true v q = let z : ◌≡◌ {A = ℕ} 0 1 = cc in absurd (omega arith)
@@ -164,7 +160,7 @@ module _ (n : ℕ) (t : List ℕ) (e : ℕ) (accepted : Accepts n t e) where
       read false c d f v q = let z : ◌≡◌ {A = ℕ} 0 1 = cc in absurd (omega arith)
 
   -- it has every position once and moves products to products
-  pub answered-permutation : (h g k : ℕ) (b : List ℕ) → permutation_entry n t h g b ≡ table-answers.Value k
+  pub answered-permutation : (h g k : ℕ) (b : List ℕ) → permutation_entry n t h g b ≡ Ok k
       → (ones h ≡ k) × Permutes n t h k (permutation_list n t h g b)
   answered-permutation h g k b p =
       let (H, l, keeps, size, holds) = permuted h g k b p in (
@@ -192,9 +188,9 @@ module _ (n : ℕ) (t : List ℕ) (e : ℕ) (accepted : Accepts n t e) where
 
 -- ---- symbols and records
 
-module _ (on : (ℕ → List ℕ → TableAnswer) → Answer) (t : List ℕ) (Order : ℕ → Type 0) (A : Asked on t Order) where
+module _ (on : (ℕ → List ℕ → Result ℕ TableRefusal) → Result ℕ Refusal) (t : List ℕ) (Order : ℕ → Type 0) (A : Asked on t Order) where
   -- the two answers fit the order
-  asked-fit : (h k s : ℕ) (b c : List ℕ) → on (λ n t. conjugates_entry n t h b c) ≡ Value k → on (λ n t. normalizer_entry n t h) ≡ Value s
+  asked-fit : (h k s : ℕ) (b c : List ℕ) → on (λ n t. conjugates_entry n t h b c) ≡ Ok k → on (λ n t. normalizer_entry n t h) ≡ Ok s
       → (n : ℕ) × Order n × (k * ones s ≡ n)
   asked-fit h k s b c p q =
       let (n, o, v) = A.value (λ n t. conjugates_entry n t h b c) k p in
@@ -202,11 +198,11 @@ module _ (on : (ℕ → List ℕ → TableAnswer) → Answer) (t : List ℕ) (Or
       (n, o, answers-fit n t e accepted h k s b c v (told-value _ s (sym (A.told n o (λ n t. normalizer_entry n t h)) ∙ q)))
 
 -- of a symbol
-pub symbol-counts-fit : (text : List ℕ) (h k s : ℕ) (b c : List ℕ) → on_symbol text (λ n t. conjugates_entry n t h b c) ≡ Value k
-    → on_symbol text (λ n t. normalizer_entry n t h) ≡ Value s → (n : ℕ) × (order_of text ≡ symbol-order.Is n) × (k * ones s ≡ n)
+pub symbol-counts-fit : (text : List ℕ) (h k s : ℕ) (b c : List ℕ) → on_symbol text (λ n t. conjugates_entry n t h b c) ≡ Ok k
+    → on_symbol text (λ n t. normalizer_entry n t h) ≡ Ok s → (n : ℕ) × (order_of text ≡ Ok n) × (k * ones s ≡ n)
 symbol-counts-fit text = asked-fit _ _ _ (symbol-asked text)
 
 -- of a record
-pub record-counts-fit : (bytes : List ℕ) → Bytes bytes → (h k s : ℕ) (b c : List ℕ) → on_record bytes (λ n t. conjugates_entry n t h b c) ≡ Value k
-    → on_record bytes (λ n t. normalizer_entry n t h) ≡ Value s → (n : ℕ) × (order_of_record bytes ≡ record-order.Is n) × (k * ones s ≡ n)
+pub record-counts-fit : (bytes : List ℕ) → Bytes bytes → (h k s : ℕ) (b c : List ℕ) → on_record bytes (λ n t. conjugates_entry n t h b c) ≡ Ok k
+    → on_record bytes (λ n t. normalizer_entry n t h) ≡ Ok s → (n : ℕ) × (order_of_record bytes ≡ Ok n) × (k * ones s ≡ n)
 record-counts-fit bytes y = asked-fit _ _ _ (record-asked bytes y)

@@ -1,6 +1,6 @@
 -- Lists that passed, as records ((xii) of the requests): a list that passed for a symbol, sorted and reduced, is the symbol's record, so two such lists are one
 -- record. The idea: modulo L the entries and the symbol's operations are the same, so in the form that a record lists they are equal.
-use Rattle.std.specs.Prelude.{◌≡◌, refl, ◌↔◌, ℕ, zero, suc, ◌<◌}
+use Rattle.std.specs.Prelude.{◌≡◌, refl, ◌↔◌, ℕ, zero, suc, ◌<◌, Ok}
 use Rattle.std.proofs.Math.Path.{sym, ap}
 use Rattle.std.proofs.Common.{◌∙◌, subst, arith, eqb→eq}
 use mathlib.Core.List.Memᴰ.{cast as mem-cast}
@@ -26,7 +26,6 @@ use Rattle.list_check.specs.Comparison.{Whole}
 use Rattle.list_check.specs.Entries.{WellFormed, entry-inside, entry-digits}
 use Rattle.list_check.specs.Exactly.{yes-exactly, carried}
 use Rattle.hall_symbol.specs.Agreement.{spells-once}
-use Rattle.list_check.specs.declared.Checked.TheVariants.{Yes}
 use Rattle.group_record.specs.Record.{listed_form, written_in, record_in, record_of}
 use Rattle.group_record.specs.FirstEdition.{first_edition}
 use Rattle.group_record.specs.Groups.{Alike, same_code, Listing}
@@ -34,6 +33,7 @@ use Rattle.group_record.specs.ListedForm.{told-by-rotation, matrix-injective, al
 use Rattle.record_writing.specs.SymbolRecords.{text_record}
 use Rattle.record_writing.specs.AcceptedSymbols.{accepted-listing}
 use Rattle.record_writing.specs.SymbolSets.{record-of-list}
+use Rattle.list_check.specs.declared.Verdict.TheVariants.{Yes}
 
 -- ---- the entries of a list, in its order
 unfoldable pub entries_from : ℕ → (ℕ → Operation) → List Operation
@@ -154,7 +154,7 @@ module _ (text list : List ℕ) (A : AcceptedText text) (well : WellFormed list)
       (λ o m. let (i, h, near) = listed-entry o m in (entry i, entry-member n entry i h, near))
 
 -- A list that passed, sorted and reduced, is the symbol's record,
-pub passed-record : (text list : List ℕ) → checked_of text list ≡ Yes → record_of (symbol_answer text).centering (entries_of list) ≡ text_record text
+pub passed-record : (text list : List ℕ) → checked_of text list ≡ Ok Yes → record_of (symbol_answer text).centering (entries_of list) ≡ text_record text
 passed-record text list e =
     let (c, gens, accepts, (well, W)) = (yes-exactly text list).0 e in
     let A = accepted-text text ((group-exactly text).1 (c, gens, accepts.0, accepts.1)) in
@@ -163,6 +163,6 @@ passed-record text list e =
     ap (λ (d : Centering). record_of d (entries_of list)) A.same-letter ∙ entries-record text list A well whole ∙ sym (record-of-list text A)
 
 -- so two lists that both passed for one symbol are one record.
-pub passed-lists : (text list other : List ℕ) → checked_of text list ≡ Yes → checked_of text other ≡ Yes
+pub passed-lists : (text list other : List ℕ) → checked_of text list ≡ Ok Yes → checked_of text other ≡ Ok Yes
     → record_of (symbol_answer text).centering (entries_of list) ≡ record_of (symbol_answer text).centering (entries_of other)
 passed-lists text list other e f = passed-record text list e ∙ sym (passed-record text other f)

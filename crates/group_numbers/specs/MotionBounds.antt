@@ -1,5 +1,5 @@
 -- What is answered on the group of a symbol or a record can be packed if it can on every table: the refusals of symbols and records can be told.
-use Rattle.std.specs.Prelude.{◌≡◌, refl, List, ℕ}
+use Rattle.std.specs.Prelude.{◌≡◌, refl, List, ℕ, Err, Ok, Result}
 use Rattle.std.proofs.Common.{sym, subst}
 use Rattle.symbol_group.specs.Answers.{symbol_answer, order_by, order_of}
 use Rattle.symbol_group.specs.declared.Answer as symbol
@@ -8,30 +8,29 @@ use Rattle.group_record.specs.Reading.{read_of}
 use Rattle.group_record.specs.declared.Reading.{Reading}
 use Rattle.group_record.specs.declared.Reading.TheVariants as reading
 use Rattle.group_table.specs.Tables.{order_of_record_by, order_of_record, symbol_cells, record_cells}
-use Rattle.table_check.specs.declared.Answer as table
-use Rattle.table_check.specs.declared.Answer.TheVariants as table-variant
 use Rattle.motion_tables.specs.Answers.{motion_answer, of_table, on_source, of_symbol, on_symbol, of_record, on_record}
-use Rattle.motion_tables.specs.declared.Answer.{Answer}
 use Rattle.answer_numbers.specs.Packing.{Within, Low}
 use Rattle.record_numbers.specs.RecordBounds.{record-told}
 use Rattle.symbol_numbers.specs.SymbolBounds.{symbol-told}
 use Rattle.table_numbers.specs.TableBounds.{Packable}
+use Rattle.motion_tables.specs.declared.Refusal.{Refusal}
+use Rattle.table_check.specs.declared.Refusal.{Refusal as TableRefusal}
 
 -- An answer that can be packed.
-abbrev pub Tellable : Answer → Type 0
+abbrev pub Tellable : Result ℕ Refusal → Type 0
 Tellable a = Within Low (motion_answer a)
 
 -- What is asked for one of two equal answers is had from the other.
-pub tellable-as : {a b : Answer} → a ≡ b → Tellable b → Tellable a
-tellable-as e k = subst (λ (a : Answer). Tellable a) (sym e) k
+pub tellable-as : {a b : Result ℕ Refusal} → a ≡ b → Tellable b → Tellable a
+tellable-as e k = subst (λ (a : Result ℕ Refusal). Tellable a) (sym e) k
 
 -- An answer on a table is handed on as it is.
-table-tellable : (a : table.Answer) → Packable a → Tellable (of_table a)
-table-tellable (table-variant.Value n) h = h
-table-tellable (table-variant.Refused r) h = h
+table-tellable : (a : Result ℕ TableRefusal) → Packable a → Tellable (of_table a)
+table-tellable (Ok n) h = h
+table-tellable (Err r) h = h
 
 -- ---- symbols
-pub on-symbol : (text : List ℕ) (f : ℕ → List ℕ → table.Answer) → ((n : ℕ) (t : List ℕ) → Packable (f n t)) → Tellable (on_symbol text f)
+pub on-symbol : (text : List ℕ) (f : ℕ → List ℕ → Result ℕ TableRefusal) → ((n : ℕ) (t : List ℕ) → Packable (f n t)) → Tellable (on_symbol text f)
 unfolding order_of
 on-symbol text f h = by_answer (symbol_answer text).answer refl
   where
@@ -41,7 +40,7 @@ on-symbol text f h = by_answer (symbol_answer text).answer refl
     by_answer (symbol-variant.Refused r) e = symbol-told text r e
 
 -- ---- records
-pub on-record : (bytes : List ℕ) (f : ℕ → List ℕ → table.Answer) → ((n : ℕ) (t : List ℕ) → Packable (f n t)) → Tellable (on_record bytes f)
+pub on-record : (bytes : List ℕ) (f : ℕ → List ℕ → Result ℕ TableRefusal) → ((n : ℕ) (t : List ℕ) → Packable (f n t)) → Tellable (on_record bytes f)
 unfolding order_of_record
 on-record bytes f h = by_answer (read_of bytes).answer
   where

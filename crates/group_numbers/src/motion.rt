@@ -5,14 +5,14 @@ ghost use Rattle.group_numbers.specs.MotionBounds.{Tellable};
 ghost use Rattle.answer_numbers.specs.Packing.{packed};
 
 use answer_numbers::refused;
-use motion_group::Answer;
+use motion_tables::Refusal;
 
-pub(crate) fn answered(answer: Answer) -> u64
+pub(crate) fn answered(answer: Result<u64, Refusal>) -> u64
     requires { Tellable answer }
     ensures { result ≡ packed (motion_answer answer) }
 {
     match answer {
-        Answer::Value(value) => value,
-        Answer::Refused(refusal) => refused(refusal.number, refusal.place),
+        Ok(value) => value,
+        Err(refusal) => refused(refusal.number, refusal.place),
     }
 }

@@ -1,6 +1,6 @@
 -- What the test of refusal 35 finds on its way: columns of products, the right factors with which every product is listed, and what these decide.
 -- The idea: an operation that is the product of two such right factors is one itself, so only a few columns are made of products.
-use Rattle.std.specs.Prelude.{◌≡◌, refl, ◌↔◌, Bool, true, false, ℕ, ◌+◌, ◌*◌, ◌<◌, ◌≤◌, ltb, length, drop, set, replicate}
+use Rattle.std.specs.Prelude.{◌≡◌, refl, ◌↔◌, Bool, true, false, ℕ, ◌+◌, ◌*◌, ◌<◌, ◌≤◌, ltb, length, drop, set, replicate, None, Option, Some}
 use Rattle.std.proofs.Common.{sym, ◌∙◌, ap₂, true≢false, arith, length-set, get_or-set_same, get_or-set_other}
 use Rattle.std.proofs.Math.Path.{ap, subst}
 use mathlib.Core.List.Memᴰ.{map as mem-map}
@@ -24,8 +24,6 @@ use Rattle.operation.specs.Entries.{Entries}
 use Rattle.operation.specs.Meaning.{matrix_of, vector_of, motion_of, all_inside, row_inside, inside, entry_of, digit_of, digit_above}
 use Rattle.operation.specs.Product.{identity_operation, operation_of, product_of}
 use Rattle.operation.specs.declared.Operation.{Operation}
-use Rattle.operation.specs.declared.product.Product.{Product}
-use Rattle.operation.specs.declared.product.Product.TheVariants.{Inside, Outside}
 use Rattle.centering.specs.Keeps.{keeps-lattice}
 use Rattle.centering.specs.declared.Centering.{Centering}
 use Rattle.group_record.specs.Record.{item_of}
@@ -45,9 +43,9 @@ abbrev pub listed_at : List Operation → ℕ → Operation
 listed_at l i = get_or l i identity_operation
 
 -- The place of a product among items modulo L; their count where it is not listed.
-abbrev pub product_at : Centering → List Item → Product → ℕ
-product_at c items (Inside h) = place (alike_items c) (item_of h) items
-product_at c items Outside = length items
+abbrev pub product_at : Centering → List Item → Option Operation → ℕ
+product_at c items (Some h) = place (alike_items c) (item_of h) items
+product_at c items None = length items
 
 -- The product of the listed operation i with g is the listed one whose index stands in slot i of the column that starts at a place.
 abbrev pub Leads : Centering → List Operation → Operation → List ℕ → ℕ → ℕ → Type 0
@@ -125,9 +123,9 @@ place_end same wanted items i e = rw e (omega arith)
 
 module _ (c : Centering) (items : List Item) where
   -- The place of a product is an index exactly if it is listed.
-  product-places : (p : Product) → ltb (product_at c items p) (length items) ≡ product_listed c items p
-  product-places (Inside h) = place-test (alike_items c) (item_of h) items
-  product-places Outside = le-ltb (length items) (length items) (omega arith)
+  product-places : (p : Option Operation) → ltb (product_at c items p) (length items) ≡ product_listed c items p
+  product-places (Some h) = place-test (alike_items c) (item_of h) items
+  product-places None = le-ltb (length items) (length items) (omega arith)
 
   module _ (G : GoodItems c items) where
     abbrev listed : List Operation
@@ -155,11 +153,11 @@ module _ (c : Centering) (items : List Item) where
       abbrev sought : SpaceMotion
       sought = compose (motion_of f) (motion_of g)
 
-      product-hit : (p : Product) → product_of f g ≡ p → product_at c items p < length items
+      product-hit : (p : Option Operation) → product_of f g ≡ p → product_at c items p < length items
           → Alike c sought (motion_of (listed_at listed (product_at c items p)))
       unfolding motion_of
-      product-hit Outside e low = absurd (omega arith)
-      product-hit (Inside k) e low =
+      product-hit None e low = absurd (omega arith)
+      product-hit (Some k) e low =
           let (inside, reduces) = product_inside_lem f g k e in
           let (rotation, class) = place-alike k (rw reduces.rotation inside) low in
           (sym reduces.rotation ∙ rotation, congruent-residues c sought.translation (vector_of k.translation) _ (sym reduces.translation) class)
@@ -271,7 +269,7 @@ sound-next c l known members count q S room h R =
 
 -- ---- the decision
 -- The identity's square is the identity.
-identity-square : product_of identity_operation identity_operation ≡ Inside identity_operation
+identity-square : product_of identity_operation identity_operation ≡ Some identity_operation
 unfolding product_of operation_of motion_of all_inside row_inside inside product times matrix_of entry_of one digit_of residue digit_above plus act vector_of
 identity-square = refl
 

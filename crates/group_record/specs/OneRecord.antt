@@ -10,7 +10,7 @@ use mathlib.Core.List.Memᴰ.{of_map as mem-of-map}
 use mathlib.Core.List.Memᴰ.{tail as there}
 use mathlib.Core.List.{List, [], ◌∷◌, ◌++◌, map, Memᴰ as Mem}
 use Rattle.std.proofs.lemmas.List.{length-map}
-use Rattle.laws.specs.Matrix.{Vector, unit, origin}
+use Rattle.laws.specs.Matrix.{Vector, unit}
 use Rattle.laws.specs.Motion.{SpaceMotion, identity, translation_by}
 use Rattle.laws.specs.Lattice.{InLattice, Congruent}
 use Rattle.laws.specs.Sorted.{key-strict, unique}

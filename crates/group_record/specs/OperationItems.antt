@@ -1,11 +1,9 @@
 -- What a record says of one operation, in any edition: the code of its rotation, and a translation; and the operation that such an item stands for.
-use Rattle.std.specs.Prelude.{◌≡◌, ◌<◌}
+use Rattle.std.specs.Prelude.{◌≡◌, ◌<◌, None, Option, Some}
 use Rattle.operation.specs.Code.{code_of, decoded_of}
 use Rattle.operation.specs.Product.{identity_operation}
 use Rattle.operation.specs.declared.Operation.{Operation}
 use Rattle.operation.specs.declared.Rotation.{Rotation}
-use Rattle.operation.specs.declared.code.Decoded.{Decoded}
-use Rattle.operation.specs.declared.code.Decoded.TheVariants.{Inside, Outside}
 pub use Rattle.group_record.specs.declared.items.Item.{Item}
 
 -- Items are equal where their parts are.
@@ -17,9 +15,9 @@ abbrev pub item_of : Operation → Item
 item_of f = record { code = code_of f.rotation; translation = f.translation }
 
 -- The rotation of a code; a code over 19682 has none, and gives the identity.
-abbrev pub rotation_of_decoded : Decoded → Rotation
-rotation_of_decoded (Inside r) = r
-rotation_of_decoded Outside = identity_operation.rotation
+abbrev pub rotation_of_decoded : Option Rotation → Rotation
+rotation_of_decoded (Some r) = r
+rotation_of_decoded None = identity_operation.rotation
 
 -- The operation that an item stands for.
 unfoldable pub operation_of_item : Item → Operation

@@ -1,7 +1,7 @@
 -- Which buffers are read and which are refused, each of 30 to 35 exactly when and in order: the rules as a relation between a buffer and what is told of it,
 -- and that the reading is this relation, for any editions, letters and kind of item.
 -- The idea: a buffer that is long enough is a front and a trailer, and each rule speaks of one of them.
-use Rattle.std.specs.Prelude.{◌≡◌, ◌↔◌, Bool, cond, leb, eqb, ltb, get_or, drop}
+use Rattle.std.specs.Prelude.{◌≡◌, ◌↔◌, Bool, cond, leb, eqb, get_or, drop}
 use Rattle.std.proofs.Math.Path.{refl, ap, ap₂, subst}
 use Rattle.std.proofs.Common.{sym, ◌∙◌, arith, lt-ltb, le-ltb, le-leb, leb-true, eq-eqb, eqb-true, length-drop, take-append-drop, get_or-append-add, drop-drop, drop_at, length-take-le}
 use Rattle.std.proofs.Math.Bool.{true, false}
@@ -10,7 +10,7 @@ use Rattle.std.proofs.Math.Option.{Option, none, some}
 use Prim.Native.Nat.{ℕ, zero, suc, ◌+◌, ◌*◌, ◌-◌, ◌/◌, ◌%◌, ◌<◌, ◌≤◌}
 use Rattle.std.proofs.Math.Decide.{dec_lt}
 use Rattle.std.proofs.Math.ListN.{length, take, length-append}
-use Rattle.laws.specs.Sorted.{Sorted, key-strict, key-decides, ascending, ascending-sorted, sorted-ascending}
+use Rattle.laws.specs.Sorted.{Sorted, key-strict, key-decides, ascending-sorted, sorted-ascending}
 use Rattle.laws.specs.Truth.{all, both_true, all_true, fails, failed}
 use Rattle.group_record.specs.Items.{Bytes, bytes_left, items_in, items-length, bytes_of, bytes-length, written_read}
 use Rattle.group_record.specs.Editions.{total_length, last_five, trailer_bytes, from_end_lem, framed, framed-items}

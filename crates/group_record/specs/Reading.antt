@@ -1,6 +1,6 @@
 -- How a buffer is read: which items are those of a record and which groups it may hold, the readings that ask this for any editions and letters,
 -- and with the letters of the lattices the reading of editions 1 and 3, and that of edition 1 alone. The answers, by refusal and in numbers.
-use Rattle.std.specs.Prelude.{◌≡◌, refl, ◌↔◌, Bool, true, false, cond, ◌&&◌, List, ◌++◌, map, ℕ, ◌-◌, ◌≤◌, ltb, eqb, length, replicate, take}
+use Rattle.std.specs.Prelude.{◌≡◌, refl, ◌↔◌, Bool, true, false, cond, ◌&&◌, List, ◌++◌, map, ℕ, ◌-◌, ◌≤◌, ltb, eqb, length, replicate, take, None, Option as Maybe, Some}
 use Rattle.std.proofs.Math.Option.{Option, none, some}
 use Rattle.std.proofs.Common.{arith, eqb-true}
 use Rattle.laws.specs.Distinct.{has}
@@ -10,8 +10,6 @@ use Rattle.laws.specs.Truth.{all}
 use Rattle.operation.specs.Answer.{Answer, given, refused, Nothing}
 use Rattle.operation.specs.Product.{identity_operation, product_of}
 use Rattle.operation.specs.declared.Operation.{Operation}
-use Rattle.operation.specs.declared.product.Product.{Product}
-use Rattle.operation.specs.declared.product.Product.TheVariants.{Inside, Outside}
 use Rattle.centering.specs.Letters.{byte_of}
 use Rattle.centering.specs.Lattices.{triple_of, smallest_of, congruent_of}
 use Rattle.centering.specs.Keeps.{keeps_of}
@@ -102,9 +100,9 @@ unfoldable pub alike_items : Centering → Item → Item → Bool
 alike_items c i j = eqb i.code j.code && congruent_of c i.translation j.translation
 
 -- A product is listed modulo L.
-abbrev pub product_listed : Centering → List Item → Product → Bool
-product_listed c items (Inside h) = has (alike_items c) (item_of h) items
-product_listed c items Outside = false
+abbrev pub product_listed : Centering → List Item → Maybe Operation → Bool
+product_listed c items (Some h) = has (alike_items c) (item_of h) items
+product_listed c items None = false
 
 -- The product of two items is listed.
 unfoldable pub pair_listed : Centering → List Item → Item → Item → Bool

@@ -1,6 +1,6 @@
 -- What the tests of the reading say of items, operations and motions: refusal 34 is given exactly where the
 -- items are not those of operations in the listed form, and refusal 35 exactly where these are not allowed.
-use Rattle.std.specs.Prelude.{◌≡◌, refl, ◌↔◌, true, false, ℕ, ◌<◌, ◌≤◌, ltb, eqb, length}
+use Rattle.std.specs.Prelude.{◌≡◌, refl, ◌↔◌, true, ℕ, ◌<◌, ◌≤◌, ltb, eqb, length, None, Option, Some}
 use Rattle.std.proofs.Common.{sym, ◌∙◌, ap, ap₂, subst, true≢false, arith, ltb-true, lt-ltb, eqb-true, eq-eqb}
 use mathlib.Core.List.Memᴰ.{cast as mem-cast}
 use mathlib.Core.List.Memᴰ.{head as here}
@@ -23,8 +23,6 @@ use Rattle.operation.specs.Entries.{Entries, digits-entries, all-entries}
 use Rattle.operation.specs.Meaning.{Digits, matrix_of, vector_of, motion_of}
 use Rattle.operation.specs.Product.{identity_operation, product_of, operation_of}
 use Rattle.operation.specs.declared.Operation.{Operation}
-use Rattle.operation.specs.declared.product.Product.{Product}
-use Rattle.operation.specs.declared.product.Product.TheVariants.{Inside, Outside}
 use Rattle.centering.specs.Letters.{points_of}
 use Rattle.centering.specs.Lattices.{points, triple_of, translation_of, smallest_of}
 use Rattle.centering.specs.LatticeLaws.{Smallest, smallest-is, smallest-same, congruent-lattice}
@@ -173,7 +171,7 @@ listed-test c l f = (
         (g, k, p, r)
 
 product-within : (f g : Operation) → Entries (compose (motion_of f) (motion_of g)).rotation
-    → product_of f g ≡ Inside (operation_of (compose (motion_of f) (motion_of g)))
+    → product_of f g ≡ Some (operation_of (compose (motion_of f) (motion_of g)))
 unfolding product_of
 product-within f g inside = rw ((all-entries (compose (motion_of f) (motion_of g)).rotation).1 inside)
 
@@ -186,9 +184,9 @@ product-test c l entries f g = (λ e. forth (product_of f g) refl e, back)
     m : SpaceMotion
     m = compose (motion_of f) (motion_of g)
 
-    forth : (p : Product) → product_of f g ≡ p → product_listed c (map item_of l) p ≡ true → (h : Operation) × Mem h l × Alike c m (motion_of h)
-    forth Outside e t = absurd (true≢false (sym t))
-    forth (Inside k) e t =
+    forth : (p : Option Operation) → product_of f g ≡ p → product_listed c (map item_of l) p ≡ true → (h : Operation) × Mem h l × Alike c m (motion_of h)
+    forth None e t = absurd (true≢false (sym t))
+    forth (Some k) e t =
         let (inside, reduces) = product_inside_lem f g k e in
         let (h, n, p, q) = (listed-test c l k).0 t in
         let same = code-matrix k.rotation h.rotation (rw reduces.rotation inside) (entries h n) p in (
@@ -216,7 +214,7 @@ product-test c l entries f g = (λ e. forth (product_of f g) refl e, back)
               reduces.translation q,
         ))
       where
-        is-inside : Entries m.rotation → product_of f g ≡ Inside (operation_of m)
+        is-inside : Entries m.rotation → product_of f g ≡ Some (operation_of m)
         is-inside inside = product-within f g inside
 
 -- The identity with (0,0,0): no other triple is the smallest of the class of (0,0,0).

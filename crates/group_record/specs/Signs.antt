@@ -1,6 +1,6 @@
 -- The letters of records: those of the lattices, and p and c of layer groups, whose lattices are those of P and C (R14). Under a small letter every
 -- operation must be one of a layer.
-use Rattle.std.specs.Prelude.{◌≡◌, refl, ◌↔◌, Bool, true, false, cond, ℕ, eqb}
+use Rattle.std.specs.Prelude.{◌≡◌, refl, ◌↔◌, Bool, true, false, cond, ℕ, eqb, None, Option as Maybe, Some}
 use Rattle.std.proofs.Common.{sym, ◌∙◌, ap, inl, inr, true≢false, arith, eqb-true}
 use mathlib.Core.List.{List, Memᴰ as Mem}
 use Rattle.std.proofs.Math.Option.{Option, none, some}
@@ -12,8 +12,6 @@ use Rattle.centering.specs.Letters.{letters, byte_of, letter_of}
 use Rattle.centering.specs.LatticeLaws.{letter-by-byte, among-byte}
 use Rattle.centering.specs.declared.Centering.{Centering}
 use Rattle.centering.specs.declared.Centering.TheVariants.{P, A, B, C, I, R, F, H}
-use Rattle.centering.specs.declared.Letter.{Letter}
-use Rattle.centering.specs.declared.Letter.TheVariants.{Is, None}
 use Rattle.layer_group.specs.Answers.{small_of}
 use Rattle.layer_group.specs.Layers.{LayerMotion, is_layer}
 use Rattle.layer_group.specs.Motions.{test-exactly}
@@ -53,13 +51,13 @@ small-lattice SmallC e = inr refl
 
 -- ---- bytes
 -- The letter that a byte spells.
-abbrev pub letter_in : Letter → Option Centering
-letter_in (Is c) = some c
+abbrev pub letter_in : Maybe Centering → Option Centering
+letter_in (Some c) = some c
 letter_in None = none
 
-pub spelled-letter : (b : ℕ) (c : Centering) (a : Letter) → letter_of b ≡ a → letter_in a ≡ some c → b ≡ byte_of c
+pub spelled-letter : (b : ℕ) (c : Centering) (a : Maybe Centering) → letter_of b ≡ a → letter_in a ≡ some c → b ≡ byte_of c
 unfolding letter_of
-spelled-letter b c (Is d) e q = let same : d ≡ c = cc in among-byte b letters d e ∙ ap byte_of same
+spelled-letter b c (Some d) e q = let same : d ≡ c = cc in among-byte b letters d e ∙ ap byte_of same
 spelled-letter b c None e q = let z : ◌≡◌ {A = ℕ} 0 1 = cc in absurd (omega arith)
 
 -- The letters of the lattices.
@@ -75,8 +73,8 @@ abbrev pub sign_byte : Sign → ℕ
 sign_byte s = letter_byte (is_small s) (lattice_of s)
 
 -- How a byte is read: p, c, or the letter of a lattice.
-abbrev pub plain_in : Letter → Option Sign
-plain_in (Is c) = some (Plain c)
+abbrev pub plain_in : Maybe Centering → Option Sign
+plain_in (Some c) = some (Plain c)
 plain_in None = none
 
 unfoldable pub sign_of : ℕ → Option Sign
@@ -99,8 +97,8 @@ pub sign-back : (b : ℕ) (s : Sign) → sign_of b ≡ some s → b ≡ sign_byt
 unfolding sign_of
 sign-back b s e = by-p (eqb b 112) refl e
   where
-    by-letter : (a : Letter) → letter_of b ≡ a → plain_in a ≡ some s → b ≡ sign_byte s
-    by-letter (Is c) p q = let same : Plain c ≡ s = cc in spelled-letter b c (Is c) p refl ∙ ap sign_byte same
+    by-letter : (a : Maybe Centering) → letter_of b ≡ a → plain_in a ≡ some s → b ≡ sign_byte s
+    by-letter (Some c) p q = let same : Plain c ≡ s = cc in spelled-letter b c (Some c) p refl ∙ ap sign_byte same
     by-letter None p q = let z : ◌≡◌ {A = ℕ} 0 1 = cc in absurd (omega arith)
 
     by-c : (t : Bool) → eqb b 99 ≡ t → cond t (some SmallC) (plain_in (letter_of b)) ≡ some s → b ≡ sign_byte s

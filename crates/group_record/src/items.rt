@@ -1,13 +1,11 @@
 // What a record says of one operation, and what is asked of it alone.
 ghost use Rattle.std.specs.Prelude.{◌≡◌};
-ghost use Rattle.laws.specs.Lattice.{same_triple};
-ghost use Rattle.centering.specs.Lattices.{triple_of};
 ghost use Rattle.group_record.specs.OperationItems.{operation_of_item};
 ghost use Rattle.group_record.specs.Reading.{is_item};
 ghost use Rattle.group_record.specs.ThirdEdition.{item_of_number};
 
 use centering::Centering;
-use operation::code::{Decoded, rotation_of_code};
+use operation::code::rotation_of_code;
 use operation::product::identity;
 use operation::{Operation, Translation};
 
@@ -38,18 +36,13 @@ pub fn item_of_number(number: u32) -> Item
 pub fn operation_of_item(item: Item) -> Operation
     ensures { result ≡ operation_of_item item }
 {
-    let translation = item.translation;
-    let Decoded::Inside(rotation) = rotation_of_code(item.code) else {
-        let unit = identity();
-        let rotation = unit.rotation;
-        return Operation {
-            rotation,
-            translation,
-        };
+    let rotation = match rotation_of_code(item.code) {
+        Some(rotation) => rotation,
+        None => identity().rotation,
     };
     Operation {
         rotation,
-        translation,
+        translation: item.translation,
     }
 }
 
@@ -57,21 +50,6 @@ pub fn operation_of_item(item: Item) -> Operation
 pub fn is_item(item: Item, c: Centering) -> bool
     ensures { result ≡ is_item c item }
 {
-    if 19683 <= item.code {
-        return false;
-    }
     let t = item.translation;
-    same(c.smallest(t), t)
-}
-
-fn same(s: Translation, t: Translation) -> bool
-    ensures { result ≡ same_triple (triple_of s) (triple_of t) }
-{
-    if s.x != t.x {
-        return false;
-    }
-    if s.y != t.y {
-        return false;
-    }
-    s.z == t.z
+    item.code < 19683 && c.smallest(t) == t
 }

@@ -16,11 +16,7 @@ impl Sign {
     pub fn is_small(self) -> bool
         ensures { result ≡ is_small self }
     {
-        match self {
-            Sign::Plain(_) => false,
-            Sign::SmallP => true,
-            Sign::SmallC => true,
-        }
+        !matches!(self, Sign::Plain(_))
     }
 
     pub fn lattice(self) -> Centering

@@ -1,5 +1,5 @@
 -- The search for a product's index by the code of its rotation: where the code stands among the listed ones, and that the table has this index in its cell.
-use Rattle.std.specs.Prelude.{◌≡◌, List, ◌∷◌, [], ◌++◌, map, ℕ, ◌+◌, ◌*◌, ◌<◌, ◌≤◌, eqb, length, take, set}
+use Rattle.std.specs.Prelude.{◌≡◌, List, ◌∷◌, [], ◌++◌, map, ℕ, ◌+◌, ◌*◌, ◌<◌, ◌≤◌, eqb, length, take, set, None, Option, Some}
 use Rattle.std.proofs.Common.{sym, ◌∙◌, ap₂, add-one, arith, take-suc, length-take-le, get_or-take}
 use Rattle.std.proofs.Math.Path.{ap}
 use mathlib.Core.List.Memᴰ.{map as mem-map}
@@ -15,8 +15,6 @@ use Rattle.operation.specs.Entries.{Entries, all-entries, digits-entries, digits
 use Rattle.operation.specs.Meaning.{motion_of, digits_of}
 use Rattle.operation.specs.Product.{identity_operation, operation_of, product_of}
 use Rattle.operation.specs.declared.Operation.{Operation}
-use Rattle.operation.specs.declared.product.Product.{Product}
-use Rattle.operation.specs.declared.product.Product.TheVariants.{Inside, Outside}
 use Rattle.centering.specs.declared.Centering.{Centering}
 use Rattle.space_group.specs.Traversal.{turn_of, padded}
 use Rattle.space_group.specs.Places.{place-key}
@@ -27,9 +25,9 @@ use Rattle.group_table.specs.Tables.{table_of}
 use Rattle.group_table.specs.OperationTables.{distinct-place, motion_at, table-length, cell-alike}
 
 -- Where the code of a product stands among codes; 48, which no index is, where an entry has left −1..1.
-abbrev pub product_place : Product → List ℕ → ℕ
-product_place (Inside h) codes = place eqb (turn_of h) codes
-product_place Outside codes = 48
+abbrev pub product_place : Option Operation → List ℕ → ℕ
+product_place (Some h) codes = place eqb (turn_of h) codes
+product_place None codes = 48
 
 module _ (c : Centering) {l : List Operation} (L : Listing l) where
   -- A listed code stands at its operation's index, whatever comes behind the codes.

@@ -1,9 +1,10 @@
 -- A table filled column by column in place: what a filled column is, how far columns are filled, and that a column composed of two is that of their product.
 -- The idea: products associate, so operation i times the product of p and g stands where the product of i and p leads in the column of g.
-use Rattle.std.specs.Prelude.{◌≡◌, refl, List, map, ◌++◌, ℕ, ◌+◌, ◌*◌, ◌/◌, ◌%◌, ◌<◌, ◌≤◌, length, get_or, set, take, drop, replicate}
+use Rattle.std.specs.Prelude.{◌≡◌, refl, Bool, true, false, List, map, ◌++◌, ℕ, ◌+◌, ◌*◌, ◌/◌, ◌%◌, ◌<◌, ◌≤◌, length, get_or, set, take, drop, replicate}
 use Rattle.std.proofs.Common.{sym, ◌∙◌, ap, arith, div-add-mod', div-lt_iff_lt-mul, mod-lt, length-set, take-append-drop, get_or-set_same, get_or-set_other, get_or-take, length-take-le, drop-set-lt, ext_get_or}
-use Rattle.std.proofs.Math.Decide.{ℕ_discrete, dec_lt}
+use Rattle.std.proofs.Math.Decide.{ℕ_discrete}
 use Rattle.std.proofs.lemmas.List.{get_or-replicate}
+use Rattle.std.proofs.lemmas.Bool.{false≢true}
 use Rattle.operation.specs.Meaning.{motion_of}
 use Rattle.operation.specs.declared.Operation.{Operation}
 use Rattle.centering.specs.declared.Centering.{Centering}
@@ -12,6 +13,7 @@ use Rattle.subgroup_laws.specs.Table.{product}
 use Rattle.group_table.specs.Tables.{table_of, overlaid}
 use Rattle.group_table.specs.StepTables.{divisor}
 use Rattle.group_table.specs.TableGroups.{group-table}
+use Rattle.group_table.specs.declared.record.FilledColumns.{FilledColumns}
 
 -- ---- what is filled
 -- A table of n rows whose products are indices and associate.
@@ -26,12 +28,12 @@ abbrev pub Correct : ℕ → List ℕ → List ℕ → ℕ → Type 0
 Correct n table cells j = (j < n) × ((i : ℕ) → i < n → get_or cells (i * n + j) 0 ≡ get_or table (i * n + j) 0)
 
 -- What is noted as filled is: the members, and what is known.
-pub record Sound (n : ℕ) (table cells known members : List ℕ) (count : ℕ) : Type 0 where
-  pub broad : length known ≡ 48
-  pub wide : length members ≡ 48
-  pub few : count ≤ 48
-  pub member : (t : ℕ) → t < count → Correct n table cells (get_or members t 0)
-  pub sure : (k : ℕ) → k < n → get_or known k 0 ≡ 1 → Correct n table cells k
+pub record Sound (n : ℕ) (table cells : List ℕ) (filled : FilledColumns) : Type 0 where
+  pub broad : length filled.known ≡ 48
+  pub wide : length filled.members ≡ 48
+  pub few : filled.count ≤ 48
+  pub member : (t : ℕ) → t < filled.count → Correct n table cells (get_or filled.members t 0)
+  pub sure : (k : ℕ) → k < n → get_or filled.known k false ≡ true → Correct n table cells k
 
 -- No cell that was right is lost.
 abbrev pub Kept : List ℕ → List ℕ → List ℕ → Type 0
@@ -43,14 +45,8 @@ pub record Within (n : ℕ) (before after : List ℕ) : Type 0 where
   pub behind : drop (n * n) after ≡ drop (n * n) before
 
 -- One column more is noted as filled.
-pub record Noted (known members : List ℕ) (count j : ℕ) (wider more : List ℕ) (next : ℕ) : Type 0 where
-  pub broad : length wider ≡ length known
-  pub wide : length more ≡ length members
-  pub sound : (n : ℕ) (table cells : List ℕ) → Sound n table cells known members count → Correct n table cells j → Sound n table cells wider more next
-
--- The first column from a place on that is not known, or their count.
-abbrev pub NextUnknown : List ℕ → ℕ → ℕ → ℕ → Type 0
-NextUnknown known from n next = (from ≤ next) × (next ≤ n) × ((k : ℕ) → from ≤ k → k < next → get_or known k 0 ≡ 1)
+abbrev pub Noted : FilledColumns → ℕ → FilledColumns → Type 0
+Noted filled j wider = (n : ℕ) (table cells : List ℕ) → Sound n table cells filled → Correct n table cells j → Sound n table cells wider
 
 -- ---- what goes on from there
 -- The columns of p and g are there, and q is their product.
@@ -69,35 +65,37 @@ abbrev pub ComposedTo : ℕ → List ℕ → ℕ → ℕ → ℕ → List ℕ �
 ComposedTo n cells p g q after = Within n cells after × ((table : List ℕ) → Composing n table cells p g q → Kept table cells after × Correct n table after q)
 
 -- Some columns are there, and among them those of generators.
-pub record Widening (n : ℕ) (table cells known members : List ℕ) (count : ℕ) (generators : List ℕ) (m : ℕ) : Type 0 where
+pub record Widening (n : ℕ) (table cells : List ℕ) (filled : FilledColumns) (generators : List ℕ) : Type 0 where
   pub products : Products n table
   pub room : n * n ≤ length cells
-  pub sound : Sound n table cells known members count
-  pub narrow : m ≤ 48
-  pub generator : (s : ℕ) → s < m → Correct n table cells (get_or generators s 0)
+  pub sound : Sound n table cells filled
+  pub generator : (s : ℕ) → s < length generators → Correct n table cells (get_or generators s 0)
 
-abbrev pub Widenable : ℕ → List ℕ → List ℕ → List ℕ → ℕ → List ℕ → ℕ → Type 0
-Widenable n cells known members count generators m = (table : List ℕ) × Widening n table cells known members count generators m
+abbrev pub Widenable : ℕ → List ℕ → FilledColumns → List ℕ → Type 0
+Widenable n cells filled generators = (table : List ℕ) × Widening n table cells filled generators
 
 -- Right cells stay, and as many slots.
-pub record Widened (n : ℕ) (table cells after known members : List ℕ) (count : ℕ) : Type 0 where
-  pub sound : Sound n table after known members count
+pub record Widened (n : ℕ) (table cells after : List ℕ) (filled : FilledColumns) : Type 0 where
+  pub sound : Sound n table after filled
   pub kept : Kept table cells after
 
-abbrev pub WidenedTo : ℕ → List ℕ → List ℕ → List ℕ → ℕ → List ℕ → ℕ → List ℕ → List ℕ → List ℕ → ℕ → Type 0
-WidenedTo n cells known members count generators m after wider more filled =
-    Within n cells after × ((table : List ℕ) → Widening n table cells known members count generators m → Widened n table cells after wider more filled)
+abbrev pub WidenedTo : ℕ → List ℕ → FilledColumns → List ℕ → List ℕ → FilledColumns → Type 0
+WidenedTo n cells filled generators after wider =
+    Within n cells after × ((table : List ℕ) → Widening n table cells filled generators → Widened n table cells after wider)
 
 -- ---- cells on the way
--- Nothing noted is sound.
-nothing-sound : (n : ℕ) (table cells : List ℕ) → n ≤ 48 → Sound n table cells (replicate 48 0) (replicate 48 0) 0
+-- No column is noted at first.
+abbrev pub none_filled : FilledColumns
+none_filled = record { known = replicate 48 false; members = replicate 48 0; count = 0 }
+
+nothing-sound : (n : ℕ) (table cells : List ℕ) → n ≤ 48 → Sound n table cells none_filled
 nothing-sound n table cells few =
     record {
       broad = refl;
       wide = refl;
       few = omega arith;
       member = λ t h. absurd (omega arith);
-      sure = λ k h is. absurd (omega (arith, is, get_or-replicate {A = ℕ} 48 k 0 0 (omega arith)));
+      sure = λ k h is. absurd (false≢true (sym (get_or-replicate {A = Bool} 48 k false false (omega arith)) ∙ is));
     }
 
 pub within_same : (n : ℕ) (cells : List ℕ) → Within n cells cells
@@ -123,13 +121,13 @@ module _ (table cells : List ℕ) where
     correct-kept k (h, C) = (h, λ i lt. kept (i * n + k) (C i lt))
 
     -- and what was filled is.
-    pub sound-kept : (known members : List ℕ) (count : ℕ) → Sound n table cells known members count → Sound n table after known members count
-    sound-kept known members count S =
+    pub sound-kept : (filled : FilledColumns) → Sound n table cells filled → Sound n table after filled
+    sound-kept filled S =
         record {
           broad = S.broad;
           wide = S.wide;
           few = S.few;
-          member = λ t h. correct-kept (get_or members t 0) (S.member t h);
+          member = λ t h. correct-kept (get_or filled.members t 0) (S.member t h);
           sure = λ k h is. correct-kept k (S.sure k h is);
         }
 
@@ -143,20 +141,22 @@ column-next n table cells j i x h inside e before k lt = elim (ℕ_discrete k i)
 ]
 
 -- A column that is filled may be noted.
-pub sound-next : (n : ℕ) (table cells known members : List ℕ) (count q : ℕ) → Sound n table cells known members count → Correct n table cells q → count < 48
-    → Sound n table cells (set known q 1) (set members count q) (count + 1)
-sound-next n table cells known members count q S C room =
+abbrev pub noted : FilledColumns → ℕ → FilledColumns
+noted filled q = record { known = set filled.known q true; members = set filled.members filled.count q; count = filled.count + 1 }
+
+pub sound-next : (filled : FilledColumns) (q : ℕ) → filled.count < 48 → Noted filled q (noted filled q)
+sound-next filled q room n table cells S C =
     record {
-      broad = length-set known q 1 ∙ S.broad;
-      wide = length-set members count q ∙ S.wide;
+      broad = length-set filled.known q true ∙ S.broad;
+      wide = length-set filled.members filled.count q ∙ S.wide;
       few = omega arith;
-      member = λ t lt. elim (ℕ_discrete t count) [
-        | yes e ↦ rw (e, get_or-set_same members count q 0 (omega (arith, S.wide))) C
-        | no e ↦ rw (get_or-set_other members count t q 0 e) (S.member t (omega arith))
+      member = λ t lt. elim (ℕ_discrete t filled.count) [
+        | yes e ↦ rw (e, get_or-set_same filled.members filled.count q 0 (omega (arith, S.wide))) C
+        | no e ↦ rw (get_or-set_other filled.members filled.count t q 0 e) (S.member t (omega arith))
       ];
       sure = λ k lt is. elim (ℕ_discrete k q) [
         | yes e ↦ rw e C
-        | no e ↦ S.sure k lt (sym (get_or-set_other known q k 1 0 e) ∙ is)
+        | no e ↦ S.sure k lt (sym (get_or-set_other filled.known q k true false e) ∙ is)
       ];
     }
 
@@ -199,76 +199,100 @@ module _ (c : Centering) (n : ℕ) (operations : List Operation) (there : n ≤ 
       }
 
 -- ---- all columns
--- What is filled when the columns before j are, and the first i cells of column j: among all those of generators.
-pub record Filling (n : ℕ) (table cells known members : List ℕ) (count : ℕ) (generators : List ℕ) (m i j : ℕ) : Type 0 where
-  pub sound : Sound n table cells known members count
+-- What is filled when the columns before j are: among all those of generators, the first m of their slots.
+pub record Filling (n : ℕ) (table cells : List ℕ) (filled : FilledColumns) (generators : List ℕ) (m j : ℕ) : Type 0 where
+  pub sound : Sound n table cells filled
   pub generator : (s : ℕ) → s < m → Correct n table cells (get_or generators s 0)
   pub before : (k : ℕ) → k < j → Correct n table cells k
+
+-- What is filled while column j is: its first i cells too.
+pub record FillingColumn (n : ℕ) (table cells : List ℕ) (filled : FilledColumns) (generators : List ℕ) (m i j : ℕ) : Type 0 where
+  pub whole : Filling n table cells filled generators m j
   pub begun : (k : ℕ) → k < i → get_or cells (k * n + j) 0 ≡ get_or table (k * n + j) 0
 
 -- Nothing is at first,
-pub filling-none : (n : ℕ) (table cells generators : List ℕ) → n ≤ 48 → Filling n table cells (replicate 48 0) (replicate 48 0) 0 generators 0 0 0
+pub filling-none : (n : ℕ) (table cells generators : List ℕ) → n ≤ 48 → Filling n table cells none_filled generators 0 0
 filling-none n table cells generators few =
     record {
       sound = nothing-sound n table cells few;
       generator = λ s h. absurd (omega arith);
       before = λ k h. absurd (omega arith);
-      begun = λ k h. absurd (omega arith);
     }
 
-module _ (n : ℕ) (table cells known members : List ℕ) (count : ℕ) (generators : List ℕ) (m i j : ℕ)
-    (F : Filling n table cells known members count generators m i j) where
-  -- then cell by cell of a column,
-  pub filling-cell : i < n → (x : ℕ) → i * n + j < length cells → x ≡ get_or table (i * n + j) 0
-      → Filling n table (set cells (i * n + j) x) known members count generators m (i + 1) j
-  filling-cell h x inside e =
-      let kept = set-kept table cells (i * n + j) x inside e in
-      let after = set cells (i * n + j) x in
+module _ (n : ℕ) (table cells : List ℕ) (filled : FilledColumns) (generators : List ℕ) (m j : ℕ) where
+  -- a column that is known is passed over,
+  pub filling-known : j < n → get_or filled.known j false ≡ true → Filling n table cells filled generators m j
+      → Filling n table cells filled generators m (j + 1)
+  filling-known h is F =
       record {
-        sound = sound-kept table cells n after kept known members count F.sound;
-        generator = λ s lt. correct-kept table cells n after kept (get_or generators s 0) (F.generator s lt);
-        before = λ k lt. correct-kept table cells n after kept k (F.before k lt);
-        begun = column-next n table cells j i x h inside e F.begun;
+        sound = F.sound;
+        generator = F.generator;
+        before = λ k lt. elim (ℕ_discrete k j) [
+          | yes e ↦ rw e (F.sound.sure j h is)
+          | no e ↦ F.before k (omega arith)
+        ];
       }
 
-  -- which is filled at its end;
-  filling-column : j < n → n ≤ i → Correct n table cells j
-  filling-column h all = (h, λ k lt. F.begun k (omega arith))
+  -- another is begun,
+  pub filling-begun : Filling n table cells filled generators m j → FillingColumn n table cells filled generators m 0 j
+  filling-begun F = record { whole = F; begun = λ k lt. absurd (omega arith) }
 
-  -- by it others are,
-  module _ (P : Products n table) (room : n * n ≤ length cells) (long : length generators ≡ 48) (short : m < 48) (h : j < n) (all : n ≤ i) where
-    module _ (noted-known noted-members : List ℕ) (noted : ℕ) (N : Noted known members count j noted-known noted-members noted) where
-      pub filling-widens : Widening n table cells noted-known noted-members noted (set generators m j) (m + 1)
+  module _ (i : ℕ) (F : FillingColumn n table cells filled generators m i j) where
+    -- filled cell by cell,
+    pub filling-cell : i < n → (x : ℕ) → i * n + j < length cells → x ≡ get_or table (i * n + j) 0
+        → FillingColumn n table (set cells (i * n + j) x) filled generators m (i + 1) j
+    filling-cell h x inside e =
+        let kept = set-kept table cells (i * n + j) x inside e in
+        let after = set cells (i * n + j) x in
+        let W = F.whole in
+        record {
+          whole = record {
+            sound = sound-kept table cells n after kept filled W.sound;
+            generator = λ s lt. correct-kept table cells n after kept (get_or generators s 0) (W.generator s lt);
+            before = λ k lt. correct-kept table cells n after kept k (W.before k lt);
+          };
+          begun = column-next n table cells j i x h inside e F.begun;
+        }
+
+    -- and is filled at its end;
+    filling-column : j < n → n ≤ i → Correct n table cells j
+    filling-column h all = (h, λ k lt. F.begun k (omega arith))
+
+    -- by it others are.
+    module _ (P : Products n table) (room : n * n ≤ length cells) (long : length generators ≡ 48) (short : m < 48) (h : j < n) (all : n ≤ i)
+        (wider : FilledColumns) (N : Noted filled j wider) where
+      pub filling-widens : Widening n table cells wider (take (m + 1) (set generators m j))
       filling-widens =
+          let count = length-take-le (m + 1) (set generators m j) (omega (arith, length-set generators m j)) in
           record {
             products = P;
             room = room;
-            sound = N.sound n table cells F.sound (filling-column h all);
-            narrow = omega arith;
-            generator = λ s lt. elim (ℕ_discrete s m) [
-              | yes e ↦ rw (e, get_or-set_same generators m j 0 (omega (arith, long))) (filling-column h all)
-              | no e ↦ rw (get_or-set_other generators m s j 0 e) (F.generator s (omega arith))
-            ];
+            sound = N n table cells F.whole.sound (filling-column h all);
+            generator = λ s lt. rw (get_or-take (m + 1) (set generators m j) s 0 (omega arith)) (generator-next s (omega arith));
           }
+        where
+          generator-next : (s : ℕ) → s < m + 1 → Correct n table cells (get_or (set generators m j) s 0)
+          generator-next s lt = elim (ℕ_discrete s m) [
+            | yes e ↦ rw (e, get_or-set_same generators m j 0 (omega (arith, long))) (filling-column h all)
+            | no e ↦ rw (get_or-set_other generators m s j 0 e) (F.whole.generator s (omega arith))
+          ]
 
-      -- and the next that is not known is to be made.
-      pub filling-next : (after wider more : List ℕ) (filled : ℕ)
-          → WidenedTo n cells noted-known noted-members noted (set generators m j) (m + 1) after wider more filled
-          → (next : ℕ) → NextUnknown wider (j + 1) n next → Filling n table after wider more filled (set generators m j) (m + 1) 0 next
-      filling-next after wider more filled D next U =
+      pub filling-next : (after : List ℕ) (widest : FilledColumns) → WidenedTo n cells wider (take (m + 1) (set generators m j)) after widest
+          → Filling n table after widest (set generators m j) (m + 1) (j + 1)
+      filling-next after widest D =
           let W = D.1 table filling-widens in
           let kept = W.kept in
           record {
             sound = W.sound;
-            generator = λ s lt. correct-kept table cells n after kept (get_or (set generators m j) s 0) (filling-widens.generator s lt);
+            generator = λ s lt. elim (ℕ_discrete s m) [
+              | yes e ↦ rw (e, get_or-set_same generators m j 0 (omega (arith, long))) (correct-kept table cells n after kept j (filling-column h all))
+              | no e ↦ rw (get_or-set_other generators m s j 0 e)
+                  (correct-kept table cells n after kept (get_or generators s 0) (F.whole.generator s (omega arith)))
+            ];
             before = λ k lt. elim (ℕ_discrete k j) [
               | yes e ↦ rw e (correct-kept table cells n after kept j (filling-column h all))
-              | no e ↦ elim (dec_lt k j) [
-                | yes l ↦ correct-kept table cells n after kept k (F.before k l)
-                | no l ↦ W.sound.sure k (omega (arith, U.1)) (U.2 k (omega arith) lt)
-              ]
+              | no e ↦ correct-kept table cells n after kept k (F.whole.before k (omega arith))
             ];
-            begun = λ k lt. absurd (omega arith);
           }
 
 -- When every column is filled, the cells are the table.

@@ -1,5 +1,5 @@
 -- Laws of the table of a list of operations: it has n² cells, and a cell is the index of the one listed operation that is the product modulo L.
-use Rattle.std.specs.Prelude.{◌≡◌, refl, Bool, T}
+use Rattle.std.specs.Prelude.{◌≡◌, Bool, T}
 use Rattle.std.proofs.Common.{sym, ◌∙◌, get_or-append-add}
 use mathlib.Core.List.Memᴰ.{map as mem-map}
 use mathlib.Core.List.{List, [], ◌∷◌, map}

@@ -1,5 +1,5 @@
 -- The table of what was read: a record that is read holds what a table is made of, and its answer is the table of its operations.
-use Rattle.std.specs.Prelude.{◌≡◌, refl, List, [], map, ℕ, ◌*◌, ◌<◌, ◌≤◌, length, take, replicate}
+use Rattle.std.specs.Prelude.{◌≡◌, refl, List, [], map, ℕ, ◌*◌, ◌<◌, ◌≤◌, length, take, replicate, Err, Ok, Result}
 use Rattle.std.proofs.Common.{sym, ◌∙◌, ap₂, subst, arith, length-take-le}
 use Rattle.std.proofs.Math.Path.{ap}
 use Rattle.operation.specs.Meaning.{motion_of}
@@ -18,8 +18,6 @@ use Rattle.group_table.specs.OperationTables.{table-length}
 use Rattle.group_table.specs.Tables.{table_of, record_table_by, record_table, order_of_record_by, order_of_record, record_cells_by, record_cells, overlaid, laid}
 use Rattle.group_table.specs.Overlay.{laid-all, laid_none, laid-blank}
 use Rattle.group_table.specs.declared.RecordTable.{RecordTable}
-use Rattle.group_table.specs.declared.RecordOrder.{RecordOrder}
-use Rattle.group_table.specs.declared.RecordOrder.TheVariants.{Is, Refused as OrderRefused}
 
 module _ (bytes : List ℕ) (g : RecordGroup) (e : g ≡ read_of bytes) where
   -- What was read is a listing of allowed operations.
@@ -54,18 +52,18 @@ module _ (bytes : List ℕ) (g : RecordGroup) (e : g ≡ read_of bytes) where
     square = table-length g.centering (take g.count g.operations) ∙ ap (λ (n : ℕ). n * n) listed
 
     -- What is answered if the slots are too few,
-    pub record-short : (lent : List ℕ) → length lent < g.count * g.count → (Is g.count ≡ order_of_record bytes) × (lent ≡ laid (record_cells bytes) lent)
+    pub record-short : (lent : List ℕ) → length lent < g.count * g.count → (Ok g.count ≡ order_of_record bytes) × (lent ≡ laid (record_cells bytes) lent)
     record-short lent short =
         (order-by Accepted told, sym (laid_none _ lent (omega (arith, square))) ∙ ap (λ (cells : List ℕ). laid cells lent) (cells-by Accepted told))
 
     -- if they hold all cells,
     pub record-filled : (lent now : List ℕ) → g.count * g.count ≤ length lent → now ≡ overlaid (table_of g.centering (take g.count g.operations)) lent
-        → (Is g.count ≡ order_of_record bytes) × (now ≡ laid (record_cells bytes) lent)
+        → (Ok g.count ≡ order_of_record bytes) × (now ≡ laid (record_cells bytes) lent)
     record-filled lent now room d =
         (order-by Accepted told, d ∙ sym (laid-all _ lent (omega (arith, square))) ∙ ap (λ (cells : List ℕ). laid cells lent) (cells-by Accepted told))
 
   -- and for a refusal.
-  pub record-refused : (r : Refusal) → g.answer ≡ Refused r → (lent : List ℕ) → (OrderRefused r ≡ order_of_record bytes)
+  pub record-refused : (r : Refusal) → g.answer ≡ Refused r → (lent : List ℕ) → (Err r ≡ order_of_record bytes)
       × (lent ≡ laid (record_cells bytes) lent)
   record-refused r told lent =
       (order-by (Refused r) told, sym (laid-all [] lent (omega arith)) ∙ ap (λ (cells : List ℕ). laid cells lent) (cells-by (Refused r) told))
@@ -76,9 +74,9 @@ pub read-order : (bytes : List ℕ) → Bytes bytes → (read_of bytes).answer �
 read-order bytes b told = (listed bytes (read_of bytes) refl b told, (read-writable bytes (read_of bytes) b refl told).few)
 
 -- The table by value is the order, and the cells in blank slots.
-abbrev by_value : RecordOrder → List ℕ → RecordTable
-by_value (Is n) cells = record { answer = Accepted; order = n; cells = cells }
-by_value (OrderRefused r) cells = record { answer = Refused r; order = 0; cells = cells }
+abbrev by_value : Result ℕ Refusal → List ℕ → RecordTable
+by_value (Ok n) cells = record { answer = Accepted; order = n; cells = cells }
+by_value (Err r) cells = record { answer = Refused r; order = 0; cells = cells }
 
 by_value_lem : (a : Reading) (c : Centering) (count : ℕ) (l : List Operation) → (a ≡ Accepted → (length l ≡ count) × (count ≤ 48))
     → by_value (order_of_record_by a count) (laid (record_cells_by a c l) (replicate 2304 0)) ≡ record_table_by a c l
@@ -86,9 +84,9 @@ by_value_lem Accepted c count l fits =
     let (long, few) = fits refl in
     let blank = laid-blank (table_of c l) 2304 (omega (arith, table-length c l, square-limit (length l) (omega arith))) in
     λ i. record { answer = Accepted; order = sym long i; cells = blank i }
-by_value_lem (Refused r) c count l fits = ap (by_value (OrderRefused r)) (laid-blank [] 2304 (omega arith))
+by_value_lem (Refused r) c count l fits = ap (by_value (Err r)) (laid-blank [] 2304 (omega arith))
 
-pub record-by-value : (bytes : List ℕ) → Bytes bytes → (o : RecordOrder) (cells : List ℕ) → o ≡ order_of_record bytes
+pub record-by-value : (bytes : List ℕ) → Bytes bytes → (o : Result ℕ Refusal) (cells : List ℕ) → o ≡ order_of_record bytes
     → cells ≡ laid (record_cells bytes) (replicate 2304 0) → by_value o cells ≡ record_table bytes
 unfolding order_of_record record_cells record_table
 record-by-value bytes b o cells e d =

@@ -3,6 +3,7 @@ use Rattle.std.specs.Prelude.{◌≡◌, List, ℕ, zero, suc, ◌+◌, ◌*◌,
 use Rattle.std.proofs.Common.{sym, ◌∙◌, ap, arith, suc-mul, mul-le-mul_right, div-add-mod', div-lt_iff_lt-mul, mod-lt, get_or-set_same, get_or-set_other}
 use Rattle.std.proofs.Math.Decide.{ℕ_discrete}
 use Rattle.group_table.specs.Overlay.{begun, begun-next, begun-at}
+use Rattle.group_table.specs.declared.symbol.Parent.{Parent}
 
 -- ---- the steps
 -- With n operations and m generators the step at p·m + k leads from operation p by generator k to an operation; and to each operation but the first
@@ -20,13 +21,13 @@ pub record Comes (m : ℕ) (steps : List ℕ) (j p k : ℕ) : Type 0 where
   pub leads : get_or steps (p * m + k) 0 ≡ j
 
 -- Of each operation but the first, whence it comes.
-abbrev pub AllCome : ℕ → ℕ → List ℕ → List ℕ → List ℕ → Type 0
-AllCome n m steps earlier generator = (j : ℕ) → 0 < j → j < n → Comes m steps j (get_or earlier j 0) (get_or generator j 0)
+abbrev pub AllCome : ℕ → ℕ → List ℕ → List Parent → Type 0
+AllCome n m steps parents = (j : ℕ) (d : Parent) → 0 < j → j < n → Comes m steps j (get_or parents j d).earlier (get_or parents j d).generator
 
 -- The same of what the first steps lead to.
-abbrev pub AllComeUpTo : ℕ → ℕ → ℕ → List ℕ → List ℕ → List ℕ → Type 0
-AllComeUpTo at n m steps earlier generator =
-    (t j : ℕ) → t < at → t < j * m → j < n → get_or steps t 0 ≡ j → Comes m steps j (get_or earlier j 0) (get_or generator j 0)
+abbrev pub AllComeUpTo : ℕ → ℕ → ℕ → List ℕ → List Parent → Type 0
+AllComeUpTo at n m steps parents =
+    (t j : ℕ) (d : Parent) → t < at → t < j * m → j < n → get_or steps t 0 ≡ j → Comes m steps j (get_or parents j d).earlier (get_or parents j d).generator
 
 -- ---- the table
 -- A table of n rows goes by the steps: the first operation is the identity, and where generator k leads from p to j, it leads from the product with p to
@@ -38,10 +39,10 @@ pub record GoesBy (n m : ℕ) (steps table : List ℕ) : Type 0 where
   pub next : (i p k : ℕ) → i < n → p < n → k < m → get_or table (i * n + get_or steps (p * m + k) 0) 0 ≡ get_or steps (get_or table (i * n + p) 0 * m + k) 0
 
 -- What filling a row takes: steps, parents, and a table that goes by them, whose rows before it are filled.
-pub record RowReady (n m i : ℕ) (steps earlier generator cells : List ℕ) : Type 0 where
+pub record RowReady (n m i : ℕ) (steps : List ℕ) (parents : List Parent) (cells : List ℕ) : Type 0 where
   pub row : i < n
   pub traversed : Traversed n m steps
-  pub parents : AllCome n m steps earlier generator
+  pub come : AllCome n m steps parents
   pub table : List ℕ
   pub lent : List ℕ
   pub goes : GoesBy n m steps table
@@ -73,28 +74,28 @@ module _ (n m : ℕ) (steps : List ℕ) (S : Traversed n m steps) where
   cells_fit = omega (arith, S.few, mul-le-mul_right n S.few)
 
 -- ---- the search for parents
-module _ (n m : ℕ) (steps earlier generator : List ℕ) where
+module _ (n m : ℕ) (steps : List ℕ) (parents : List Parent) where
   -- Once all steps were looked at, every parent is known.
-  pub come-all : Traversed n m steps → AllComeUpTo (n * m) n m steps earlier generator → AllCome n m steps earlier generator
-  come-all S h j a b =
+  pub come-all : Traversed n m steps → AllComeUpTo (n * m) n m steps parents → AllCome n m steps parents
+  come-all S h j d a b =
       let (t, lt, e) = S.parent j a b in
-      h t j (omega (arith, mul-le-mul_right m b, suc-mul j m)) lt b e
+      h t j d (omega (arith, mul-le-mul_right m b, suc-mul j m)) lt b e
 
-  module _ (at : ℕ) (h : AllComeUpTo at n m steps earlier generator) where
+  module _ (at : ℕ) (h : AllComeUpTo at n m steps parents) where
     -- A step that does not stand before the steps of what it leads to is passed over,
-    pub come-passed : get_or steps at 0 * m ≤ at → AllComeUpTo (at + 1) n m steps earlier generator
-    come-passed late t j lt before b e = elim (ℕ_discrete t at) [
+    pub come-passed : get_or steps at 0 * m ≤ at → AllComeUpTo (at + 1) n m steps parents
+    come-passed late t j d lt before b e = elim (ℕ_discrete t at) [
       | yes q ↦ let same : get_or steps at 0 ≡ j = rw q at e in absurd (omega (arith, ap (λ (x : ℕ). x * m) same))
-      | no q ↦ h t j (omega arith) before b e
+      | no q ↦ h t j d (omega arith) before b e
     ]
 
     -- and one that does is noted.
-    pub come-noted : length earlier ≡ 48 → length generator ≡ 48 → get_or steps at 0 < 48 → at < get_or steps at 0 * m
-        → AllComeUpTo (at + 1) n m steps (set earlier (get_or steps at 0) (at / m)) (set generator (get_or steps at 0) (at % m))
-    come-noted wide broad low first t j lt before b e = elim (ℕ_discrete j (get_or steps at 0)) [
+    pub come-noted : length parents ≡ 48 → get_or steps at 0 < 48 → at < get_or steps at 0 * m
+        → AllComeUpTo (at + 1) n m steps (set parents (get_or steps at 0) (record { earlier = at / m; generator = at % m }))
+    come-noted long low first t j d lt before b e = elim (ℕ_discrete j (get_or steps at 0)) [
       | yes q ↦
           let positive = divisor at (get_or steps at 0) m first in
-          rw (q, get_or-set_same earlier (get_or steps at 0) (at / m) 0 (omega arith), get_or-set_same generator (get_or steps at 0) (at % m) 0 (omega arith))
+          rw (q, get_or-set_same parents (get_or steps at 0) (record { earlier = at / m; generator = at % m }) d (omega arith))
           (record {
             earlier = (div-lt_iff_lt-mul positive).1 first;
             generator = mod-lt at positive;
@@ -102,8 +103,8 @@ module _ (n m : ℕ) (steps earlier generator : List ℕ) where
           })
       | no q ↦
           let old : ¬ (t ≡ at) = λ (r : t ≡ at). q (sym (rw r at e)) in
-          rw (get_or-set_other earlier (get_or steps at 0) j (at / m) 0 q, get_or-set_other generator (get_or steps at 0) j (at % m) 0 q)
-          (h t j (omega arith) before b e)
+          rw (get_or-set_other parents (get_or steps at 0) j (record { earlier = at / m; generator = at % m }) d q)
+          (h t j d (omega arith) before b e)
     ]
 
 -- ---- a row

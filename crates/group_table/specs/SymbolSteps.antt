@@ -1,5 +1,5 @@
 -- The table of an accepted symbol's operations goes by the steps of its traversal: a step is the product with the generator's index, and products associate.
-use Rattle.std.specs.Prelude.{◌≡◌, refl, List, [], map, ℕ, ◌+◌, ◌*◌, ◌/◌, ◌%◌, ◌-◌, ◌≤◌, ◌<◌, take, replicate}
+use Rattle.std.specs.Prelude.{◌≡◌, refl, List, [], map, ℕ, ◌+◌, ◌*◌, ◌/◌, ◌%◌, ◌-◌, ◌≤◌, ◌<◌, take, replicate, Err, Ok, Result}
 use Rattle.std.proofs.Math.Path.{sym, ap}
 use Rattle.std.proofs.Common.{◌∙◌, ap₂, suc-mul, mul-le-mul_right, div-add-mod', div-lt_iff_lt-mul, mod-lt, take_at, length-take-le}
 use native.Mathlib.Omega.{arith}
@@ -23,8 +23,6 @@ use Rattle.symbol_group.specs.declared.Answer as decided
 use Rattle.symbol_group.specs.declared.Answer.TheVariants.{Group as Given, Refused as NotGiven}
 use Rattle.symbol_group.specs.declared.refusal.Refusal.{Refusal}
 use Rattle.symbol_group.specs.declared.SymbolGroup.{SymbolGroup}
-use Rattle.symbol_group.specs.declared.SymbolOrder.{SymbolOrder}
-use Rattle.symbol_group.specs.declared.SymbolOrder.TheVariants.{Is, Refused as OrderRefused}
 use Rattle.group_record.specs.Groups.{Allowed, Listing}
 use Rattle.record_writing.specs.AcceptedSymbols.{accepted-listing, accepted-allowed}
 use Rattle.subgroup_laws.specs.Groups.{Group}
@@ -166,7 +164,7 @@ module _ (text : List ℕ) (g : SymbolGroup) (e : g ≡ symbol_answer text) wher
 
   -- What is answered if the slots are too few,
   pub symbol-short : g.answer ≡ Given → (lent : List ℕ) → length lent < g.count * g.count
-      → (Is g.count ≡ order_of text) × (lent ≡ laid (symbol_cells text) lent)
+      → (Ok g.count ≡ order_of text) × (lent ≡ laid (symbol_cells text) lent)
   symbol-short told lent short = (
     symbol-order-by Given told,
     sym (laid_none _ lent (omega (arith, symbol-square)))
@@ -175,7 +173,7 @@ module _ (text : List ℕ) (g : SymbolGroup) (e : g ≡ symbol_answer text) wher
 
   -- if they hold all cells,
   pub symbol-filled : g.answer ≡ Given → (lent now : List ℕ) → g.count * g.count ≤ length lent
-      → now ≡ overlaid (table_of g.centering (take g.count g.operations)) lent → (Is g.count ≡ order_of text) × (now ≡ laid (symbol_cells text) lent)
+      → now ≡ overlaid (table_of g.centering (take g.count g.operations)) lent → (Ok g.count ≡ order_of text) × (now ≡ laid (symbol_cells text) lent)
   symbol-filled told lent now room e = (
     symbol-order-by Given told,
     e ∙ sym (laid-all _ lent (omega (arith, symbol-square)))
@@ -183,23 +181,23 @@ module _ (text : List ℕ) (g : SymbolGroup) (e : g ≡ symbol_answer text) wher
   )
 
   -- and for a refusal.
-  pub symbol-refused : (r : Refusal) → g.answer ≡ NotGiven r → (lent : List ℕ) → (OrderRefused r ≡ order_of text) × (lent ≡ laid (symbol_cells text) lent)
+  pub symbol-refused : (r : Refusal) → g.answer ≡ NotGiven r → (lent : List ℕ) → (Err r ≡ order_of text) × (lent ≡ laid (symbol_cells text) lent)
   symbol-refused r told lent =
       (symbol-order-by (NotGiven r) told, sym (laid-all [] lent (omega arith)) ∙ ap (λ (cells : List ℕ). laid cells lent) (symbol-cells-by (NotGiven r) told))
 
 -- The table by value is the order, and the cells in blank slots.
-abbrev by_value : SymbolOrder → List ℕ → SymbolTable
-by_value (Is n) cells = record { answer = Given; order = n; cells = cells }
-by_value (OrderRefused r) cells = record { answer = NotGiven r; order = 0; cells = cells }
+abbrev by_value : Result ℕ Refusal → List ℕ → SymbolTable
+by_value (Ok n) cells = record { answer = Given; order = n; cells = cells }
+by_value (Err r) cells = record { answer = NotGiven r; order = 0; cells = cells }
 
 by_value_lem : (a : decided.Answer) (c : Centering) (count : ℕ) (l : List Operation) → length l ≡ count → count ≤ 48
     → by_value (order_by a count) (laid (symbol_cells_by a c l) (replicate 2304 0)) ≡ symbol_table_by a c l
 by_value_lem Given c count l long few =
     let blank = laid-blank (table_of c l) 2304 (omega (arith, table-length c l, square-limit (length l) (omega arith))) in
     λ i. record { answer = Given; order = sym long i; cells = blank i }
-by_value_lem (NotGiven r) c count l long few = ap (by_value (OrderRefused r)) (laid-blank [] 2304 (omega arith))
+by_value_lem (NotGiven r) c count l long few = ap (by_value (Err r)) (laid-blank [] 2304 (omega arith))
 
-pub symbol-by-value : (text : List ℕ) (o : SymbolOrder) (cells : List ℕ) → o ≡ order_of text → cells ≡ laid (symbol_cells text) (replicate 2304 0)
+pub symbol-by-value : (text : List ℕ) (o : Result ℕ Refusal) (cells : List ℕ) → o ≡ order_of text → cells ≡ laid (symbol_cells text) (replicate 2304 0)
     → by_value o cells ≡ symbol_table text
 unfolding order_of symbol_cells symbol_table
 symbol-by-value text o cells e d =

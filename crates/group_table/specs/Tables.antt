@@ -1,5 +1,5 @@
 -- What the table of a list of operations is (R6): indices in list order, the row being the left factor, products modulo L.
-use Rattle.std.specs.Prelude.{Bool, ◌&&◌, cond, List, [], ◌∷◌, ◌++◌, map, ℕ, ltb, length, take, drop, replicate}
+use Rattle.std.specs.Prelude.{Bool, ◌&&◌, cond, List, [], ◌∷◌, ◌++◌, map, ℕ, ltb, length, take, drop, replicate, Err, Ok, Result}
 use Rattle.laws.specs.Motion.{SpaceMotion, compose}
 use Rattle.laws.specs.SameMatrix.{same_rotation}
 use Rattle.laws.specs.Growth.{place}
@@ -16,8 +16,7 @@ use Rattle.group_record.specs.declared.Reading.{Reading}
 use Rattle.group_record.specs.declared.Reading.TheVariants.{Accepted, Refused as RecordRefused}
 use Rattle.group_table.specs.declared.SymbolTable.{SymbolTable}
 use Rattle.group_table.specs.declared.RecordTable.{RecordTable}
-use Rattle.group_table.specs.declared.RecordOrder.{RecordOrder}
-use Rattle.group_table.specs.declared.RecordOrder.TheVariants.{Is, Refused as OrderRefused}
+use Rattle.group_record.specs.declared.Refusal.{Refusal}
 
 -- ---- the table of a list
 -- Two motions are one modulo L: the same rotation, and translations in one class.
@@ -72,11 +71,11 @@ unfoldable pub symbol_cells : List ℕ → List ℕ
 symbol_cells text = let g = symbol_answer text in symbol_cells_by g.answer g.centering (take g.count g.operations)
 
 -- The order of a record that is read, or why it is not.
-abbrev pub order_of_record_by : Reading → ℕ → RecordOrder
-order_of_record_by Accepted count = Is count
-order_of_record_by (RecordRefused r) count = OrderRefused r
+abbrev pub order_of_record_by : Reading → ℕ → Result ℕ Refusal
+order_of_record_by Accepted count = Ok count
+order_of_record_by (RecordRefused r) count = Err r
 
-unfoldable pub order_of_record : List ℕ → RecordOrder
+unfoldable pub order_of_record : List ℕ → Result ℕ Refusal
 order_of_record bytes = let g = read_of bytes in order_of_record_by g.answer g.count
 
 -- The cells of its table.

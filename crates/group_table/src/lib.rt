@@ -21,10 +21,3 @@ pub struct RecordTable {
     pub order: usize,
     pub cells: [u8; 2304],
 }
-
-// How many operations a record lists, or why it is not read.
-#[derive(Clone, Copy)]
-pub enum RecordOrder {
-    Is(usize),
-    Refused(group_record::Refusal),
-}

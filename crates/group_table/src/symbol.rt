@@ -7,57 +7,55 @@ ghost use Rattle.group_table.specs.StepTables.{Traversed, AllCome, RowReady, Row
 ghost use Rattle.group_table.specs.SymbolSteps.{TableBySteps};
 
 use crate::SymbolTable;
-use symbol_group::{Answer, SymbolGroup, SymbolOrder};
+use symbol_group::refusal::Refusal;
+use symbol_group::{Answer, SymbolGroup};
 
-// The parent of each operation but the first: the index of an earlier operation, and that of the generator that leads from there to it.
+// The parent of an operation: the index of an earlier operation, and that of the generator that leads from there to it.
 #[derive(Clone, Copy)]
-struct Parents {
-    earlier: [u8; 48],
-    generator: [u8; 48],
+struct Parent {
+    earlier: u8,
+    generator: u8,
 }
 
-// A step that stands before the steps of the operation that it leads to comes from an earlier one.
-fn find_parents(steps: &[u8; 432], count: usize, generators: usize) -> Parents
+// The parent of each operation but the first. A step that stands before the steps of the operation that it leads to comes from an earlier one.
+fn find_parents(steps: &[u8; 432], count: usize, generators: usize) -> [Parent; 48]
     requires { Traversed count generators steps.now }
-    ensures { AllCome count generators steps.now result.earlier result.generator }
+    ensures { AllCome count generators steps.now result }
 {
-    let mut earlier = [0u8; 48];
-    let mut generator = [0u8; 48];
-    let end = count * generators;
-    let mut at = 0usize;
-    while at < end {
+    let mut parents = [Parent {
+        earlier: 0,
+        generator: 0,
+    }; 48];
+    for at in 0..count * generators {
         let to = steps[at] as usize;
         if at < to * generators {
-            earlier[to] = (at / generators) as u8;
-            generator[to] = (at % generators) as u8;
+            parents[to] = Parent {
+                earlier: (at / generators) as u8,
+                generator: (at % generators) as u8,
+            };
         }
-        at += 1;
     }
-    Parents { earlier, generator }
+    parents
 }
 
 // The products of operation i, each by the step that leads on from the product with its right factor's parent.
 fn fill_row(
     cells: &mut [u8],
     steps: &[u8; 432],
-    earlier: &[u8; 48],
-    generator: &[u8; 48],
+    parents: &[Parent; 48],
     count: usize,
     generators: usize,
     i: usize,
 )
-    requires { RowReady count generators i steps.now earlier.now generator.now cells.old }
+    requires { RowReady count generators i steps.now parents.now cells.old }
     ensures { RowFilled count generators i steps.now cells.old cells.new }
 {
     let row = i * count;
     cells[row] = i as u8;
-    let mut j = 1usize;
-    while j < count {
-        let p = earlier[j] as usize;
-        let left = cells[row + p] as usize;
-        let k = generator[j] as usize;
-        cells[row + j] = steps[left * generators + k];
-        j += 1;
+    for j in 1..count {
+        let parent = parents[j];
+        let left = cells[row + parent.earlier as usize] as usize;
+        cells[row + j] = steps[left * generators + parent.generator as usize];
     }
 }
 
@@ -69,18 +67,14 @@ fn fill_rows(cells: &mut [u8], g: SymbolGroup)
     let steps = g.steps;
     let count = g.count;
     let generators = g.generators;
-    let found = find_parents(&steps, count, generators);
-    let earlier = found.earlier;
-    let generator = found.generator;
-    let mut i = 0usize;
-    while i < count {
-        fill_row(cells, &steps, &earlier, &generator, count, generators, i);
-        i += 1;
+    let parents = find_parents(&steps, count, generators);
+    for i in 0..count {
+        fill_row(cells, &steps, &parents, count, generators, i);
     }
 }
 
 // The order, and the cells into the front of lent slots; a refused symbol leaves the slots as they are, and so does one whose cells they cannot hold.
-pub fn fill_cells(text: &[u8], cells: &mut [u8]) -> SymbolOrder
+pub fn fill_cells(text: &[u8], cells: &mut [u8]) -> Result<usize, Refusal>
     ensures { (result ≡ order_of text.now)
         × (cells.new ≡ laid (symbol_cells text.now) cells.old) }
 {
@@ -90,12 +84,12 @@ pub fn fill_cells(text: &[u8], cells: &mut [u8]) -> SymbolOrder
         Answer::Group => {
             let order = g.count;
             if cells.len() < order * order {
-                return SymbolOrder::Is(order);
+                return Ok(order);
             }
             fill_rows(cells, g);
-            SymbolOrder::Is(order)
+            Ok(order)
         }
-        Answer::Refused(refusal) => SymbolOrder::Refused(refusal),
+        Answer::Refused(refusal) => Err(refusal),
     }
 }
 
@@ -105,12 +99,12 @@ pub fn from_symbol(text: &[u8]) -> SymbolTable
     let mut cells = [0u8; 2304];
     let found = fill_cells(text, &mut cells);
     match found {
-        SymbolOrder::Is(order) => SymbolTable {
+        Ok(order) => SymbolTable {
             answer: Answer::Group,
             order,
             cells,
         },
-        SymbolOrder::Refused(refusal) => SymbolTable {
+        Err(refusal) => SymbolTable {
             answer: Answer::Refused(refusal),
             order: 0,
             cells,

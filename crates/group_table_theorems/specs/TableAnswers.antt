@@ -1,6 +1,6 @@
 -- What the answers say: a table is given for every accepted symbol and for every record that is read, it is that of a group, and it is the table of their sets
 -- of motions.
-use Rattle.std.specs.Prelude.{◌≡◌, refl, ◌↔◌, List, map, ℕ, ◌*◌, ◌-◌, ◌<◌, length, take, replicate}
+use Rattle.std.specs.Prelude.{◌≡◌, refl, ◌↔◌, List, map, ℕ, ◌*◌, ◌-◌, ◌<◌, length, take, replicate, Ok}
 use Rattle.std.proofs.Common.{◌∙◌, subst, arith, take_at}
 use Rattle.laws.specs.Motion.{SpaceMotion, compose}
 use Rattle.operation.specs.Meaning.{motion_of}
@@ -11,7 +11,6 @@ use Rattle.symbol_group.specs.AcceptedTexts.{accepted-text}
 use Rattle.symbol_group.specs.Answers.{symbol_answer, order_by, order_of}
 use Rattle.symbol_group.specs.declared.Answer as symbol
 use Rattle.symbol_group.specs.declared.Answer.TheVariants.{Group, Refused}
-use Rattle.symbol_group.specs.declared.SymbolOrder.TheVariants.{Is}
 use Rattle.group_record.specs.Groups.{InSet, Allowed, Listing}
 use Rattle.group_record.specs.Reading.{read_of}
 use Rattle.group_record.specs.Acceptance.{Bytes}
@@ -26,7 +25,6 @@ use Rattle.group_table.specs.TableMotions.{BelongsTo, belongs-inside, listed-bel
 use Rattle.group_table.specs.TableGroups.{identity_index, identity-at, group-table}
 use Rattle.group_table.specs.ReadTables.{read-allowed, read-order}
 use Rattle.group_table.specs.SymbolSteps.{symbol-order}
-use Rattle.group_table.specs.declared.RecordOrder.TheVariants.{Is as RecordIs}
 
 -- n² cells are the table of a set of motions by a list of operations: that of a group, each motion of the set belongs to exactly one index, every index
 -- holds motions, all of the set, and products go with the table.
@@ -127,11 +125,11 @@ module _ (text : List ℕ) (e : (symbol_answer text).answer ≡ Group) where
 
 -- ---- the cells alone
 -- The cells of an accepted symbol are the table of a group whose identity is element 0.
-pub symbol-cells-group : (text : List ℕ) (n : ℕ) → order_of text ≡ Is n → GroupTable n (symbol_cells text) 0
+pub symbol-cells-group : (text : List ℕ) (n : ℕ) → order_of text ≡ Ok n → GroupTable n (symbol_cells text) 0
 unfolding order_of symbol_cells
 symbol-cells-group text n = by_answer (symbol_answer text).answer refl
   where
-    by_answer : (a : symbol.Answer) → (symbol_answer text).answer ≡ a → order_by a (symbol_answer text).count ≡ Is n
+    by_answer : (a : symbol.Answer) → (symbol_answer text).answer ≡ a → order_by a (symbol_answer text).count ≡ Ok n
         → GroupTable n (symbol_cells_by a (symbol_answer text).centering (take (symbol_answer text).count (symbol_answer text).operations)) 0
     by_answer Group e p =
         let g = symbol_answer text in
@@ -143,12 +141,12 @@ symbol-cells-group text n = by_answer (symbol_answer text).answer refl
     by_answer (Refused r) e p = let z : ◌≡◌ {A = ℕ} 0 1 = cc in absurd (omega arith)
 
 -- The cells of a record that is read are the table of a group.
-pub record-cells-group : (bytes : List ℕ) → Bytes bytes → (n : ℕ) → order_of_record bytes ≡ RecordIs n
+pub record-cells-group : (bytes : List ℕ) → Bytes bytes → (n : ℕ) → order_of_record bytes ≡ Ok n
     → GroupTable n (record_cells bytes) (identity_index (read_of bytes).centering (take (read_of bytes).count (read_of bytes).operations))
 unfolding order_of_record record_cells
 record-cells-group bytes b n = by_answer (read_of bytes).answer refl
   where
-    by_answer : (a : Reading) → (read_of bytes).answer ≡ a → order_of_record_by a (read_of bytes).count ≡ RecordIs n
+    by_answer : (a : Reading) → (read_of bytes).answer ≡ a → order_of_record_by a (read_of bytes).count ≡ Ok n
         → GroupTable n (record_cells_by a (read_of bytes).centering (take (read_of bytes).count (read_of bytes).operations)) (identity_index
         (read_of bytes).centering (take (read_of bytes).count (read_of bytes).operations))
     by_answer Accepted e p =
@@ -161,11 +159,11 @@ record-cells-group bytes b n = by_answer (read_of bytes).answer refl
     by_answer (RecordRefused r) e p = let z : ◌≡◌ {A = ℕ} 0 1 = cc in absurd (omega arith)
 
 -- They are the first n² slots of the table by value, so what is said of motions there holds for the cells alone.
-pub symbol-cells-same : (text : List ℕ) (n : ℕ) → order_of text ≡ Is n → take (n * n) (symbol_table text).cells ≡ symbol_cells text
+pub symbol-cells-same : (text : List ℕ) (n : ℕ) → order_of text ≡ Ok n → take (n * n) (symbol_table text).cells ≡ symbol_cells text
 unfolding order_of symbol_table symbol_cells
 symbol-cells-same text n = by_answer (symbol_answer text).answer
   where
-    by_answer : (a : symbol.Answer) → order_by a (symbol_answer text).count ≡ Is n
+    by_answer : (a : symbol.Answer) → order_by a (symbol_answer text).count ≡ Ok n
         → take (n * n) (symbol_table_by a (symbol_answer text).centering (take (symbol_answer text).count (symbol_answer text).operations)).cells
         ≡ symbol_cells_by a (symbol_answer text).centering (take (symbol_answer text).count (symbol_answer text).operations)
     by_answer Group p =
@@ -175,12 +173,12 @@ symbol-cells-same text n = by_answer (symbol_answer text).answer
         subst (λ (k : ℕ). take (k * k) (cells_of g.centering l) ≡ table_of g.centering l) (symbol-order text g refl ∙ same) (cells-table g.centering l)
     by_answer (Refused r) p = let z : ◌≡◌ {A = ℕ} 0 1 = cc in absurd (omega arith)
 
-pub record-cells-same : (bytes : List ℕ) → Bytes bytes → (n : ℕ) → order_of_record bytes ≡ RecordIs n
+pub record-cells-same : (bytes : List ℕ) → Bytes bytes → (n : ℕ) → order_of_record bytes ≡ Ok n
     → take (n * n) (record_table bytes).cells ≡ record_cells bytes
 unfolding order_of_record record_table record_cells
 record-cells-same bytes b n = by_answer (read_of bytes).answer refl
   where
-    by_answer : (a : Reading) → (read_of bytes).answer ≡ a → order_of_record_by a (read_of bytes).count ≡ RecordIs n
+    by_answer : (a : Reading) → (read_of bytes).answer ≡ a → order_of_record_by a (read_of bytes).count ≡ Ok n
         → take (n * n) (record_table_by a (read_of bytes).centering (take (read_of bytes).count (read_of bytes).operations)).cells
         ≡ record_cells_by a (read_of bytes).centering (take (read_of bytes).count (read_of bytes).operations)
     by_answer Accepted e p =

@@ -2,4 +2,5 @@
 pub mod Output
 pub mod Answers
 pub mod Moved
+pub mod Steps
 pub mod Example

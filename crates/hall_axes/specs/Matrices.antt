@@ -1,16 +1,14 @@
 -- The twenty rotations of R2.6 as data: for each fold and axis the matrix of the Rust's `parse_rotation_matrix`.
 -- One test, computed over the table, says that each is what its name says: a proper rotation of that order about that axis.
-use Rattle.std.specs.Prelude.{Bool, true, false, cond, ◌&&◌, List, [], ◌∷◌, ℕ, ◌-◌, eqb}
+use Rattle.std.specs.Prelude.{Bool, true, false, cond, ◌&&◌, List, [], ◌∷◌, ℕ, ◌-◌, eqb, None, Option, Some}
 use Rattle.operation.specs.declared.Rotation.{Rotation}
 use Rattle.hall_axes.specs.declared.Fold.{Fold}
 use Rattle.hall_axes.specs.declared.Fold.TheVariants.{One, Two, Three, Four, Six}
 use Rattle.hall_axes.specs.declared.Mark.{Mark}
-use Rattle.hall_axes.specs.declared.Mark.TheVariants.{None, Single, Double}
+use Rattle.hall_axes.specs.declared.Mark.TheVariants.{Unmarked, Single, Double}
 use Rattle.hall_axes.specs.declared.Direction.{Direction}
 use Rattle.hall_axes.specs.declared.Direction.TheVariants.{X, Y, Z, Diagonal}
 use Rattle.hall_axes.specs.declared.Axis.{Axis}
-use Rattle.hall_axes.specs.declared.Turn.{Turn}
-use Rattle.hall_axes.specs.declared.Turn.TheVariants.{Matrix, NoMatrix}
 use Rattle.hall_axes.specs.Axes.{fold_number, axis}
 
 -- A rotation by rows, each number an entry plus one.
@@ -28,30 +26,30 @@ turn f m d r = record { fold = f; about = axis m d; rotation = r }
 
 unfoldable pub turns : List Listed
 turns =
-    turn One None Z (rows 2 1 1 1 2 1 1 1 2)
-    ∷ turn Two None X (rows 2 1 1 1 0 1 1 1 0)
-    ∷ turn Two None Y (rows 0 1 1 1 2 1 1 1 0)
-    ∷ turn Two None Z (rows 0 1 1 1 0 1 1 1 2)
-    ∷ turn Three None X (rows 2 1 1 1 1 0 1 2 0)
-    ∷ turn Three None Y (rows 0 1 2 1 2 1 0 1 1)
-    ∷ turn Three None Z (rows 1 0 1 2 0 1 1 1 2)
-    ∷ turn Four None X (rows 2 1 1 1 1 0 1 2 1)
-    ∷ turn Four None Y (rows 1 1 2 1 2 1 0 1 1)
-    ∷ turn Four None Z (rows 1 0 1 2 1 1 1 1 2)
-    ∷ turn Six None X (rows 2 1 1 1 2 0 1 2 1)
-    ∷ turn Six None Y (rows 1 1 2 1 2 1 0 1 2)
-    ∷ turn Six None Z (rows 2 0 1 2 1 1 1 1 2)
+    turn One Unmarked Z (rows 2 1 1 1 2 1 1 1 2)
+    ∷ turn Two Unmarked X (rows 2 1 1 1 0 1 1 1 0)
+    ∷ turn Two Unmarked Y (rows 0 1 1 1 2 1 1 1 0)
+    ∷ turn Two Unmarked Z (rows 0 1 1 1 0 1 1 1 2)
+    ∷ turn Three Unmarked X (rows 2 1 1 1 1 0 1 2 0)
+    ∷ turn Three Unmarked Y (rows 0 1 2 1 2 1 0 1 1)
+    ∷ turn Three Unmarked Z (rows 1 0 1 2 0 1 1 1 2)
+    ∷ turn Four Unmarked X (rows 2 1 1 1 1 0 1 2 1)
+    ∷ turn Four Unmarked Y (rows 1 1 2 1 2 1 0 1 1)
+    ∷ turn Four Unmarked Z (rows 1 0 1 2 1 1 1 1 2)
+    ∷ turn Six Unmarked X (rows 2 1 1 1 2 0 1 2 1)
+    ∷ turn Six Unmarked Y (rows 1 1 2 1 2 1 0 1 2)
+    ∷ turn Six Unmarked Z (rows 2 0 1 2 1 1 1 1 2)
     ∷ turn Two Single X (rows 0 1 1 1 1 0 1 0 1)
     ∷ turn Two Double X (rows 0 1 1 1 1 2 1 2 1)
     ∷ turn Two Single Y (rows 1 1 0 1 0 1 0 1 1)
     ∷ turn Two Double Y (rows 1 1 2 1 0 1 2 1 1)
     ∷ turn Two Single Z (rows 1 0 1 0 1 1 1 1 0)
     ∷ turn Two Double Z (rows 1 2 1 2 1 1 1 1 0)
-    ∷ turn Three None Diagonal (rows 1 1 2 2 1 1 1 2 1)
+    ∷ turn Three Unmarked Diagonal (rows 1 1 2 2 1 1 1 2 1)
     ∷ []
 
 abbrev pub mark_number : Mark → ℕ
-mark_number None = 0
+mark_number Unmarked = 0
 mark_number Single = 1
 mark_number Double = 2
 
@@ -67,12 +65,12 @@ is_for f a t =
     eqb (fold_number f) (fold_number t.fold)
     && (eqb (mark_number a.mark) (mark_number t.about.mark) && eqb (direction_number a.direction) (direction_number t.about.direction))
 
-unfoldable pub turn_among : Fold → Axis → List Listed → Turn
-turn_among f a [] = NoMatrix
-turn_among f a (t ∷ ts) = cond (is_for f a t) (Matrix t.rotation) (turn_among f a ts)
+unfoldable pub turn_among : Fold → Axis → List Listed → Option Rotation
+turn_among f a [] = None
+turn_among f a (t ∷ ts) = cond (is_for f a t) (Some t.rotation) (turn_among f a ts)
 
 -- The rotation of a fold about an axis, if it is among the twenty.
-unfoldable pub turn_of : Fold → Axis → Turn
+unfoldable pub turn_of : Fold → Axis → Option Rotation
 turn_of f a = turn_among f a turns
 
 -- A `-` negates all entries: the number e + 1 becomes 1 − e.

@@ -1,6 +1,6 @@
 -- The table has every turn: a matrix with entries in −1..1 that turns about an axis by a fold is the one listed for them, and no other can stand there.
 -- The columns of such a matrix are as long as the edges that they are the images of, which leaves few enough to try them all.
-use Rattle.std.specs.Prelude.{◌≡◌, refl, ◌↔◌, Bool, true, false, ◌&&◌, ℕ, zero, suc, ◌≤◌, T, eqb, ℤ}
+use Rattle.std.specs.Prelude.{◌≡◌, refl, ◌↔◌, Bool, true, false, ◌&&◌, ℕ, zero, suc, ◌≤◌, T, eqb, ℤ, None, Option, Some}
 use Rattle.std.proofs.Common.{sym, ap, true≢false, arith, eqb-true}
 use Rattle.std.proofs.Math.Bool.{and-eq-true_iff}
 use mathlib.Core.List.Memᴰ.{head as here}
@@ -16,12 +16,10 @@ use Rattle.operation.specs.declared.Rotation.{Rotation}
 use Rattle.hall_axes.specs.declared.Fold.{Fold}
 use Rattle.hall_axes.specs.declared.Fold.TheVariants.{One, Two, Three, Four, Six}
 use Rattle.hall_axes.specs.declared.Mark.{Mark}
-use Rattle.hall_axes.specs.declared.Mark.TheVariants.{None, Single, Double}
+use Rattle.hall_axes.specs.declared.Mark.TheVariants.{Unmarked, Single, Double}
 use Rattle.hall_axes.specs.declared.Direction.{Direction}
 use Rattle.hall_axes.specs.declared.Direction.TheVariants.{X, Y, Z, Diagonal}
 use Rattle.hall_axes.specs.declared.Axis.{Axis}
-use Rattle.hall_axes.specs.declared.Turn.{Turn}
-use Rattle.hall_axes.specs.declared.Turn.TheVariants.{Matrix as Given, NoMatrix}
 use Rattle.hall_axes.specs.Axes.{axis}
 use Rattle.hall_axes.specs.Matrices.{rows, turns, is_for, turn_among, turn_of}
 use Rattle.hall_axes.specs.Turning.{vector, axis_vector, power, metric, transposed, volume, TurnsAbout}
@@ -108,14 +106,14 @@ same-rotation r s e =
     let t = three-digits r.zx r.zy r.zz s.zx s.zy s.zz rest.1 in
     rotation≡ p.0 p.1 p.2 q.0 q.1 q.2 t.0 t.1 t.2
 
-is_given : Turn → Rotation → Bool
-is_given (Given s) r = same_rotation s r
-is_given NoMatrix r = false
+is_given : Option Rotation → Rotation → Bool
+is_given (Some s) r = same_rotation s r
+is_given None r = false
 
-is-given : (t : Turn) (r : Rotation) → is_given t r ≡ true → t ≡ Given r
+is-given : (t : Option Rotation) (r : Rotation) → is_given t r ≡ true → t ≡ Some r
 unfolding is_given
-is-given (Given s) r e = ap Given (same-rotation s r e)
-is-given NoMatrix r e = absurd (true≢false (sym e))
+is-given (Some s) r e = ap Some (same-rotation s r e)
+is-given None r e = absurd (true≢false (sym e))
 
 -- A rotation that turns about an axis by a fold is the one listed for them, for every fold and axis.
 abbrev folds : List Fold
@@ -123,7 +121,7 @@ folds = One ∷ Two ∷ Three ∷ Four ∷ Six ∷ []
 
 abbrev axes : List Axis
 axes =
-    axis None X ∷ axis None Y ∷ axis None Z ∷ axis None Diagonal
+    axis Unmarked X ∷ axis Unmarked Y ∷ axis Unmarked Z ∷ axis Unmarked Diagonal
     ∷ axis Single X ∷ axis Single Y ∷ axis Single Z ∷ axis Single Diagonal
     ∷ axis Double X ∷ axis Double Y ∷ axis Double Z ∷ axis Double Diagonal
     ∷ []
@@ -136,10 +134,10 @@ fold-listed Four = there (there (there (here refl)))
 fold-listed Six = there (there (there (there (here refl))))
 
 axis-listed : (m : Mark) (d : Direction) → Mem (axis m d) axes
-axis-listed None X = here refl
-axis-listed None Y = there (here refl)
-axis-listed None Z = there (there (here refl))
-axis-listed None Diagonal = there (there (there (here refl)))
+axis-listed Unmarked X = here refl
+axis-listed Unmarked Y = there (here refl)
+axis-listed Unmarked Z = there (there (here refl))
+axis-listed Unmarked Diagonal = there (there (there (here refl)))
 axis-listed Single X = there (there (there (there (here refl))))
 axis-listed Single Y = there (there (there (there (there (here refl)))))
 axis-listed Single Z = there (there (there (there (there (there (here refl))))))
@@ -174,23 +172,23 @@ only_listed G =
 
 -- The cube and the three nets of hexagons.
 metrics : List Matrix
-metrics = metric One None Z ∷ metric Three None X ∷ metric Three None Y ∷ metric Three None Z ∷ []
+metrics = metric One Unmarked Z ∷ metric Three Unmarked X ∷ metric Three Unmarked Y ∷ metric Three Unmarked Z ∷ []
 
 metric-listed : (f : Fold) (m : Mark) (d : Direction) → Mem (metric f m d) metrics
 unfolding metrics metric
 metric-listed One m d = here refl
 metric-listed Two m d = here refl
-metric-listed Three None X = there (here refl)
-metric-listed Three None Y = there (there (here refl))
-metric-listed Three None Z = there (there (there (here refl)))
-metric-listed Three None Diagonal = here refl
+metric-listed Three Unmarked X = there (here refl)
+metric-listed Three Unmarked Y = there (there (here refl))
+metric-listed Three Unmarked Z = there (there (there (here refl)))
+metric-listed Three Unmarked Diagonal = here refl
 metric-listed Three Single d = here refl
 metric-listed Three Double d = here refl
 metric-listed Four m d = here refl
-metric-listed Six None X = there (here refl)
-metric-listed Six None Y = there (there (here refl))
-metric-listed Six None Z = there (there (there (here refl)))
-metric-listed Six None Diagonal = here refl
+metric-listed Six Unmarked X = there (here refl)
+metric-listed Six Unmarked Y = there (there (here refl))
+metric-listed Six Unmarked Z = there (there (there (here refl)))
+metric-listed Six Unmarked Diagonal = here refl
 metric-listed Six Single d = here refl
 metric-listed Six Double d = here refl
 
@@ -201,7 +199,7 @@ unfolding all metrics only_listed second_columns third_columns each_column each_
     identity_axis power metric transposed volume axis_vector matrix_of entry_of determinant times act origin unit one nought ◌⊖◌
 only-listed = tt
 
-listed-turn : (f : Fold) (a : Axis) (r : Rotation) → TurnsAbout f a r → turn_of f a ≡ Given r
+listed-turn : (f : Fold) (a : Axis) (r : Rotation) → TurnsAbout f a r → turn_of f a ≡ Some r
 unfolding only_listed second_columns third_columns only_named only_for matrix_of transposed times
 listed-turn f a r h =
     let G = metric f a.mark a.direction in
@@ -220,7 +218,7 @@ listed-turn f a r h =
     is-given (turn_of f a) r (asked-true (turns_right f a r) _ (T_true only) ((turns-exact f a r).1 h))
 
 -- The table has a rotation for a fold and an axis exactly if it turns about that axis by that fold.
-pub turn-exactly : (f : Fold) (a : Axis) (r : Rotation) → (turn_of f a ≡ Given r) ↔ TurnsAbout f a r
+pub turn-exactly : (f : Fold) (a : Axis) (r : Rotation) → (turn_of f a ≡ Some r) ↔ TurnsAbout f a r
 turn-exactly f a r = (turn-rule f a r, listed-turn f a r)
 
 -- So there is at most one.

@@ -10,7 +10,7 @@ use Rattle.operation.specs.Meaning.{matrix_of, Digits}
 use Rattle.operation.specs.declared.Rotation.{Rotation}
 use Rattle.hall_axes.specs.declared.Fold.{Fold}
 use Rattle.hall_axes.specs.declared.Fold.TheVariants.{One, Two, Three, Four, Six}
-use Rattle.hall_axes.specs.declared.Mark.TheVariants.{None}
+use Rattle.hall_axes.specs.declared.Mark.TheVariants.{Unmarked}
 use Rattle.hall_axes.specs.declared.Direction.{Direction}
 use Rattle.hall_axes.specs.declared.Direction.TheVariants.{X, Y, Z, Diagonal}
 use Rattle.hall_axes.specs.declared.Axis.{Axis}
@@ -81,7 +81,7 @@ isometric-exact G A =
     let both = and-eq-true_iff (same_matrix (times (transposed A) (times G A)) G) (same_integer (determinant A) one) in
     ((λ e. (metric-test.0 (both.0 e).0, hand-test.0 (both.0 e).1)), λ h. both.1 (metric-test.1 h.0, hand-test.1 h.1))
 
--- None of the powers 1 to n is the identity.
+-- Unmarked of the powers 1 to n is the identity.
 unfoldable pub none_unit : ℕ → Matrix → Bool
 none_unit zero A = true
 none_unit (suc n) A = not (same_matrix (power (suc n) A) unit) && none_unit n A
@@ -129,18 +129,18 @@ nonnegative-exact (negsuc n) = ((λ e. absurd (true≢false (sym e))), λ h. ap 
 
 -- A direction that is turned the positive way about v.
 unfoldable pub positive_at : Vector → Matrix → Direction → Bool
-positive_at v A d = nonnegative (volume v (axis_vector None d) (act A (axis_vector None d)))
+positive_at v A d = nonnegative (volume v (axis_vector Unmarked d) (act A (axis_vector Unmarked d)))
 
 unfoldable pub positive : Vector → Matrix → Bool
 positive v A = positive_at v A X && (positive_at v A Y && (positive_at v A Z && positive_at v A Diagonal))
 
 positive-exact : (v : Vector) (A : Matrix) → (positive v A ≡ true) ↔ ((d : Direction) → (n : ℕ)
-    × (volume v (axis_vector None d) (act A (axis_vector None d)) ≡ pos n))
+    × (volume v (axis_vector Unmarked d) (act A (axis_vector Unmarked d)) ≡ pos n))
 unfolding positive positive_at
 positive-exact v A = ((λ e d. (at d).0 (each e d)), λ h. rw ((at X).1 (h X), (at Y).1 (h Y), (at Z).1 (h Z), (at Diagonal).1 (h Diagonal)))
   where
-    at : (d : Direction) → (positive_at v A d ≡ true) ↔ ((n : ℕ) × (volume v (axis_vector None d) (act A (axis_vector None d)) ≡ pos n))
-    at d = nonnegative-exact (volume v (axis_vector None d) (act A (axis_vector None d)))
+    at : (d : Direction) → (positive_at v A d ≡ true) ↔ ((n : ℕ) × (volume v (axis_vector Unmarked d) (act A (axis_vector Unmarked d)) ≡ pos n))
+    at d = nonnegative-exact (volume v (axis_vector Unmarked d) (act A (axis_vector Unmarked d)))
 
     each : positive v A ≡ true → (d : Direction) → positive_at v A d ≡ true
     each e d = go d
@@ -165,7 +165,7 @@ unfoldable pub about : Vector → Matrix → Bool
 about v A = not (same_vector v origin) && (same_vector (act A v) v && positive v A)
 
 about-exact : (v : Vector) (A : Matrix) → (about v A ≡ true) ↔ ((v ≢ origin) × (act A v ≡ v)
-    × ((d : Direction) → (n : ℕ) × (volume v (axis_vector None d) (act A (axis_vector None d)) ≡ pos n)))
+    × ((d : Direction) → (n : ℕ) × (volume v (axis_vector Unmarked d) (act A (axis_vector Unmarked d)) ≡ pos n)))
 unfolding about
 about-exact v A =
     let axis-test = vector-exact v origin in

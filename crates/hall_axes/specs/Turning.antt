@@ -8,7 +8,7 @@ use Rattle.operation.specs.declared.Rotation.{Rotation}
 use Rattle.hall_axes.specs.declared.Fold.{Fold}
 use Rattle.hall_axes.specs.declared.Fold.TheVariants.{One, Two, Three, Four, Six}
 use Rattle.hall_axes.specs.declared.Mark.{Mark}
-use Rattle.hall_axes.specs.declared.Mark.TheVariants.{None, Single, Double}
+use Rattle.hall_axes.specs.declared.Mark.TheVariants.{Unmarked, Single, Double}
 use Rattle.hall_axes.specs.declared.Direction.{Direction}
 use Rattle.hall_axes.specs.declared.Direction.TheVariants.{X, Y, Z, Diagonal}
 use Rattle.hall_axes.specs.declared.Axis.{Axis}
@@ -19,10 +19,10 @@ vector a b c = record { x = a; y = b; z = c }
 
 -- The direction of an axis: x a, y b, z c; `^x` b−c, `=x` b+c; `^y` a−c, `=y` a+c; `^z` a−b, `=z` a+b; `*` a+b+c. A marked diagonal has none.
 unfoldable pub axis_vector : Mark → Direction → Vector
-axis_vector None X = vector one nought nought
-axis_vector None Y = vector nought one nought
-axis_vector None Z = vector nought nought one
-axis_vector None Diagonal = vector one one one
+axis_vector Unmarked X = vector one nought nought
+axis_vector Unmarked Y = vector nought one nought
+axis_vector Unmarked Z = vector nought nought one
+axis_vector Unmarked Diagonal = vector one one one
 axis_vector Single X = vector nought one (neg_ℤ one)
 axis_vector Single Y = vector one nought (neg_ℤ one)
 axis_vector Single Z = vector one (neg_ℤ one) nought
@@ -51,11 +51,11 @@ hexagonal Diagonal = unit
 unfoldable pub metric : Fold → Mark → Direction → Matrix
 metric One m d = unit
 metric Two m d = unit
-metric Three None d = hexagonal d
+metric Three Unmarked d = hexagonal d
 metric Three Single d = unit
 metric Three Double d = unit
 metric Four m d = unit
-metric Six None d = hexagonal d
+metric Six Unmarked d = hexagonal d
 metric Six Single d = unit
 metric Six Double d = unit
 
@@ -79,5 +79,5 @@ pub record TurnsAbout (f : Fold) (a : Axis) (r : Rotation) : Type 0 where
   pub proper : determinant (matrix_of r) ≡ one
   pub full-turn : power (fold_number f) (matrix_of r) ≡ unit
   pub no-sooner : (k : ℕ) → 0 < k → k < fold_number f → power k (matrix_of r) ≢ unit
-  pub positive : (d : Direction) → (n : ℕ) × (volume (along a) (axis_vector None d) (act (matrix_of r) (axis_vector None d)) ≡ pos n)
+  pub positive : (d : Direction) → (n : ℕ) × (volume (along a) (axis_vector Unmarked d) (act (matrix_of r) (axis_vector Unmarked d)) ≡ pos n)
   pub identity-about-z : f ≡ One → a ≡ plain Z

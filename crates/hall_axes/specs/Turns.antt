@@ -1,6 +1,6 @@
 -- The twenty matrices are what their names say, and no others are: the table has a rotation for a fold and an axis exactly if it turns about that axis by
 -- that fold. The table's rotations pass the test of the rule, and so does no other matrix with entries in −1..1: both are computed.
-use Rattle.std.specs.Prelude.{◌≡◌, refl, Bool, true, false, cond, ◌&&◌, List, [], ◌∷◌, ℕ, zero, suc, ◌-◌, ◌≤◌, eqb, length, neg_ℤ, ◌*ℤ◌}
+use Rattle.std.specs.Prelude.{◌≡◌, refl, Bool, true, false, cond, ◌&&◌, List, [], ◌∷◌, ℕ, zero, suc, ◌-◌, ◌≤◌, eqb, length, neg_ℤ, ◌*ℤ◌, Some}
 use Rattle.std.proofs.Common.{sym, ◌∙◌, ap, arith, eqb-true}
 use Rattle.std.proofs.Math.Bool.{and-eq-true_iff}
 use Rattle.std.proofs.Math.IntN.{one}
@@ -12,11 +12,10 @@ use Rattle.operation.specs.declared.Rotation.{Rotation}
 use Rattle.hall_axes.specs.declared.Fold.{Fold}
 use Rattle.hall_axes.specs.declared.Fold.TheVariants.{One, Two, Three, Four, Six}
 use Rattle.hall_axes.specs.declared.Mark.{Mark}
-use Rattle.hall_axes.specs.declared.Mark.TheVariants.{None, Single, Double}
+use Rattle.hall_axes.specs.declared.Mark.TheVariants.{Unmarked, Single, Double}
 use Rattle.hall_axes.specs.declared.Direction.{Direction}
 use Rattle.hall_axes.specs.declared.Direction.TheVariants.{X, Y, Z, Diagonal}
 use Rattle.hall_axes.specs.declared.Axis.{Axis}
-use Rattle.hall_axes.specs.declared.Turn.TheVariants.{Matrix as Given}
 use Rattle.hall_axes.specs.Axes.{fold_number}
 use Rattle.hall_axes.specs.Matrices.{Listed, turns, mark_number, direction_number, is_for, turn_among, turn_of, signed}
 use Rattle.hall_axes.specs.Turning.{axis_vector, power, metric, transposed, volume, TurnsAbout}
@@ -56,13 +55,13 @@ fold-again Four = refl
 fold-again Six = refl
 
 numbered_mark : ℕ → Mark
-numbered_mark zero = None
+numbered_mark zero = Unmarked
 numbered_mark (suc zero) = Single
 numbered_mark (suc (suc n)) = Double
 
 mark-again : (m : Mark) → numbered_mark (mark_number m) ≡ m
 unfolding numbered_mark
-mark-again None = refl
+mark-again Unmarked = refl
 mark-again Single = refl
 mark-again Double = refl
 
@@ -92,7 +91,7 @@ listed-for f a t e =
     let d≡ = sym (direction-again a.direction) ∙ ap numbered_direction (eqb-true _ _ rest.1) ∙ direction-again t.about.direction in
     (f≡, λ i. record { mark = m≡ i; direction = d≡ i })
 
-among-right : (f : Fold) (a : Axis) (r : Rotation) (ts : List Listed) → all_right ts ≡ true → turn_among f a ts ≡ Given r → TurnsAbout f a r
+among-right : (f : Fold) (a : Axis) (r : Rotation) (ts : List Listed) → all_right ts ≡ true → turn_among f a ts ≡ Some r → TurnsAbout f a r
 unfolding all_right turn_among
 among-right f a r [] h e = let z : ◌≡◌ {A = ℕ} 0 1 = cc in absurd (omega arith)
 among-right f a r (t ∷ ts) h e = go (is_for f a t) refl (among-right f a r ts both.1)
@@ -100,15 +99,15 @@ among-right f a r (t ∷ ts) h e = go (is_for f a t) refl (among-right f a r ts 
     both : (turns_right t.fold t.about t.rotation ≡ true) × (all_right ts ≡ true)
     both = (and-eq-true_iff (turns_right t.fold t.about t.rotation) (all_right ts)).0 h
 
-    go : (b : Bool) → is_for f a t ≡ b → (turn_among f a ts ≡ Given r → TurnsAbout f a r) → TurnsAbout f a r
+    go : (b : Bool) → is_for f a t ≡ b → (turn_among f a ts ≡ Some r → TurnsAbout f a r) → TurnsAbout f a r
     go true i below =
         let same-fold-axis = listed-for f a t i in
-        let r≡ : t.rotation ≡ r = cc (sym (ap (λ (c : Bool). cond c (Given t.rotation) (turn_among f a ts)) i) ∙ e) in
+        let r≡ : t.rotation ≡ r = cc (sym (ap (λ (c : Bool). cond c (Some t.rotation) (turn_among f a ts)) i) ∙ e) in
         rw (same-fold-axis.0, same-fold-axis.1, ← r≡) ((turns-exact t.fold t.about t.rotation).0 both.0)
-    go false i below = below (sym (ap (λ (c : Bool). cond c (Given t.rotation) (turn_among f a ts)) i) ∙ e)
+    go false i below = below (sym (ap (λ (c : Bool). cond c (Some t.rotation) (turn_among f a ts)) i) ∙ e)
 
 -- What the table gives to a fold and an axis is a rotation of that fold about that axis.
-pub turn-rule : (f : Fold) (a : Axis) (r : Rotation) → turn_of f a ≡ Given r → TurnsAbout f a r
+pub turn-rule : (f : Fold) (a : Axis) (r : Rotation) → turn_of f a ≡ Some r → TurnsAbout f a r
 unfolding turn_of
 turn-rule f a r e = among-right f a r turns all_right_lem e
 

@@ -1,9 +1,9 @@
 // The axis of an N token, by its fold, mark and letter and by what stands to its left; the number of a fold, and which axis is plain z.
 // Ported from data/hall_symbol.rs of moyo 0.21.0 (`parse_operation`), and changed: enums for strings, and a refusal where no axis is settled.
-ghost use Rattle.std.specs.Prelude.{◌≡◌};
+ghost use Rattle.std.specs.Prelude.{◌≡◌, Some};
 ghost use Rattle.hall_axes.specs.Axes.{fold_number, plain_z, axis, token_place, second_axis, third_axis, default_axis, plain_direction, second_direction, marked_direction, with_mark, turning_axis, identity_axis, axis_of};
 
-use super::{Axis, AxisLetter, Direction, Fold, Mark, Place, Previous, SettledAxis};
+use super::{Axis, Direction, Fold, Mark, Place, Previous};
 
 pub fn fold_number(fold: Fold) -> u8
     ensures { result ≡ fold_number fold }
@@ -20,18 +20,10 @@ pub fn fold_number(fold: Fold) -> u8
 pub fn plain_z(mark: Mark, direction: Direction) -> bool
     ensures { result ≡ plain_z mark direction }
 {
-    match mark {
-        Mark::None => match direction {
-            Direction::X => false,
-            Direction::Y => false,
-            Direction::Z => true,
-            Direction::Diagonal => false,
-        },
-        Mark::Single => false,
-        Mark::Double => false,
-    }
+    matches!((mark, direction), (Mark::Unmarked, Direction::Z))
 }
 
+#[tactic(auto, unfolding(crate::specs::Axes::token_place))]
 fn place_of(count: usize) -> Place
     ensures { result ≡ token_place count }
 {
@@ -43,141 +35,117 @@ fn place_of(count: usize) -> Place
     }
 }
 
-fn with_mark(mark: Mark, letter: AxisLetter) -> SettledAxis
+fn with_mark(mark: Mark, letter: Option<Direction>) -> Option<Axis>
     ensures { result ≡ with_mark mark letter }
 {
     match letter {
-        AxisLetter::Along(direction) => SettledAxis::Settled(Axis { mark, direction }),
-        AxisLetter::Absent => SettledAxis::Open,
+        Some(direction) => Some(Axis { mark, direction }),
+        None => None,
     }
 }
 
-fn settled(mark: Mark, direction: Direction) -> SettledAxis
-    ensures { result ≡ SettledAxis.Settled (axis mark direction) }
+fn settled(mark: Mark, direction: Direction) -> Option<Axis>
+    ensures { result ≡ Some (axis mark direction) }
 {
-    SettledAxis::Settled(Axis { mark, direction })
+    Some(Axis { mark, direction })
 }
 
-fn second_axis(before: Fold) -> SettledAxis
+fn second_axis(before: Fold) -> Option<Axis>
     ensures { result ≡ second_axis before }
 {
     match before {
-        Fold::One => SettledAxis::Open,
-        Fold::Two => settled(Mark::None, Direction::X),
-        Fold::Three => settled(Mark::Single, Direction::Z),
-        Fold::Four => settled(Mark::None, Direction::X),
-        Fold::Six => settled(Mark::Single, Direction::Z),
+        Fold::One => None,
+        Fold::Two | Fold::Four => settled(Mark::Unmarked, Direction::X),
+        Fold::Three | Fold::Six => settled(Mark::Single, Direction::Z),
     }
 }
 
-fn third_axis(own: Fold) -> SettledAxis
+fn third_axis(own: Fold) -> Option<Axis>
     ensures { result ≡ third_axis own }
 {
     match own {
-        Fold::One => SettledAxis::Open,
-        Fold::Two => SettledAxis::Open,
-        Fold::Three => settled(Mark::None, Direction::Diagonal),
-        Fold::Four => SettledAxis::Open,
-        Fold::Six => SettledAxis::Open,
+        Fold::Three => settled(Mark::Unmarked, Direction::Diagonal),
+        _ => None,
     }
 }
 
 // Neither mark nor letter.
-fn default_axis(place: Place, before: Fold, own: Fold) -> SettledAxis
+fn default_axis(place: Place, before: Fold, own: Fold) -> Option<Axis>
     ensures { result ≡ default_axis place before own }
 {
     match place {
-        Place::First => settled(Mark::None, Direction::Z),
+        Place::First => settled(Mark::Unmarked, Direction::Z),
         Place::Second => second_axis(before),
         Place::Third => third_axis(own),
-        Place::Later => SettledAxis::Open,
+        Place::Later => None,
     }
 }
 
 // What the axis before hands on to a mark without a letter.
-fn plain_direction(mark: Mark, direction: Direction) -> AxisLetter
+fn plain_direction(mark: Mark, direction: Direction) -> Option<Direction>
     ensures { result ≡ plain_direction mark direction }
 {
-    match mark {
-        Mark::None => match direction {
-            Direction::X => AxisLetter::Along(Direction::X),
-            Direction::Y => AxisLetter::Along(Direction::Y),
-            Direction::Z => AxisLetter::Along(Direction::Z),
-            Direction::Diagonal => AxisLetter::Absent,
-        },
-        Mark::Single => AxisLetter::Absent,
-        Mark::Double => AxisLetter::Absent,
+    match (mark, direction) {
+        (Mark::Unmarked, Direction::X | Direction::Y | Direction::Z) => Some(direction),
+        _ => None,
     }
 }
 
-fn second_direction(handed: AxisLetter, before: Fold) -> AxisLetter
+fn second_direction(handed: Option<Direction>, before: Fold) -> Option<Direction>
     ensures { result ≡ second_direction handed before }
 {
-    if let AxisLetter::Along(_) = handed {
-        return handed;
-    }
-    match before {
-        Fold::One => AxisLetter::Absent,
-        Fold::Two => AxisLetter::Along(Direction::X),
-        Fold::Three => AxisLetter::Absent,
-        Fold::Four => AxisLetter::Absent,
-        Fold::Six => AxisLetter::Absent,
+    match (handed, before) {
+        (None, Fold::Two) => Some(Direction::X),
+        _ => handed,
     }
 }
 
 // A mark without a letter.
-fn marked_direction(place: Place, before: Fold, axis: Axis) -> AxisLetter
+fn marked_direction(place: Place, before: Fold, axis: Axis) -> Option<Direction>
     ensures { result ≡ marked_direction place before axis }
 {
-    let mark = axis.mark;
-    let direction = axis.direction;
-    let handed = plain_direction(mark, direction);
+    let handed = plain_direction(axis.mark, axis.direction);
     match place {
-        Place::First => AxisLetter::Along(Direction::Z),
+        Place::First => Some(Direction::Z),
         Place::Second => second_direction(handed, before),
-        Place::Third => handed,
-        Place::Later => handed,
+        Place::Third | Place::Later => handed,
     }
 }
 
-fn identity_axis(mark: Mark, letter: AxisLetter) -> SettledAxis
+fn identity_axis(mark: Mark, letter: Option<Direction>) -> Option<Axis>
     ensures { result ≡ identity_axis mark letter }
 {
-    match mark {
-        Mark::None => match letter {
-            AxisLetter::Along(_) => SettledAxis::Open,
-            AxisLetter::Absent => settled(Mark::None, Direction::Z),
-        },
-        Mark::Single => SettledAxis::Open,
-        Mark::Double => SettledAxis::Open,
+    match (mark, letter) {
+        (Mark::Unmarked, None) => settled(Mark::Unmarked, Direction::Z),
+        _ => None,
     }
 }
 
 // Folds 2, 3, 4 and 6.
-fn turning_axis(own: Fold, mark: Mark, letter: AxisLetter, previous: Previous) -> SettledAxis
+fn turning_axis(
+    own: Fold,
+    mark: Mark,
+    letter: Option<Direction>,
+    previous: Previous,
+) -> Option<Axis>
     ensures { result ≡ turning_axis own mark letter previous }
 {
-    if let AxisLetter::Along(direction) = letter {
+    if let Some(direction) = letter {
         return settled(mark, direction);
     }
     let place = place_of(previous.count);
     let before = previous.fold;
-    let axis = previous.axis;
     match mark {
-        Mark::None => default_axis(place, before, own),
-        Mark::Single => with_mark(Mark::Single, marked_direction(place, before, axis)),
-        Mark::Double => with_mark(Mark::Double, marked_direction(place, before, axis)),
+        Mark::Unmarked => default_axis(place, before, own),
+        _ => with_mark(mark, marked_direction(place, before, previous.axis)),
     }
 }
 
-pub fn axis_of(own: Fold, mark: Mark, letter: AxisLetter, previous: Previous) -> SettledAxis
+pub fn axis_of(own: Fold, mark: Mark, letter: Option<Direction>, previous: Previous) -> Option<Axis>
     ensures { result ≡ axis_of own mark letter previous }
 {
     match own {
         Fold::One => identity_axis(mark, letter),
-        Fold::Two => turning_axis(Fold::Two, mark, letter, previous),
-        Fold::Three => turning_axis(Fold::Three, mark, letter, previous),
-        Fold::Four => turning_axis(Fold::Four, mark, letter, previous),
-        Fold::Six => turning_axis(Fold::Six, mark, letter, previous),
+        _ => turning_axis(own, mark, letter, previous),
     }
 }

@@ -20,7 +20,7 @@ pub enum Fold {
 // No mark, `^` (p in the Rust), `=` (pp in the Rust).
 #[derive(Clone, Copy)]
 pub enum Mark {
-    None,
+    Unmarked,
     Single,
     Double,
 }
@@ -48,13 +48,6 @@ pub struct Previous {
     pub axis: Axis,
 }
 
-// The letter of an axis, where one is written.
-#[derive(Clone, Copy)]
-pub enum AxisLetter {
-    Along(Direction),
-    Absent,
-}
-
 // The place of a token among the N tokens.
 #[derive(Clone, Copy)]
 pub(crate) enum Place {
@@ -62,18 +55,4 @@ pub(crate) enum Place {
     Second,
     Third,
     Later,
-}
-
-// The axis that the rules settle, if they do.
-#[derive(Clone, Copy)]
-pub enum SettledAxis {
-    Settled(Axis),
-    Open,
-}
-
-// The rotation of a fold about an axis, if there is one among the twenty.
-#[derive(Clone, Copy)]
-pub enum Turn {
-    Matrix(Rotation),
-    NoMatrix,
 }

@@ -2,7 +2,7 @@
 -- begins well is followed token by token; backwards, the reader's own tests build the spelling.
 use Rattle.std.proofs.Math.Path.{◌≡◌, refl, ap}
 use Rattle.std.proofs.Common.{sym, ◌∙◌, subst, arith}
-use Rattle.std.specs.Prelude.{◌↔◌, Bool, cond, ℕ, zero, suc, ◌+◌, ◌<◌, ◌≤◌, leb, ltb, get_or}
+use Rattle.std.specs.Prelude.{◌↔◌, Bool, cond, ℕ, zero, suc, ◌+◌, ◌<◌, ◌≤◌, leb, ltb, get_or, Option, Some, None, Err, Ok, Result}
 use Rattle.std.proofs.Math.Bool.{true, false}
 use mathlib.Core.List.{List, [], ◌∷◌, ◌++◌, map}
 use Rattle.std.proofs.Math.Dec.{eqb}
@@ -19,8 +19,6 @@ use Rattle.hall_token.specs.Answers.{answers-exact}
 use Rattle.hall_axes.specs.declared.Fold.{Fold}
 use Rattle.hall_axes.specs.declared.Axis.{Axis}
 use Rattle.hall_axes.specs.declared.Previous.{Previous}
-use Rattle.hall_token.specs.declared.ParsedOperation.{ParsedOperation}
-use Rattle.hall_token.specs.declared.ParsedOperation.TheVariants.{Operation as IsOperation, Refused as IsRefused}
 use Rattle.hall_token.specs.declared.refusal.Refusal as token-refusal
 use Rattle.hall_symbol.specs.Bytes.{whitespace, allowed, opening}
 use Rattle.hall_symbol.specs.Runs.{run, Every, Stops, run-all, run_at, run-below, first_run, every-run}
@@ -32,12 +30,9 @@ use Rattle.hall_symbol.specs.Generators.{leading, shift_by, shifted}
 use Rattle.hall_symbol.specs.Reader.{Reading, symbol, refusal, no_previous, next_previous, on_operation, on_shift, at_shift, at_end, operations, on_lattice, read_tokens, read_symbol, step-shift, step-ninth, step-rotation}
 use Rattle.hall_symbol.specs.Spelling.{lattice_spelling, ShiftSpelled, Opens, Fit, Begins, lattice, rotation, Ending, plain, moved, Spells, Next, TokenRefused, RotationMissing, ends, opens, Refuses, Says}
 use Rattle.hall_symbol.specs.Parts.{lattice-read, lattice-spelled, shift-read, shift-spelled}
-use Rattle.hall_symbol.specs.declared.lattice.Lattice.{Lattice}
-use Rattle.hall_symbol.specs.declared.lattice.Lattice.TheVariants.{Is, Wrong}
-use Rattle.hall_symbol.specs.declared.shift.Shift.{Shift}
-use Rattle.hall_symbol.specs.declared.shift.Shift.TheVariants.{By, Malformed}
 use Rattle.hall_symbol.specs.declared.refusal.Refusal.{Refusal}
 use Rattle.hall_symbol.specs.declared.refusal.Refusal.TheVariants.{TooLong, ForbiddenByte, NoToken, Lattice as BadLattice, Token as BadToken, Shift as BadShift, NoRotation, TooMany}
+use Rattle.hall_token.specs.declared.refusal.Refusal.{Refusal as RefusalOf}
 
 -- The byte that a token starts with.
 stops_first : (t after : List ℕ) → 0 < length t → Stops opening t → opening (get_or (t ++ after) 0 0) ≡ false
@@ -71,7 +66,7 @@ begins-read text {c} (rotation {found = found} {previous} {p} {s} {w} {t} {after
     ∙ ap (λ (ts : List Token). operations (length text) c found previous ts) (tokens-cut p s w t after cut)
     ∙ step-rotation (length text) c found previous (token_at (p + length w) (t ++ after)) (tokens_from
     (p + length w + length t) true after) (stops_first t after cut.some start) few
-    ∙ rw (cut_word s w t after cut, (answers-exact t previous (IsOperation o f a)).1 says)
+    ∙ rw (cut_word s w t after cut, (answers-exact t previous (Ok (o, f, a))).1 says)
 
 -- Up to the next token the text is read.
 next-read : (text : List ℕ) (previous : Previous) (place : ℕ) (t after : List ℕ) (n : Next text previous place t after)
@@ -137,23 +132,23 @@ token-refused-read text p r h =
     let m = h.next in
     next-read text h.previous h.start h.t h.after m
     ∙ step-rotation (length text) m.c m.found h.previous _ _ (stops_first h.t h.after m.cut.some h.rotation) h.few
-    ∙ rw (cut_word m.s m.w h.t h.after m.cut, (answers-exact h.t h.previous (IsRefused h.offset r)).1 h.says, h.stands)
+    ∙ rw (cut_word m.s m.w h.t h.after m.cut, (answers-exact h.t h.previous (Err (h.offset, r))).1 h.says, h.stands)
 
 -- A token that spells no lattice is read as none.
-no-lattice : (t : List ℕ) → ((inverted : Bool) (c : Centering) → t ≡ lattice_spelling inverted c → ⊥) → lattice_token t ≡ Wrong
+no-lattice : (t : List ℕ) → ((inverted : Bool) (c : Centering) → t ≡ lattice_spelling inverted c → ⊥) → lattice_token t ≡ None
 no-lattice t h = go (lattice_token t) refl
   where
-    go : (l : Lattice) → lattice_token t ≡ l → lattice_token t ≡ Wrong
-    go (Is inverted c) e = absurd (h inverted c (lattice-spelled t inverted c e))
-    go Wrong e = e
+    go : (l : Option (Bool × Centering)) → lattice_token t ≡ l → lattice_token t ≡ None
+    go (Some (inverted, c)) e = absurd (h inverted c (lattice-spelled t inverted c e))
+    go (None) e = e
 
 -- A text that spells no shift is read as none.
-no-shift-spelled : (s : List ℕ) → Opens s → ((v : Vector) → ShiftSpelled s v → ⊥) → shift_of s ≡ Malformed
+no-shift-spelled : (s : List ℕ) → Opens s → ((v : Vector) → ShiftSpelled s v → ⊥) → shift_of s ≡ None
 no-shift-spelled s o h = go (shift_of s) refl
   where
-    go : (r : Shift) → shift_of s ≡ r → shift_of s ≡ Malformed
-    go (By t) e = let (v, spelled, same) = shift-spelled s t o e in absurd (h v spelled)
-    go Malformed e = e
+    go : (r : Option Translation) → shift_of s ≡ r → shift_of s ≡ None
+    go (Some t) e = let (v, spelled, same) = shift-spelled s t o e in absurd (h v spelled)
+    go None e = e
 
 -- A text that is fit is read token by token.
 fit-read : (text : List ℕ) → Fit text → read_symbol text ≡ read_tokens (length text) (tokens text)
@@ -252,8 +247,8 @@ module _ (text : List ℕ) (c : Centering) (found : List Operation) (previous : 
     unfolding at_shift
     shift_says o = go (eqb previous.count 0) refl
       where
-        read : 0 < previous.count → (r : Shift) → shift_of (t ++ after) ≡ r → Says text (on_shift (p + length w) c found r)
-        read some (By u) e =
+        read : 0 < previous.count → (r : Option Translation) → shift_of (t ++ after) ≡ r → Says text (on_shift (p + length w) c found r)
+        read some (Some u) e =
             let (v, spelled, same) = shift-spelled (t ++ after) u (opens-append t after o) e in
             record {
               found = found;
@@ -266,7 +261,7 @@ module _ (text : List ℕ) (c : Centering) (found : List Operation) (previous : 
               ending = moved v cut spelled;
               generators = ap (λ (w : Translation). map (shifted w) found) (sym same);
             }
-        read some Malformed e =
+        read some None e =
             record {
               previous = previous;
               t = t;
@@ -286,11 +281,11 @@ module _ (text : List ℕ) (c : Centering) (found : List Operation) (previous : 
     rotation-says : Stops opening t → ((o : Operation) (f : Fold) (a : Axis)
         → Begins text c (found ++ (o ∷ [])) (next_previous previous f a) (p + length w + length t) after
         → Says text (operations (length text) c (found ++ (o ∷ [])) (next_previous previous f a) (tokens_from (p + length w + length t) true after)))
-        → (few : previous.count < 8) (answer : ParsedOperation) → operation_token t previous ≡ answer
+        → (few : previous.count < 8) (answer : Result (Operation × Fold × Axis) (ℕ × RefusalOf)) → operation_token t previous ≡ answer
         → Says text (on_operation (p + length w) answer (λ o f a. operations (length text) c (found ++ (o ∷ [])) (next_previous previous f a)
         (tokens_from (p + length w + length t) true after)))
-    rotation-says start later few (IsOperation o f a) e = later o f a (rotation o f a begins cut start few ((answers-exact t previous (IsOperation o f a)).0 e))
-    rotation-says start later few (IsRefused k r) e =
+    rotation-says start later few (Ok (o, f, a)) e = later o f a (rotation o f a begins cut start few ((answers-exact t previous (Ok (o, f, a))).0 e))
+    rotation-says start later few (Err (k, r)) e =
         record {
           previous = previous;
           start = p + length w;
@@ -301,7 +296,7 @@ module _ (text : List ℕ) (c : Centering) (found : List Operation) (previous : 
           stands = refl;
           rotation = start;
           few = few;
-          says = (answers-exact t previous (IsRefused k r)).0 e;
+          says = (answers-exact t previous (Err (k, r))).0 e;
         }
 
     -- At any token.
@@ -354,13 +349,13 @@ operations-says (suc k) text c found previous p s l begins =
 fit-says : (text : List ℕ) → Fit text → Says text (read_tokens (length text) (tokens text))
 fit-says text fit = go (first-token text)
   where
-    lattice-says : (w t after : List ℕ) → Cut text w t after → (l : Lattice) → lattice_token t ≡ l
+    lattice-says : (w t after : List ℕ) → Cut text w t after → (l : Option (Bool × Centering)) → lattice_token t ≡ l
         → Says text (on_lattice (length text) (length w) l (tokens_from (length w + length t) true after))
-    lattice-says w t after cut (Is inverted c) e =
+    lattice-says w t after cut (Some (inverted, c)) e =
         let same = lattice-spelled t inverted c e in
         operations-says (length after) text c (leading inverted) no_previous (length w + length t) after (omega arith) (rw same
         (lattice inverted c fit (rw same at cut)))
-    lattice-says w t after cut Wrong e =
+    lattice-says w t after cut (None) e =
         record {
           w = w;
           t = t;
@@ -368,7 +363,7 @@ fit-says text fit = go (first-token text)
           fit = fit;
           cut = cut;
           stands = refl;
-          wrong = λ inverted c same. let other : lattice_token t ≡ Is inverted c = ap lattice_token same ∙ lattice-read inverted c in
+          wrong = λ inverted c same. let other : lattice_token t ≡ (Some (inverted, c)) = ap lattice_token same ∙ lattice-read inverted c in
               let z : ◌≡◌ {A = ℕ} 0 1 = cc in absurd (omega arith);
         }
 

@@ -1,5 +1,5 @@
 -- What the answer, slot by slot, says of the text: it loses nothing of the reading, so that each answer is given exactly if its rule holds.
-use Rattle.std.specs.Prelude.{◌≡◌, refl, ◌↔◌, Bool, true, false, List, [], ◌∷◌, ◌++◌, map, ℕ, ◌+◌, ◌-◌, ◌≤◌, length, take, replicate}
+use Rattle.std.specs.Prelude.{◌≡◌, refl, ◌↔◌, Bool, true, false, List, [], ◌∷◌, ◌++◌, map, ℕ, ◌+◌, ◌-◌, ◌≤◌, length, take, replicate, Ok}
 use Rattle.std.proofs.Common.{sym, ◌∙◌, ap, append_assoc, arith, length-append}
 use Rattle.std.proofs.lemmas.List.{length-replicate, length-map}
 use Rattle.std.proofs.Math.Seq.{take-append_seam}
@@ -10,7 +10,6 @@ use Rattle.operation.specs.declared.Operation.{Operation}
 use Rattle.centering.specs.declared.Centering.{Centering}
 use Rattle.hall_token.specs.Answers.{Reduced, read-reduced, answers-exact}
 use Rattle.hall_axes.specs.declared.Previous.{Previous}
-use Rattle.hall_token.specs.declared.ParsedOperation.TheVariants.{Operation as IsOperation}
 use Rattle.hall_symbol.specs.Generators.{leading, shift_by, shifted_coordinate, shifted, slots}
 use Rattle.hall_symbol.specs.Reader.{Reading, symbol, refusal, read_symbol, answer_of}
 use Rattle.hall_symbol.specs.Spelling.{lattice_spelling, Begins, lattice, rotation, Spells, Refuses, Says}
@@ -140,7 +139,7 @@ begins-reduced : (text : List ℕ) {c : Centering} {found : List Operation} {pre
     → AllReduced found
 begins-reduced text (lattice inverted c fit cut) = leading-reduced inverted
 begins-reduced text (rotation {found = found} {previous} {t = t} o f a begins cut start few says) =
-    reduced-snoc found o (begins-reduced text begins) (read-reduced t previous o f a ((answers-exact t previous (IsOperation o f a)).1 says))
+    reduced-snoc found o (begins-reduced text begins) (read-reduced t previous o f a ((answers-exact t previous (Ok (o, f, a))).1 says))
 
 generator-reduced : (v : Translation) (o : Operation) → Reduced o → Reduced (shifted v o)
 unfolding shifted shifted_coordinate

@@ -1,7 +1,5 @@
 -- The bytes of a symbol by R1 and refusal 2: which separate tokens, and which may stand there at all.
 use Rattle.std.specs.Prelude.{Bool, not, ◌&&◌, ◌||◌, ℕ, eqb, leb}
-use Rattle.hall_symbol.specs.declared.bytes.Class.{Class}
-use Rattle.hall_symbol.specs.declared.bytes.Class.TheVariants.{Whitespace, Token, Allowed, Inside}
 
 -- Tokens are separated by bytes 9 to 13 and 32.
 unfoldable pub whitespace : ℕ → Bool
@@ -22,10 +20,3 @@ unclosed b = not (eqb b 41)
 -- A shift is opened by the byte 40, `(`.
 unfoldable pub opening : ℕ → Bool
 opening b = eqb b 40
-
--- The test of each class.
-abbrev pub belongs : Class → ℕ → Bool
-belongs Whitespace = whitespace
-belongs Token = solid
-belongs Allowed = allowed
-belongs Inside = unclosed

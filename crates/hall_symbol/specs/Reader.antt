@@ -1,5 +1,5 @@
 -- The reader by R1, R2 and R8: a text's letter and generators, or its refusal, in the order of R8.
-use Rattle.std.specs.Prelude.{◌≡◌, true, false, cond, List, [], ◌∷◌, ◌++◌, map, ℕ, ◌+◌, ◌<◌, ◌≤◌, eqb, leb, ltb, length, get_or, replicate}
+use Rattle.std.specs.Prelude.{◌≡◌, true, false, cond, List, [], ◌∷◌, ◌++◌, map, ℕ, ◌+◌, ◌<◌, ◌≤◌, eqb, leb, ltb, length, get_or, replicate, Option, Some, Bool, Err, None, Ok, Result}
 use borrow.Author.Tests.{le-leb, lt-leb}
 use Rattle.operation.specs.Product.{identity_operation}
 use Rattle.operation.specs.declared.Translation.{Translation}
@@ -9,26 +9,21 @@ use Rattle.centering.specs.declared.Centering.TheVariants.{P}
 use Rattle.hall_token.specs.Reader.{operation_token}
 use Rattle.hall_axes.specs.declared.Fold.{Fold}
 use Rattle.hall_axes.specs.declared.Fold.TheVariants.{One}
-use Rattle.hall_axes.specs.declared.Mark.TheVariants.{None}
+use Rattle.hall_axes.specs.declared.Mark.TheVariants.{Unmarked}
 use Rattle.hall_axes.specs.declared.Direction.TheVariants.{Z}
 use Rattle.hall_axes.specs.declared.Axis.{Axis}
 use Rattle.hall_axes.specs.declared.Previous.{Previous}
-use Rattle.hall_token.specs.declared.ParsedOperation.{ParsedOperation}
-use Rattle.hall_token.specs.declared.ParsedOperation.TheVariants.{Operation as IsOperation, Refused as IsRefused}
 use Rattle.hall_symbol.specs.Bytes.{allowed, opening}
 use Rattle.hall_symbol.specs.Runs.{run}
 use Rattle.hall_symbol.specs.Tokens.{Token, tokens, bytes_of}
 use Rattle.hall_symbol.specs.Lattice.{lattice_token}
 use Rattle.hall_symbol.specs.Shift.{shift_of, no_shift}
 use Rattle.hall_symbol.specs.Generators.{leading, shifted, slots}
-use Rattle.hall_symbol.specs.declared.lattice.Lattice.{Lattice}
-use Rattle.hall_symbol.specs.declared.lattice.Lattice.TheVariants.{Is, Wrong}
-use Rattle.hall_symbol.specs.declared.shift.Shift.{Shift}
-use Rattle.hall_symbol.specs.declared.shift.Shift.TheVariants.{By, Malformed}
 use Rattle.hall_symbol.specs.declared.refusal.Refusal.{Refusal}
 use Rattle.hall_symbol.specs.declared.refusal.Refusal.TheVariants.{TooLong, ForbiddenByte, NoToken, Lattice as BadLattice, Token as BadToken, Shift as BadShift, NoRotation, TooMany}
 use Rattle.hall_symbol.specs.declared.Answer.TheVariants.{Symbol, Refused}
 use Rattle.hall_symbol.specs.declared.HallSymbol.{HallSymbol}
+use Rattle.hall_token.specs.declared.refusal.Refusal.{Refusal as RefusalOf}
 
 -- What a text is: a symbol with its letter and generators, or refused.
 pub data Reading : Type 0 where
@@ -38,25 +33,25 @@ pub data Reading : Type 0 where
 -- ---- N tokens
 -- Before the first N token: none, so that the fold and the axis here are never asked for.
 abbrev pub no_previous : Previous
-no_previous = record { count = 0; fold = One; axis = record { mark = None; direction = Z } }
+no_previous = record { count = 0; fold = One; axis = record { mark = Unmarked; direction = Z } }
 
 -- Behind an N token.
 abbrev pub next_previous : Previous → Fold → Axis → Previous
 next_previous previous f a = record { count = previous.count + 1; fold = f; axis = a }
 
 -- What an N token's own answer says of the symbol, where it starts at place p: it is refused at an offset from there.
-abbrev pub on_operation : ℕ → ParsedOperation → (Operation → Fold → Axis → Reading) → Reading
-on_operation p (IsOperation o f a) next = next o f a
-on_operation p (IsRefused k r) next = refusal (BadToken (p + k) r)
+abbrev pub on_operation : ℕ → Result (Operation × Fold × Axis) (ℕ × RefusalOf) → (Operation → Fold → Axis → Reading) → Reading
+on_operation p (Ok (o, f, a)) next = next o f a
+on_operation p (Err (k, r)) next = refusal (BadToken (p + k) r)
 
 -- The whole symbol, once its shift is known.
 abbrev pub shifted_symbol : Centering → List Operation → Translation → Reading
 shifted_symbol c found v = symbol c (map (shifted v) found)
 
 -- What the shift's own answer says of the symbol.
-abbrev pub on_shift : ℕ → Centering → List Operation → Shift → Reading
-on_shift p c found (By v) = shifted_symbol c found v
-on_shift p c found Malformed = refusal (BadShift p)
+abbrev pub on_shift : ℕ → Centering → List Operation → Option Translation → Reading
+on_shift p c found (Some v) = shifted_symbol c found v
+on_shift p c found Option.None = refusal (BadShift p)
 
 -- At a token that starts with `(`: refusal 10 goes before 9.
 unfoldable pub at_shift : Centering → List Operation → ℕ → Token → Reading
@@ -97,9 +92,9 @@ module _ (n : ℕ) (c : Centering) (found : List Operation) (previous : Previous
   step-rotation h k = rw (h, lt-leb 8 previous.count k)
 
 -- ---- the whole text
-abbrev pub on_lattice : ℕ → ℕ → Lattice → List Token → Reading
-on_lattice n p (Is inverted c) ts = operations n c (leading inverted) no_previous ts
-on_lattice n p Wrong ts = refusal (BadLattice p)
+abbrev pub on_lattice : ℕ → ℕ → Option (Bool × Centering) → List Token → Reading
+on_lattice n p (Some (inverted, c)) ts = operations n c (leading inverted) no_previous ts
+on_lattice n p (None) ts = refusal (BadLattice p)
 
 -- A symbol has a first token.
 abbrev pub read_tokens : ℕ → List Token → Reading

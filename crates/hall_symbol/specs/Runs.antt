@@ -1,6 +1,6 @@
 -- Runs of bytes that pass a test: the longest one that a text starts with, and how it lies in the text.
-use Rattle.std.specs.Prelude.{◌≡◌, refl, Bool, true, false, cond, List, [], ◌∷◌, ◌++◌, ℕ, zero, suc, ◌+◌, ◌<◌, ◌≤◌, length, get_or, take, drop}
-use Rattle.std.proofs.Common.{sym, ap, arith, add-one, drop_of_length-le, drop-cons}
+use Rattle.std.specs.Prelude.{◌≡◌, refl, Bool, true, false, cond, List, [], ◌∷◌, ◌++◌, ℕ, zero, suc, ◌+◌, ◌<◌, ◌≤◌, length, get_or, take, drop, ltb, max}
+use Rattle.std.proofs.Common.{sym, ap, arith, add-one, drop_of_length-le, drop-cons, ltb-true, ltb-false}
 
 -- How many bytes at a text's start pass the test.
 unfoldable pub run : (ℕ → Bool) → List ℕ → ℕ
@@ -124,3 +124,19 @@ run-here f s i h e = rw (drop-cons s i 0, e)
 pub run_on : (f : ℕ → Bool) (s : List ℕ) (i : ℕ) → i < length s → f (get_or s i 0) ≡ true → run f (drop i s) ≡ run f (drop (i + 1) s) + 1
 unfolding run
 run_on f s i h e = rw (drop-cons s i 0, e, add-one i) (sym (add-one _))
+
+-- A scan that meets no byte to stop at ends at the text's end, or where it began, if that is further on.
+pub scan_end : (f : ℕ → Bool) (s : List ℕ) (p i : ℕ) → length s ≤ i → (p ≤ length s → i ≤ length s) → p + run f (drop p s) ≡ i + run f (drop i s)
+    → max p (length s) ≡ p + run f (drop p s)
+scan_end f s p i h k e = go (ltb (length s) p) refl
+  where
+    go : (t : Bool) → ltb (length s) p ≡ t → max p (length s) ≡ p + run f (drop p s)
+    go true behind =
+        let less = ltb-true (length s) p behind in
+        let none = run_end f s p (omega arith) in
+        omega arith
+    go false within =
+        let less : p ≤ length s = ltb-false (length s) p within in
+        let ends = k less in
+        let none = run_end f s i h in
+        omega arith

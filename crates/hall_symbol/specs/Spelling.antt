@@ -1,6 +1,6 @@
 -- The spelling rules of R1, said of the text alone: which texts spell which symbol, and for each refusal 1 to 11 which
 -- texts it is given for and at which place. Nothing here speaks of a reader: what an N token spells is said by `Answers`, the rules of one token.
-use Rattle.std.specs.Prelude.{◌≡◌, Bool, true, false, cond, List, [], ◌∷◌, ◌++◌, map, ℕ, ◌+◌, ◌<◌, ◌≤◌, ltb, ℤ, pos, neg_ℤ, length, get_or}
+use Rattle.std.specs.Prelude.{◌≡◌, Bool, true, false, cond, List, [], ◌∷◌, ◌++◌, map, ℕ, ◌+◌, ◌<◌, ◌≤◌, ltb, ℤ, pos, neg_ℤ, length, get_or, Err, Ok}
 use Rattle.laws.specs.Matrix.{Vector}
 use Rattle.operation.specs.declared.Operation.{Operation}
 use Rattle.centering.specs.Letters.{byte_of}
@@ -9,7 +9,6 @@ use Rattle.hall_token.specs.Answers.{Answers}
 use Rattle.hall_axes.specs.declared.Fold.{Fold}
 use Rattle.hall_axes.specs.declared.Axis.{Axis}
 use Rattle.hall_axes.specs.declared.Previous.{Previous}
-use Rattle.hall_token.specs.declared.ParsedOperation.TheVariants.{Operation as IsOperation, Refused as IsRefused}
 use Rattle.hall_token.specs.declared.refusal.Refusal as token
 use Rattle.hall_symbol.specs.Bytes.{whitespace, allowed, opening}
 use Rattle.hall_symbol.specs.Runs.{Every, Stops}
@@ -78,7 +77,7 @@ pub data Begins (text : List ℕ) : Centering → List Operation → Previous �
   lattice : {w after : List ℕ} (inverted : Bool) (c : Centering) → Fit text → Cut text w (lattice_spelling inverted c) after
       → Begins text c (leading inverted) no_previous (length w + length (lattice_spelling inverted c)) after
   rotation : {c : Centering} {found : List Operation} {previous : Previous} {p : ℕ} {s w t after : List ℕ} (o : Operation) (f : Fold) (a : Axis)
-      → Begins text c found previous p s → Cut s w t after → Stops opening t → previous.count < 8 → Answers t previous (IsOperation o f a)
+      → Begins text c found previous p s → Cut s w t after → Stops opening t → previous.count < 8 → Answers t previous (Ok (o, f, a))
       → Begins text c (found ++ (o ∷ [])) (next_previous previous f a) (p + length w + length t) after
 
 -- The end of a symbol: only whitespace, or a shift.
@@ -139,7 +138,7 @@ pub record TokenRefused (text : List ℕ) (place : ℕ) (r : token.Refusal) : Ty
   pub stands : place ≡ start + offset
   pub rotation : Stops opening t
   pub few : previous.count < 8
-  pub says : Answers t previous (IsRefused offset r)
+  pub says : Answers t previous (Err (offset, r))
 
 -- 9: a shift stands at the place, behind an N token, and is spelt like none.
 pub record ShiftMalformed (text : List ℕ) (place : ℕ) : Type 0 where

@@ -11,7 +11,7 @@ use Rattle.hall_token.specs.declared.refusal.Refusal as token-refusal
 use Rattle.hall_token.specs.declared.refusal.Refusal.TheVariants.{Misspelt, Primed, Unsettled, Digit, Doubled}
 use Rattle.hall_symbol.specs.Bytes.{whitespace}
 use Rattle.hall_symbol.specs.Runs.{Every}
-use Rattle.hall_symbol.specs.Reader.{refusal, read_symbol, answer_of}
+use Rattle.hall_symbol.specs.Reader.{read_symbol, answer_of}
 use Rattle.hall_symbol.specs.Refusals.{number_of, place_of}
 use Rattle.hall_symbol.specs.Spelling.{Fit, Begins, lattice, rotation, FirstForbidden, LatticeWrong, Next, TokenRefused, ShiftMalformed, RotationMissing, ends, opens, NinthRotation, Refuses}
 use Rattle.hall_symbol.specs.Answers.{begins-place, answer-refused}

@@ -1,5 +1,5 @@
 -- The reader's steps at places of the text, as the code goes from token to token.
-use Rattle.std.specs.Prelude.{◌≡◌, true, false, ℕ, ◌+◌, ◌-◌, ◌<◌, ◌≤◌, length, get_or, drop}
+use Rattle.std.specs.Prelude.{◌≡◌, true, false, ℕ, ◌+◌, ◌-◌, ◌<◌, ◌≤◌, length, get_or, drop, Bool, Err, Option, Result}
 use Rattle.std.proofs.Math.Path.{sym, ap}
 use Rattle.std.proofs.Common.{◌∙◌, arith, add-zero, length-drop, get_or-drop, length-take-le}
 use mathlib.Core.List.{List, [], ◌∷◌, ◌++◌}
@@ -9,8 +9,6 @@ use Rattle.centering.specs.declared.Centering.{Centering}
 use Rattle.hall_token.specs.Reader.{operation_token}
 use Rattle.hall_axes.specs.declared.Previous.{Previous}
 use Rattle.hall_token.specs.Answers.{answers-exact, refused-within}
-use Rattle.hall_token.specs.declared.ParsedOperation.{ParsedOperation}
-use Rattle.hall_token.specs.declared.ParsedOperation.TheVariants.{Refused as IsRefused}
 use Rattle.hall_token.specs.declared.refusal.Refusal as token
 use borrow.Author.Tests.{lt-ltb, le-ltb}
 use Rattle.hall_symbol.specs.Bytes.{whitespace, solid, allowed, opening}
@@ -23,8 +21,10 @@ use Rattle.hall_symbol.specs.Places.{word-trimmed, word-behind, word_bytes, word
 use Rattle.hall_symbol.specs.Reader.{Reading, refusal, read_symbol, read_tokens, on_lattice, at_shift, at_end, operations, on_operation, next_previous, step-shift, step-ninth, step-rotation}
 use Rattle.hall_symbol.specs.declared.bytes.Word.{Word}
 use Rattle.hall_symbol.specs.declared.refusal.Refusal.TheVariants.{TooLong, ForbiddenByte, NoToken, TooMany}
-use Rattle.hall_symbol.specs.declared.lattice.Lattice.{Lattice}
 use Rattle.hall_symbol.specs.Lattice.{lattice_token}
+use Rattle.hall_axes.specs.declared.Fold.{Fold}
+use Rattle.hall_axes.specs.declared.Axis.{Axis}
+use Rattle.hall_token.specs.declared.refusal.Refusal.{Refusal}
 
 module _ (text : List ℕ) (p : ℕ) (w : Word) (found : w ≡ word_from p text) where
   -- Where the word starts.
@@ -90,7 +90,7 @@ module _ (text : List ℕ) (p : ℕ) (w : Word) (found : w ≡ word_from p text)
     walk-ninth h k = step ∙ step-ninth n c gs previous here later (ap opening first_byte ∙ h) k
 
     -- At any other token.
-    walk-rotation : opening (get_or text w.start 0) ≡ false → previous.count < 8 → (answer : ParsedOperation)
+    walk-rotation : opening (get_or text w.start 0) ≡ false → previous.count < 8 → (answer : Result (Operation × Fold × Axis) (ℕ × Refusal))
         → answer ≡ operation_token (take (w.end - w.start) (drop w.start text)) previous
         → operations n c gs previous (tokens_from p true (drop p text))
         ≡ on_operation w.start answer (λ o f a. operations n c (gs ++ (o ∷ [])) (next_previous previous f a)
@@ -136,7 +136,8 @@ module _ {text : List ℕ} {c : Centering} {whole : Reading} {p : ℕ} {list : G
   reached-ninth there h k = reached.same ∙ walk-ninth text p w found (length text) c (list_of list) previous there h k
 
   -- At any other token the reading goes by its answer.
-  pub reached-rotation : w.start < length text → opening (get_or text w.start 0) ≡ false → previous.count < 8 → (answer : ParsedOperation)
+  pub reached-rotation : w.start < length text → opening (get_or text w.start 0) ≡ false → previous.count < 8
+      → (answer : Result (Operation × Fold × Axis) (ℕ × Refusal))
       → answer ≡ operation_token (take (w.end - w.start) (drop w.start text)) previous
       → whole ≡ on_operation w.start answer (λ o f a. operations (length text) c (list_of list ++ (o ∷ [])) (next_previous previous f a)
       (tokens_from w.end true (drop w.end text)))
@@ -144,11 +145,11 @@ module _ {text : List ℕ} {c : Centering} {whole : Reading} {p : ℕ} {list : G
       reached.same ∙ walk-rotation text p w found (length text) c (list_of list) previous there h k answer e
 
   -- A refused token's offset stays within the text.
-  pub reached-offset : (k : ℕ) (r : token.Refusal) → IsRefused k r ≡ operation_token (take (w.end - w.start) (drop w.start text)) previous
+  pub reached-offset : (k : ℕ) (r : token.Refusal) → Err (k, r) ≡ operation_token (take (w.end - w.start) (drop w.start text)) previous
       → w.start + k ≤ length text
   reached-offset k r e =
       let own = take (w.end - w.start) (drop w.start text) in
-      let within = refused-within own previous k r ((answers-exact own previous (IsRefused k r)).0 (sym e)) in
+      let within = refused-within own previous k r ((answers-exact own previous (Err (k, r))).0 (sym e)) in
       let (after, ordered, reaches) = reached-word in
       let left = length-drop w.start text in
       let long : length own ≡ w.end - w.start = length-take-le (w.end - w.start) (drop w.start text) (omega arith) in
@@ -182,7 +183,7 @@ module _ (text : List ℕ) where
       read-blank h = read-fit fit ∙ ap (read_tokens (length text)) (none_left text 0 w first (omega arith) h)
 
       -- The first token's answer decides.
-      pub read-lattice : w.start < length text → (answer : Lattice) → answer ≡ lattice_token (take (w.end - w.start) (drop w.start text))
+      pub read-lattice : w.start < length text → (answer : Option (Bool × Centering)) → answer ≡ lattice_token (take (w.end - w.start) (drop w.start text))
           → read_symbol text ≡ on_lattice (length text) w.start answer (tokens_from w.end true (drop w.end text))
       read-lattice h answer e =
           let same : word (drop w.start text) ≡ take (w.end - w.start) (drop w.start text) =

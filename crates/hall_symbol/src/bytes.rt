@@ -1,18 +1,9 @@
 // Classes of bytes, and the words that they part a text into.
 // Ported from data/hall_symbol.rs of moyo 0.21.0, and changed: bytes for characters, and no whitespace but 9 to 13 and 32.
-ghost use Rattle.std.specs.Prelude.{◌≡◌, ◌+◌, drop};
-ghost use Rattle.hall_symbol.specs.Bytes.{whitespace, allowed, belongs};
+ghost use Rattle.std.specs.Prelude.{◌≡◌, Bool, ℕ, ◌+◌, ◌<◌, drop};
+ghost use Rattle.hall_symbol.specs.Bytes.{whitespace, allowed};
 ghost use Rattle.hall_symbol.specs.Runs.{run};
-ghost use Rattle.hall_symbol.specs.Tokens.{word_from};
-
-// Whitespace separates tokens, and a token holds none. Allowed bytes may stand in a symbol. Inside a shift stands any byte but `)`.
-#[derive(Clone, Copy)]
-pub(crate) enum Class {
-    Whitespace,
-    Token,
-    Allowed,
-    Inside,
-}
+ghost use Rattle.hall_symbol.specs.Places.{found_word};
 
 // Where a word starts, and the place behind it.
 #[derive(Clone, Copy)]
@@ -21,54 +12,43 @@ pub(crate) struct Word {
     pub end: usize,
 }
 
-fn is_whitespace(byte: u8) -> bool
+// Whitespace separates tokens.
+#[tactic(auto, unfolding(crate::specs::Bytes::whitespace))]
+pub fn is_whitespace(byte: u8) -> bool
     ensures { result ≡ whitespace byte }
 {
-    match byte {
-        9..=13 | 32 => true,
-        _ => false,
-    }
+    matches!(byte, 9..=13 | 32)
 }
 
-fn is_allowed(byte: u8) -> bool
+// The bytes that may stand in a symbol.
+#[tactic(auto, unfolding(crate::specs::Bytes::allowed))]
+pub(crate) fn is_allowed(byte: u8) -> bool
     ensures { result ≡ allowed byte }
 {
-    match byte {
-        9..=13 | 32..=126 => true,
-        _ => false,
-    }
+    matches!(byte, 9..=13 | 32..=126)
 }
 
-fn is_of(class: Class, byte: u8) -> bool
-    ensures { result ≡ belongs class byte }
+// The place behind the run of bytes that pass a test, from a place on.
+pub(crate) fn scan<F: Fn(u8) -> bool>(text: &[u8], at: usize, passes: F) -> usize
+    requires { F.IsAlwaysCallable passes }
+    ensures { (f : ℕ → Bool) → ((b : ℕ) (r : Bool) → b < 256 → F.post passes b r → r ≡ f b) → result ≡ at + run f (drop at text.now) }
 {
-    match class {
-        Class::Whitespace => is_whitespace(byte),
-        Class::Token => !is_whitespace(byte),
-        Class::Allowed => is_allowed(byte),
-        Class::Inside => byte != b')',
-    }
-}
-
-// The place behind the run of a class's bytes that starts at a place.
-pub(crate) fn scan(text: &[u8], at: usize, class: Class) -> usize
-    ensures { result ≡ at + run (belongs class) (drop at text.now) }
-{
-    let mut i = at;
-    while i < text.len() {
-        if !is_of(class, text[i]) {
+    for i in at..text.len() {
+        if !passes(text[i]) {
             return i;
         }
-        i += 1;
     }
-    i
+    at.max(text.len())
 }
 
-// The first word from a place on. It is empty, and stands at the end, where only whitespace is left.
-pub(crate) fn next_word(text: &[u8], at: usize) -> Word
-    ensures { result ≡ word_from at text.now }
+// The first word from a place on, unless only whitespace is left.
+pub(crate) fn next_word(text: &[u8], at: usize) -> Option<Word>
+    ensures { result ≡ found_word at text.now }
 {
-    let start = scan(text, at, Class::Whitespace);
-    let end = scan(text, start, Class::Token);
-    Word { start, end }
+    let start = scan(text, at, is_whitespace);
+    if text.len() <= start {
+        return None;
+    }
+    let end = scan(text, start, |byte| !is_whitespace(byte));
+    Some(Word { start, end })
 }

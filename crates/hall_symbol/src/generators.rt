@@ -33,24 +33,19 @@ fn inversion() -> Operation
     }
 }
 
-fn wide(number: u8) -> u32
-    ensures { result ≡ number }
-{
-    number as u32
-}
-
 // An entry is a − 1, and modulo 12 its negative is 11·a + 1, so that no number here is negative.
 fn turned_back(a: u8, u: u8) -> u32
     ensures { (result ≡ (11 * a + 1) * u) × (result ≤ 715530) }
 {
-    (11 * wide(a) + 1) * wide(u)
+    (11 * u32::from(a) + 1) * u32::from(u)
 }
 
 // One coordinate of t + v − Rv modulo 12.
 fn shifted_coordinate(a: u8, b: u8, c: u8, v: Translation, w: u8, t: u8) -> u8
     ensures { result ≡ shifted_coordinate a b c v w t }
 {
-    let sum = wide(t) + wide(w) + turned_back(a, v.x) + turned_back(b, v.y) + turned_back(c, v.z);
+    let still = u32::from(t) + u32::from(w);
+    let sum = still + turned_back(a, v.x) + turned_back(b, v.y) + turned_back(c, v.z);
     (sum % 12) as u8
 }
 
@@ -69,31 +64,28 @@ pub(crate) fn shifted(g: Operation, v: Translation) -> Operation
     }
 }
 
-pub(crate) fn push(list: Generators, g: Operation) -> Generators
-    requires { list.count < 9 }
-    ensures { Pushed list g result }
-{
-    let at = list.count;
-    let mut longer = list;
-    longer.operations[at] = g;
-    longer.count = at + 1;
-    longer
+impl Generators {
+    pub(crate) fn push(&mut self, generator: Operation)
+        requires { self.now.count < 9 }
+        ensures { Pushed self.old generator self.new }
+    {
+        self.operations[self.count] = generator;
+        self.count += 1;
+    }
 }
 
 // The generators that the first token gives: the inversion, or none.
 pub(crate) fn leading(inverted: bool) -> Generators
     ensures { Started inverted result }
 {
-    let e = identity();
-    let none = Generators {
+    let mut list = Generators {
         count: 0,
-        operations: [e; 9],
+        operations: [identity(); 9],
     };
-    if !inverted {
-        return none;
+    if inverted {
+        list.push(inversion());
     }
-    let i = inversion();
-    push(none, i)
+    list
 }
 
 // Every generator moved, and the identity in the slots past them.
@@ -101,18 +93,12 @@ pub(crate) fn shifted_all(list: Generators, v: Translation) -> Generators
     requires { list.count ≤ 9 }
     ensures { Moved list v result }
 {
-    let count = list.count;
-    let e = identity();
-    let mut moved = [e; 9];
-    let mut i = 0;
-    while i < count {
-        let g = list.operations[i];
-        let s = shifted(g, v);
-        moved[i] = s;
-        i += 1;
+    let mut moved = [identity(); 9];
+    for i in 0..list.count {
+        moved[i] = shifted(list.operations[i], v);
     }
     Generators {
-        count,
+        count: list.count,
         operations: moved,
     }
 }

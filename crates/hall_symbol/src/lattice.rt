@@ -3,35 +3,27 @@
 ghost use Rattle.std.specs.Prelude.{◌≡◌};
 ghost use Rattle.hall_symbol.specs.Lattice.{letter_token, lattice_token};
 
-use centering::{Centering, Letter};
+use centering::Centering;
 
-// Whether the inversion is there, and the letter; or a token that is wrong.
-#[derive(Clone, Copy)]
-pub enum Lattice {
-    Is(bool, Centering),
-    Wrong,
-}
-
-fn parse_letter(token: &[u8], inverted: bool) -> Lattice
+#[tactic(auto, unfolding(crate::specs::Lattice::letter_token))]
+fn parse_letter(token: &[u8], inverted: bool) -> Option<(bool, Centering)>
     ensures { result ≡ letter_token inverted token.now }
 {
-    if token.len() != 1 {
-        return Lattice::Wrong;
-    }
-    let Letter::Is(centering) = Centering::from_byte(token[0]) else {
-        return Lattice::Wrong;
+    let [byte] = token else {
+        return None;
     };
-    Lattice::Is(inverted, centering)
+    match Centering::from_byte(*byte) {
+        Some(centering) => Some((inverted, centering)),
+        None => None,
+    }
 }
 
-pub(crate) fn parse_lattice(token: &[u8]) -> Lattice
+#[tactic(auto, unfolding(crate::specs::Lattice::lattice_token, crate::specs::Lattice::letter_token))]
+pub(crate) fn parse_lattice(token: &[u8]) -> Option<(bool, Centering)>
     ensures { result ≡ lattice_token token.now }
 {
-    if token.len() == 0 {
-        return Lattice::Wrong;
+    match token {
+        [b'-', letter @ ..] => parse_letter(letter, true),
+        _ => parse_letter(token, false),
     }
-    if token[0] == b'-' {
-        return parse_letter(&token[1..], true);
-    }
-    parse_letter(token, false)
 }

@@ -8,21 +8,18 @@ ghost use Rattle.hall_symbol.specs.Tokens.{token_at, tokens_from};
 ghost use Rattle.hall_symbol.specs.Listed.{list_of};
 ghost use Rattle.hall_symbol.specs.Reader.{refused_answer, answer_of, shifted_symbol, at_end, at_shift, operations, no_previous, read_symbol};
 
-mod bytes;
+pub mod bytes;
 mod generators;
 mod lattice;
 pub mod refusal;
 mod shift;
 
-use bytes::Class;
+use bytes::is_allowed;
 use centering::Centering;
 use generators::Generators;
 use hall_axes::{Axis, Direction, Fold, Mark, Previous};
-use hall_token::ParsedOperation;
-use lattice::Lattice;
 use operation::{Operation, Translation};
 use refusal::Refusal;
-use shift::Shift;
 
 #[derive(Clone, Copy)]
 pub enum Answer {
@@ -42,12 +39,11 @@ pub struct HallSymbol {
 fn refused(refusal: Refusal) -> HallSymbol
     ensures { result ≡ refused_answer refusal }
 {
-    let e = operation::product::identity();
     HallSymbol {
         answer: Answer::Refused(refusal),
         centering: Centering::P,
         count: 0,
-        generators: [e; 9],
+        generators: [operation::product::identity(); 9],
     }
 }
 
@@ -56,9 +52,7 @@ fn accepted(centering: Centering, list: Generators, v: Translation) -> HallSymbo
     requires { list.count ≤ 9 }
     ensures { result ≡ answer_of (shifted_symbol centering (list_of list) v) }
 {
-    let moved = generators::shifted_all(list, v);
-    let count = moved.count;
-    let operations = moved.operations;
+    let Generators { count, operations } = generators::shifted_all(list, v);
     HallSymbol {
         answer: Answer::Symbol,
         centering,
@@ -68,6 +62,7 @@ fn accepted(centering: Centering, list: Generators, v: Translation) -> HallSymbo
 }
 
 // At the end of a text of n bytes, behind some N tokens.
+#[tactic(auto, unfolding(crate::specs::Reader::at_end))]
 fn at_end(n: usize, rotations: usize, centering: Centering, list: Generators) -> HallSymbol
     requires { list.count ≤ 9 }
     ensures { result ≡ answer_of (at_end n centering (list_of list) rotations) }
@@ -79,6 +74,7 @@ fn at_end(n: usize, rotations: usize, centering: Centering, list: Generators) ->
 }
 
 // At a token that starts with `(`, behind some N tokens.
+#[tactic(auto, unfolding(crate::specs::Reader::at_shift))]
 fn at_shift(
     text: &[u8],
     place: usize,
@@ -92,7 +88,7 @@ fn at_shift(
     if rotations == 0 {
         return refused(Refusal::NoRotation(place));
     }
-    let Shift::By(v) = shift::parse_origin_shift(text, place) else {
+    let Some(v) = shift::parse_origin_shift(text, place) else {
         return refused(Refusal::Shift(place));
     };
     accepted(centering, list, v)
@@ -106,7 +102,7 @@ fn no_previous() -> Previous
         count: 0,
         fold: Fold::One,
         axis: Axis {
-            mark: Mark::None,
+            mark: Mark::Unmarked,
             direction: Direction::Z,
         },
     }
@@ -118,16 +114,16 @@ fn parse(text: &[u8], from: usize, centering: Centering, leading: Generators) ->
     ensures { result ≡ answer_of (operations (length text.now) centering (list_of leading) no_previous
         (tokens_from from true (drop from text.now))) }
 {
+    // Each word starts where the one before ended, so the loop has no range and no slice to go over.
     let mut at = from;
     let mut list = leading;
     let mut previous = no_previous();
     loop {
-        let word = bytes::next_word(text, at);
+        let Some(word) = bytes::next_word(text, at) else {
+            return at_end(text.len(), previous.count, centering, list);
+        };
         let start = word.start;
         at = word.end;
-        if text.len() <= start {
-            return at_end(text.len(), previous.count, centering, list);
-        }
         if text[start] == b'(' {
             return at_shift(text, start, previous.count, centering, list);
         }
@@ -136,16 +132,13 @@ fn parse(text: &[u8], from: usize, centering: Centering, leading: Generators) ->
         }
         let parsed = hall_token::parse_operation(&text[start..at], previous);
         match parsed {
-            ParsedOperation::Operation(o, fold, axis) => {
-                let slot = list.count;
-                list.operations[slot] = o;
-                list.count = slot + 1;
+            Ok((o, fold, axis)) => {
+                list.push(o);
                 let count = previous.count + 1;
                 previous = Previous { count, fold, axis };
             }
-            ParsedOperation::Refused(offset, refusal) => {
-                let place = start + offset;
-                return refused(Refusal::Token(place, refusal));
+            Err((offset, refusal)) => {
+                return refused(Refusal::Token(start + offset, refusal));
             }
         }
     }
@@ -158,17 +151,16 @@ impl HallSymbol {
         if 80 < text.len() {
             return refused(Refusal::TooLong);
         }
-        let allowed = bytes::scan(text, 0, Class::Allowed);
+        let allowed = bytes::scan(text, 0, is_allowed);
         if allowed < text.len() {
             return refused(Refusal::ForbiddenByte(allowed));
         }
-        let word = bytes::next_word(text, 0);
+        let Some(word) = bytes::next_word(text, 0) else {
+            return refused(Refusal::NoToken);
+        };
         let start = word.start;
         let end = word.end;
-        if text.len() <= start {
-            return refused(Refusal::NoToken);
-        }
-        let Lattice::Is(inverted, centering) = lattice::parse_lattice(&text[start..end]) else {
+        let Some((inverted, centering)) = lattice::parse_lattice(&text[start..end]) else {
             return refused(Refusal::Lattice(start));
         };
         let leading = generators::leading(inverted);

@@ -1,6 +1,6 @@
 -- What each answer says of a token and of what stands to its left, without the reader: when an N token is misspelt, primed, unsettled, has a wrong
 -- digit, or is an operation. The reader answers exactly so, and of any token exactly one answer holds.
-use Rattle.std.specs.Prelude.{◌≡◌, refl, Bool, true, false, cond, ◌&&◌, ◌↔◌, ℕ, zero, suc, ◌+◌, ◌<◌, ◌≤◌, length, eqb, ltb, leb}
+use Rattle.std.specs.Prelude.{◌≡◌, refl, Bool, true, false, cond, ◌&&◌, ◌↔◌, ℕ, zero, suc, ◌+◌, ◌<◌, ◌≤◌, length, eqb, ltb, leb, Option, Some, Err, None, Ok, Result}
 use Rattle.std.proofs.Common.{sym, ◌∙◌, ap, subst, true≢false, inl, inr, arith, length-append, eqb-true, ltb-true, ltb-false, leb-true, lt-ltb}
 use Rattle.std.proofs.lemmas.Bool.{false≢true}
 use Rattle.std.proofs.Math.Bool.{and-eq-true_iff}
@@ -12,21 +12,12 @@ use Rattle.operation.specs.declared.Rotation.{Rotation}
 use Rattle.operation.specs.declared.Operation as operation
 use Rattle.hall_axes.specs.declared.Fold.{Fold}
 use Rattle.hall_axes.specs.declared.Mark.{Mark}
-use Rattle.hall_axes.specs.declared.Mark.TheVariants.{None, Single, Double}
+use Rattle.hall_axes.specs.declared.Mark.TheVariants.{Unmarked, Single, Double}
 use Rattle.hall_axes.specs.declared.Direction.TheVariants.{Z}
 use Rattle.hall_axes.specs.declared.Axis.{Axis}
-use Rattle.hall_axes.specs.declared.AxisLetter.{AxisLetter}
-use Rattle.hall_axes.specs.declared.AxisLetter.TheVariants.{Along, Absent}
 use Rattle.hall_axes.specs.declared.Previous.{Previous}
 use Rattle.hall_token.specs.declared.RunByte.{RunByte}
 use Rattle.hall_token.specs.declared.RunByte.TheVariants.{Screw, Letter, Prime, Foreign}
-use Rattle.hall_axes.specs.declared.SettledAxis.{SettledAxis}
-use Rattle.hall_axes.specs.declared.SettledAxis.TheVariants.{Settled, Open}
-use Rattle.hall_axes.specs.declared.Turn.{Turn}
-use Rattle.hall_axes.specs.declared.Turn.TheVariants.{Matrix, NoMatrix}
-use Rattle.hall_token.specs.declared.Moved.TheVariants.{By, WrongDigit}
-use Rattle.hall_token.specs.declared.ParsedOperation.{ParsedOperation}
-use Rattle.hall_token.specs.declared.ParsedOperation.TheVariants.{Operation, Refused}
 use Rattle.hall_token.specs.declared.refusal.Refusal.{Refusal}
 use Rattle.hall_token.specs.declared.refusal.Refusal.TheVariants.{Misspelt, Primed, Unsettled, Digit, Doubled}
 use Rattle.hall_token.specs.Bytes.{run_bytes, run_byte_of, value_at, passes, value_at-passes}
@@ -43,6 +34,8 @@ use Rattle.hall_token.specs.Offsets.{sign_length, mark_length, letter_length, ru
 use Rattle.hall_token.specs.Spelling.{sign_bytes, fold_byte, mark_bytes, letter_bytes, read-exact}
 use Rattle.laws.specs.Prefixes.{FirstOffending, first-unique, offending-misspelt}
 use Rattle.hall_token.specs.Misspelt.{Spelling, FoldMissing, offending, missing-end}
+use Rattle.hall_axes.specs.declared.Direction.{Direction}
+use Rattle.operation.specs.declared.Operation.{Operation}
 
 -- ---- the answers
 
@@ -55,7 +48,7 @@ pub record Turning {token : List ℕ} (s : Spelling token) (p : Previous) : Type
   pub about : Axis
   pub rotation : Rotation
   pub settled : Settles s.fold s.mark s.letter p about
-  pub listed : turn_of s.fold about ≡ Matrix rotation
+  pub listed : turn_of s.fold about ≡ Some rotation
 
 -- A digit, byte 48 + digit, that does not stand first, or not on unmarked axis z, or is not below the fold.
 pub record DigitWrong (f : Fold) (a : Axis) (run : List ℕ) : Type 0 where
@@ -118,9 +111,9 @@ Refuses token p k Digit = HasWrongDigit token p k
 Refuses token p k Doubled = HasRepeat token p k
 
 -- The same of an answer.
-abbrev pub Answers : List ℕ → Previous → ParsedOperation → Type 0
-Answers token p (Operation o f a) = IsOperation token p o f a
-Answers token p (Refused k r) = Refuses token p k r
+abbrev pub Answers : List ℕ → Previous → Result (Operation × Fold × Axis) (ℕ × Refusal) → Type 0
+Answers token p (Ok (o, f, a)) = IsOperation token p o f a
+Answers token p (Err (k, r)) = Refuses token p k r
 
 -- ---- primes
 
@@ -282,13 +275,13 @@ sign-long true = refl
 sign-long false = refl
 
 mark-long : (m : Mark) → length (mark_bytes m) ≡ mark_length m
-mark-long None = refl
+mark-long Unmarked = refl
 mark-long Single = refl
 mark-long Double = refl
 
-letter-long : (l : AxisLetter) → length (letter_bytes l) ≡ letter_length l
-letter-long (Along d) = refl
-letter-long Absent = refl
+letter-long : (l : Option Direction) → length (letter_bytes l) ≡ letter_length l
+letter-long (Some d) = refl
+letter-long None = refl
 
 abbrev start_of : {token : List ℕ} → Spelling token → ℕ
 start_of s = run_start s.negative s.mark s.letter
@@ -315,14 +308,14 @@ in-run-once {token} s i k (front, split, place) =
 -- ---- the reader's answer holds
 
 once-holds : (token : List ℕ) (p : Previous) (s : Spelling token) → ¬ (HasPrime s) → (t : Turning s p) → ¬ (DigitWrong s.fold t.about s.run)
-    → Answers token p (once_then (start_of s) s.run (Operation
-    (record { rotation = signed s.negative t.rotation; translation = translation_of s.fold s.run }) s.fold t.about))
+    → Answers token p (once_then (start_of s) s.run
+    (Ok ((record { rotation = signed s.negative t.rotation; translation = translation_of s.fold s.run }), s.fold, t.about)))
 unfolding once_then
 once-holds token p s u t d = go (ltb (repeat_at s.run) (length s.run)) refl
   where
     go : (b : Bool) → ltb (repeat_at s.run) (length s.run) ≡ b
-        → Answers token p (cond b (Refused (start_of s + repeat_at s.run) Doubled)
-        (Operation (record { rotation = signed s.negative t.rotation; translation = translation_of s.fold s.run }) s.fold t.about))
+        → Answers token p (cond b (Err ((start_of s + repeat_at s.run), Doubled))
+        (Ok ((record { rotation = signed s.negative t.rotation; translation = translation_of s.fold s.run }), s.fold, t.about)))
     go true h = (s, u, t, d, repeat_at s.run, repeat-found s.run (ltb-true (repeat_at s.run) (length s.run) h), in-run s (repeat_at s.run))
     go false h =
         record {
@@ -343,20 +336,20 @@ moved_holds token p s u t = go (digits_right s.fold t.about s.run) refl
   where
     go : (b : Bool) → digits_right s.fold t.about s.run ≡ b
         → Answers token p (moved_then (start_of s) s.negative s.fold t.about s.run t.rotation
-        (cond b (By (translation_of s.fold s.run)) WrongDigit))
+        (cond b (Some (translation_of s.fold s.run)) Option.None))
     go true h = once-holds token p s u t (none-wrong s.fold t.about s.run h)
     go false h =
         let i = wrong_digit_at s.fold t.about s.run in
         (s, u, t, i, some-wrong s.fold t.about s.run h, in-run s i)
 
-turn_holds : (token : List ℕ) (p : Previous) (s : Spelling token) → ¬ (HasPrime s) → (a : Axis) → axis_of s.fold s.mark s.letter p ≡ Settled a
+turn_holds : (token : List ℕ) (p : Previous) (s : Spelling token) → ¬ (HasPrime s) → (a : Axis) → axis_of s.fold s.mark s.letter p ≡ Some a
     → Answers token p (turn_then (start_of s) s.negative s.fold a s.run (turn_of s.fold a))
 unfolding turn_then
 turn_holds token p s u a e = go (turn_of s.fold a) refl
   where
-    go : (r : Turn) → turn_of s.fold a ≡ r → Answers token p (turn_then (start_of s) s.negative s.fold a s.run r)
-    go (Matrix r) h = moved_holds token p s u (record { about = a; rotation = r; settled = (settles-exact s.fold s.mark s.letter p a).0 e; listed = h })
-    go NoMatrix h = (refl, (s, u, none))
+    go : (r : Option Rotation) → turn_of s.fold a ≡ r → Answers token p (turn_then (start_of s) s.negative s.fold a s.run r)
+    go (Some r) h = moved_holds token p s u (record { about = a; rotation = r; settled = (settles-exact s.fold s.mark s.letter p a).0 e; listed = h })
+    go None h = (refl, (s, u, none))
       where
         none : ¬ (Turning s p)
         none t =
@@ -372,9 +365,9 @@ axis-holds : (token : List ℕ) (p : Previous) (s : Spelling token) → ¬ (HasP
 unfolding axis_then
 axis-holds token p s u = go (axis_of s.fold s.mark s.letter p) refl
   where
-    go : (a : SettledAxis) → axis_of s.fold s.mark s.letter p ≡ a → Answers token p (axis_then (start_of s) s.negative s.fold s.run a)
-    go (Settled a) h = turn_holds token p s u a h
-    go Open h = (refl, (s, u, none))
+    go : (a : Option Axis) → axis_of s.fold s.mark s.letter p ≡ a → Answers token p (axis_then (start_of s) s.negative s.fold s.run a)
+    go (Some a) h = turn_holds token p s u a h
+    go None h = (refl, (s, u, none))
       where
         none : ¬ (Turning s p)
         none t =
@@ -393,7 +386,7 @@ answer-holds token p = go (read_token token) refl
         s : Spelling token
         s = record { negative = n; fold = f; mark = m; letter = l; run = run; spells = (read-exact token n f m l run).0 h }
 
-        prime : (t : Bool) → every no_prime run ≡ t → Answers token p (cond t (axis_then (run_start n m l) n f run (axis_of f m l p)) (Refused 0 Primed))
+        prime : (t : Bool) → every no_prime run ≡ t → Answers token p (cond t (axis_then (run_start n m l) n f run (axis_of f m l p)) (Err (0, Primed)))
         prime true e = axis-holds token p s (λ i. prime-there run i e)
         prime false e = (refl, (s, some-prime run e))
     go (no-parts k) h = offending token k h
@@ -402,16 +395,16 @@ answer-holds token p = go (read_token token) refl
 
 spelt-answer : (token : List ℕ) (p : Previous) (s : Spelling token)
     → operation_token token p ≡ cond (every no_prime s.run) (axis_then (start_of s) s.negative s.fold s.run
-    (axis_of s.fold s.mark s.letter p)) (Refused 0 Primed)
+    (axis_of s.fold s.mark s.letter p)) (Err (0, Primed))
 unfolding operation_token operation_of_parts
 spelt-answer token p s =
     ap (λ (w : Parts). operation_of_parts w p) ((read-exact token s.negative s.fold s.mark s.letter s.run).1 s.spells)
 
-primed-answer : (token : List ℕ) (p : Previous) (s : Spelling token) → HasPrime s → operation_token token p ≡ Refused 0 Primed
+primed-answer : (token : List ℕ) (p : Previous) (s : Spelling token) → HasPrime s → operation_token token p ≡ Err (0, Primed)
 primed-answer token p s h = spelt-answer token p s ∙ go (every no_prime s.run) refl
   where
     go : (t : Bool) → every no_prime s.run ≡ t → cond t (axis_then (start_of s) s.negative s.fold s.run
-        (axis_of s.fold s.mark s.letter p)) (Refused 0 Primed) ≡ Refused 0 Primed
+        (axis_of s.fold s.mark s.letter p)) (Err (0, Primed)) ≡ Err (0, Primed)
     go true e = absurd (prime-there s.run h e)
     go false e = refl
 
@@ -427,80 +420,88 @@ turning-answer token p s u t =
     ∙ ap (axis_then (start_of s) s.negative s.fold s.run) ((settles-exact s.fold s.mark s.letter p t.about).1 t.settled)
     ∙ ap (turn_then (start_of s) s.negative s.fold t.about s.run) t.listed
 
-unsettled-answer : (token : List ℕ) (p : Previous) (s : Spelling token) → ¬ (HasPrime s) → ¬ (Turning s p) → operation_token token p ≡ Refused 0 Unsettled
+unsettled-answer : (token : List ℕ) (p : Previous) (s : Spelling token) → ¬ (HasPrime s) → ¬ (Turning s p) → operation_token token p ≡ Err (0, Unsettled)
 unfolding axis_then turn_then
 unsettled-answer token p s u n = unprimed-answer token p s u ∙ go (axis_of s.fold s.mark s.letter p) refl
   where
-    turn : (a : Axis) → axis_of s.fold s.mark s.letter p ≡ Settled a → (r : Turn) → turn_of s.fold a ≡ r
-        → turn_then (start_of s) s.negative s.fold a s.run r ≡ Refused 0 Unsettled
-    turn a e (Matrix r) h = absurd (n (record { about = a; rotation = r; settled = (settles-exact s.fold s.mark s.letter p a).0 e; listed = h }))
-    turn a e NoMatrix h = refl
+    turn : (a : Axis) → axis_of s.fold s.mark s.letter p ≡ Some a → (r : Option Rotation) → turn_of s.fold a ≡ r
+        → turn_then (start_of s) s.negative s.fold a s.run r ≡ Err (0, Unsettled)
+    turn a e (Some r) h = absurd (n (record { about = a; rotation = r; settled = (settles-exact s.fold s.mark s.letter p a).0 e; listed = h }))
+    turn a e None h = refl
 
-    go : (a : SettledAxis) → axis_of s.fold s.mark s.letter p ≡ a → axis_then (start_of s) s.negative s.fold s.run a ≡ Refused 0 Unsettled
-    go (Settled a) h = turn a h (turn_of s.fold a) refl
-    go Open h = refl
+    go : (a : Option Axis) → axis_of s.fold s.mark s.letter p ≡ a → axis_then (start_of s) s.negative s.fold s.run a ≡ Err (0, Unsettled)
+    go (Some a) h = turn a h (turn_of s.fold a) refl
+    go None h = refl
 
-digit-answer : (token : List ℕ) (p : Previous) (k : ℕ) → HasWrongDigit token p k → operation_token token p ≡ Refused k Digit
+digit-answer : (token : List ℕ) (p : Previous) (k : ℕ) → HasWrongDigit token p k → operation_token token p ≡ Err (k, Digit)
 unfolding moved_then moved_by
 digit-answer token p k (s, u, t, i, w, run) = turning-answer token p s u t ∙ go (digits_right s.fold t.about s.run) refl
   where
     go : (b : Bool) → digits_right s.fold t.about s.run ≡ b
-        → moved_then (start_of s) s.negative s.fold t.about s.run t.rotation (cond b (By (translation_of s.fold s.run)) WrongDigit)
-        ≡ Refused k Digit
+        → moved_then (start_of s) s.negative s.fold t.about s.run t.rotation (cond b (Some (translation_of s.fold s.run)) Option.None)
+        ≡ Err (k, Digit)
     go true h = absurd (none-wrong s.fold t.about s.run h w.digit)
     go false h =
         let own = some-wrong s.fold t.about s.run h in
         let same : i ≡ wrong_digit_at s.fold t.about s.run = omega (arith, w.first own.digit, own.place, own.first w.digit, w.place) in
-        ap (λ (o : ℕ). Refused o Digit) (ap (λ (o : ℕ). start_of s + o) (sym same) ∙ in-run-once s i k run)
+        ap (λ (o : ℕ). (Err (o, Digit))) (ap (λ (o : ℕ). start_of s + o) (sym same) ∙ in-run-once s i k run)
 
 right_answer : (token : List ℕ) (p : Previous) (s : Spelling token) → ¬ (HasPrime s) → (t : Turning s p) → ¬ (DigitWrong s.fold t.about s.run)
-    → operation_token token p ≡ once_then (start_of s) s.run (Operation
-    (record { rotation = signed s.negative t.rotation; translation = translation_of s.fold s.run }) s.fold t.about)
+    → operation_token token p ≡ once_then (start_of s) s.run
+    (Ok ((record { rotation = signed s.negative t.rotation; translation = translation_of s.fold s.run }), s.fold, t.about))
 unfolding moved_then moved_by
 right_answer token p s u t w = turning-answer token p s u t ∙ go (digits_right s.fold t.about s.run) refl
   where
     go : (b : Bool) → digits_right s.fold t.about s.run ≡ b
-        → moved_then (start_of s) s.negative s.fold t.about s.run t.rotation (cond b (By (translation_of s.fold s.run)) WrongDigit)
-        ≡ once_then (start_of s) s.run (Operation (record {
-          rotation = signed s.negative t.rotation;
-          translation = translation_of s.fold s.run;
-        }) s.fold t.about)
+        → moved_then (start_of s) s.negative s.fold t.about s.run t.rotation (cond b (Some (translation_of s.fold s.run)) Option.None)
+        ≡ once_then (start_of s) s.run (Ok (
+          (record {
+            rotation = signed s.negative t.rotation;
+            translation = translation_of s.fold s.run;
+          }),
+          s.fold,
+          t.about,
+        ))
     go true h = refl
     go false h = absurd (w (some-wrong s.fold t.about s.run h).digit)
 
 moved-answer : (token : List ℕ) (p : Previous) (s : Spelling token) → ¬ (HasPrime s) → (t : Turning s p) → ¬ (DigitWrong s.fold t.about s.run)
-    → ¬ (Repeated s.run) → operation_token token p ≡ Operation (record {
-      rotation = signed s.negative t.rotation;
-      translation = translation_of s.fold s.run;
-    }) s.fold t.about
+    → ¬ (Repeated s.run) → operation_token token p ≡ Ok (
+      (record {
+        rotation = signed s.negative t.rotation;
+        translation = translation_of s.fold s.run;
+      }),
+      s.fold,
+      t.about,
+    )
 unfolding once_then
 moved-answer token p s u t w once = right_answer token p s u t w ∙ go (ltb (repeat_at s.run) (length s.run)) refl
   where
     go : (b : Bool) → ltb (repeat_at s.run) (length s.run) ≡ b
-        → cond b (Refused (start_of s + repeat_at s.run) Doubled) (Operation
-        (record { rotation = signed s.negative t.rotation; translation = translation_of s.fold s.run }) s.fold t.about)
-        ≡ Operation (record { rotation = signed s.negative t.rotation; translation = translation_of s.fold s.run }) s.fold t.about
+        → cond {A = Result (operation.Operation × Fold × Axis) (ℕ × Refusal)} b (Err ((start_of s + repeat_at s.run), Doubled))
+        (Ok ((record { rotation = signed s.negative t.rotation; translation = translation_of s.fold s.run }), s.fold, t.about))
+        ≡ Ok ((record { rotation = signed s.negative t.rotation; translation = translation_of s.fold s.run }), s.fold, t.about)
     go true h = absurd (once (repeat-found s.run (ltb-true (repeat_at s.run) (length s.run) h)).repeated)
     go false h = refl
 
-repeat-answer : (token : List ℕ) (p : Previous) (k : ℕ) → HasRepeat token p k → operation_token token p ≡ Refused k Doubled
+repeat-answer : (token : List ℕ) (p : Previous) (k : ℕ) → HasRepeat token p k → operation_token token p ≡ Err (k, Doubled)
 unfolding once_then
 repeat-answer token p k (s, u, t, d, i, w, run) = right_answer token p s u t d ∙ go (ltb (repeat_at s.run) (length s.run)) refl
   where
     go : (b : Bool) → ltb (repeat_at s.run) (length s.run) ≡ b
-        → cond b (Refused (start_of s + repeat_at s.run) Doubled) (Operation
-        (record { rotation = signed s.negative t.rotation; translation = translation_of s.fold s.run }) s.fold t.about) ≡ Refused k Doubled
+        → cond {A = Result (operation.Operation × Fold × Axis) (ℕ × Refusal)} b (Err ((start_of s + repeat_at s.run), Doubled))
+        (Ok ((record { rotation = signed s.negative t.rotation; translation = translation_of s.fold s.run }), s.fold, t.about)) ≡ Err (k, Doubled)
     go true h =
         let own = repeat-found s.run (ltb-true (repeat_at s.run) (length s.run) h) in
         let same : i ≡ repeat_at s.run = omega (arith, w.first own.repeated, own.place, own.first w.repeated, w.place) in
-        ap (λ (o : ℕ). Refused o Doubled) (ap (λ (o : ℕ). start_of s + o) (sym same) ∙ in-run-once s i k run)
+        ap (λ (o : ℕ). (Err (o, Doubled))) (ap (λ (o : ℕ). start_of s + o) (sym same) ∙ in-run-once s i k run)
     go false h = absurd (repeat-none s.run (ltb-false (repeat_at s.run) (length s.run) h) w.repeated)
 
-misspelt-answer : (token : List ℕ) (p : Previous) (k : ℕ) → IsMisspelt token k → operation_token token p ≡ Refused k Misspelt
+misspelt-answer : (token : List ℕ) (p : Previous) (k : ℕ) → IsMisspelt token k → operation_token token p ≡ Err (k, Misspelt)
 unfolding operation_token operation_of_parts
 misspelt-answer token p k w = go (read_token token) refl
   where
-    go : (q : Parts) → read_token token ≡ q → operation_of_parts q p ≡ Refused k Misspelt
+    go : (q : Parts) → read_token token ≡ q → operation_of_parts q p ≡ Err (k, Misspelt)
     go (parts n f m l run) h =
         absurd (offending-misspelt Spelling token k w (record {
           negative = n;
@@ -510,44 +511,44 @@ misspelt-answer token p k w = go (read_token token) refl
           run = run;
           spells = (read-exact token n f m l run).0 h;
         }))
-    go (no-parts j) h = ap (λ (o : ℕ). Refused o Misspelt) (first-unique Spelling token j k (offending token j h) w)
+    go (no-parts j) h = ap (λ (o : ℕ). (Err (o, Misspelt))) (first-unique Spelling token j k (offending token j h) w)
 
-holds-answer : (token : List ℕ) (p : Previous) (r : ParsedOperation) → Answers token p r → operation_token token p ≡ r
-holds-answer token p (Operation o f a) h = rw (
+holds-answer : (token : List ℕ) (p : Previous) (r : Result (Operation × Fold × Axis) (ℕ × Refusal)) → Answers token p r → operation_token token p ≡ r
+holds-answer token p (Ok (o, f, a)) h = rw (
   h.is-fold,
   h.is-axis,
   h.is-operation,
 ) (moved-answer token p h.spelling h.unprimed h.turning h.digits h.once)
-holds-answer token p (Refused k Misspelt) h = misspelt-answer token p k h
-holds-answer token p (Refused k Primed) h = rw h.0 (primed-answer token p h.1.0 h.1.1)
-holds-answer token p (Refused k Unsettled) h = rw h.0 (unsettled-answer token p h.1.0 h.1.1 h.1.2)
-holds-answer token p (Refused k Digit) h = digit-answer token p k h
-holds-answer token p (Refused k Doubled) h = repeat-answer token p k h
+holds-answer token p (Err (k, Misspelt)) h = misspelt-answer token p k h
+holds-answer token p (Err (k, Primed)) h = rw h.0 (primed-answer token p h.1.0 h.1.1)
+holds-answer token p (Err (k, Unsettled)) h = rw h.0 (unsettled-answer token p h.1.0 h.1.1 h.1.2)
+holds-answer token p (Err (k, Digit)) h = digit-answer token p k h
+holds-answer token p (Err (k, Doubled)) h = repeat-answer token p k h
 
 -- ---- the two are one
 
 -- The reader gives an answer exactly if it holds of the token and what stands to its left.
-pub answers-exact : (token : List ℕ) (p : Previous) (r : ParsedOperation) → (operation_token token p ≡ r) ↔ Answers token p r
+pub answers-exact : (token : List ℕ) (p : Previous) (r : Result (Operation × Fold × Axis) (ℕ × Refusal)) → (operation_token token p ≡ r) ↔ Answers token p r
 answers-exact token p r = (λ e. subst (Answers token p) e (answer-holds token p), holds-answer token p r)
 
 -- Of any token one answer holds, and no other.
-pub one_answer : (token : List ℕ) (p : Previous) → (r : ParsedOperation) × Answers token p r
+pub one_answer : (token : List ℕ) (p : Previous) → (r : Result (Operation × Fold × Axis) (ℕ × Refusal)) × Answers token p r
 one_answer token p = (operation_token token p, answer-holds token p)
 
-pub no-other-answer : (token : List ℕ) (p : Previous) (r s : ParsedOperation) → Answers token p r → Answers token p s → r ≡ s
+pub no-other-answer : (token : List ℕ) (p : Previous) (r s : Result (Operation × Fold × Axis) (ℕ × Refusal)) → Answers token p r → Answers token p s → r ≡ s
 no-other-answer token p r s h k = sym (holds-answer token p r h) ∙ holds-answer token p s k
 
 -- ---- by number
 
 -- An answer is a refusal with this number at this offset in the token.
-abbrev pub Tells : ParsedOperation → ℕ → ℕ → Type 0
-Tells answer n k = (r : Refusal) × (answer ≡ Refused k r) × (number_of r ≡ n)
+abbrev pub Tells : Result (Operation × Fold × Axis) (ℕ × Refusal) → ℕ → ℕ → Type 0
+Tells answer n k = (r : Refusal) × (answer ≡ Err (k, r)) × (number_of r ≡ n)
 
 module _ (token : List ℕ) (p : Previous) (k : ℕ) where
   tells-exactly : (r : Refusal) → Tells (operation_token token p) (number_of r) k ↔ Refuses token p k r
   tells-exactly r = (
-    (λ (s, e, n). (answers-exact token p (Refused k r)).0 (e ∙ ap (Refused k) (number-once s r n))),
-    λ h. (r, (answers-exact token p (Refused k r)).1 h, refl),
+    (λ (s, e, n). (answers-exact token p (Err (k, r))).0 (e ∙ ap ((λ y. Err (k, y))) (number-once s r n))),
+    λ h. (r, (answers-exact token p (Err (k, r))).1 h, refl),
   )
 
   pub five-exactly : Tells (operation_token token p) 5 k ↔ FirstOffending Spelling token k
@@ -582,10 +583,10 @@ refused-within token p k Doubled (s, u, t, d, i, w, (front, split, place)) =
     omega (arith, w.place)
 
 -- An accepted token has each letter at most once.
-pub once-each : (token : List ℕ) (p : Previous) (o : operation.Operation) (f : Fold) (a : Axis) → operation_token token p ≡ Operation o f a
+pub once-each : (token : List ℕ) (p : Previous) (o : operation.Operation) (f : Fold) (a : Axis) → operation_token token p ≡ Ok (o, f, a)
     → (s : Spelling token) × ((before : List ℕ) (b : ℕ) (after : List ℕ) → s.run ≡ before ++ (b ∷ after) → Mem b letters → ¬ (Mem b before))
 once-each token p o f a e =
-    let h = (answers-exact token p (Operation o f a)).0 e in (
+    let h = (answers-exact token p (Ok (o, f, a))).0 e in (
       h.spelling,
       λ before b after split letter again. h.once
           (record { before = before; byte = b; after = after; split = split; letter = letter; again = again }),
@@ -594,15 +595,15 @@ once-each token p o f a e =
 -- 5 is told of the token's end exactly if the fold is missing there.
 pub missing-exactly : (token : List ℕ) (p : Previous) → Tells (operation_token token p) 5 (length token) ↔ FoldMissing token
 unfolding operation_token operation_of_parts read_token read_fold
-missing-exactly token p = ((λ (r, e, n). go (read_token token) refl (e ∙ ap (Refused (length token)) (number-once r Misspelt n))), back)
+missing-exactly token p = ((λ (r, e, n). go (read_token token) refl (e ∙ ap ((λ y. Err ((length token), y))) (number-once r Misspelt n))), back)
   where
-    go : (q : Parts) → read_token token ≡ q → operation_token token p ≡ Refused (length token) Misspelt → FoldMissing token
+    go : (q : Parts) → read_token token ≡ q → operation_token token p ≡ Err ((length token), Misspelt) → FoldMissing token
     go (parts n f m l run) h e =
-        let w = (answers-exact token p (Refused (length token) Misspelt)).0 e in
+        let w = (answers-exact token p (Err ((length token), Misspelt))).0 e in
         absurd (offending-misspelt Spelling token (length token) w
         (record { negative = n; fold = f; mark = m; letter = l; run = run; spells = (read-exact token n f m l run).0 h }))
     go (no-parts k) h e =
-        let w = (answers-exact token p (Refused (length token) Misspelt)).0 e in
+        let w = (answers-exact token p (Err ((length token), Misspelt))).0 e in
         missing-end token k h (first-unique Spelling token k (length token) (offending token k h) w)
 
     back : FoldMissing token → Tells (operation_token token p) 5 (length token)
@@ -618,10 +619,10 @@ pub record Reduced (o : operation.Operation) : Type 0 where
   pub y : o.translation.y < 12
   pub z : o.translation.z < 12
 
-pub read-reduced : (token : List ℕ) (p : Previous) (o : operation.Operation) (f : Fold) (a : Axis) → operation_token token p ≡ Operation o f a → Reduced o
+pub read-reduced : (token : List ℕ) (p : Previous) (o : operation.Operation) (f : Fold) (a : Axis) → operation_token token p ≡ Ok (o, f, a) → Reduced o
 unfolding translation_of
 read-reduced token p o f a e =
-    let h = (answers-exact token p (Operation o f a)).0 e in
+    let h = (answers-exact token p (Ok (o, f, a))).0 e in
     let t = h.turning in
     rw h.is-operation
     (record {

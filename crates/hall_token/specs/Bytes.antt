@@ -1,17 +1,15 @@
 -- The bytes of an N token, as R1.5 lists them: folds, marks, axis letters, and what may stand in the run after them.
-use Rattle.std.specs.Prelude.{◌≡◌, refl, Bool, true, false, cond, ◌&&◌, List, [], ◌∷◌, ℕ, eqb}
+use Rattle.std.specs.Prelude.{◌≡◌, refl, Bool, true, false, cond, ◌&&◌, List, [], ◌∷◌, ℕ, eqb, Option, Some, None}
 use Rattle.std.proofs.Math.Bool.{and-eq-true_iff}
-use Rattle.std.proofs.Common.{eqb-true}
+use Rattle.std.proofs.Common.{sym, ◌∙◌, true≢false, eqb-true, eq-eqb, ne_eqb}
+use Rattle.hall_axes.specs.declared.Fold.{Fold}
 use Rattle.hall_axes.specs.declared.Fold.TheVariants.{One, Two, Three, Four, Six}
-use Rattle.hall_token.specs.declared.FoldByte.{FoldByte}
-use Rattle.hall_token.specs.declared.FoldByte.TheVariants.{Is, Other}
 use Rattle.hall_axes.specs.declared.Mark.{Mark}
-use Rattle.hall_axes.specs.declared.Mark.TheVariants.{None, Single, Double}
+use Rattle.hall_axes.specs.declared.Mark.TheVariants.{Unmarked, Single, Double}
 use Rattle.hall_axes.specs.declared.Direction.TheVariants.{X, Y, Z, Diagonal}
-use Rattle.hall_axes.specs.declared.AxisLetter.{AxisLetter}
-use Rattle.hall_axes.specs.declared.AxisLetter.TheVariants.{Along, Absent}
 use Rattle.hall_token.specs.declared.RunByte.{RunByte}
 use Rattle.hall_token.specs.declared.RunByte.TheVariants.{Screw, Letter, Prime, Foreign}
+use Rattle.hall_axes.specs.declared.Direction.{Direction}
 
 -- A byte and what it says.
 pub record Entry (A : Type 0) : Type 0 where
@@ -27,16 +25,16 @@ unfoldable pub value_at : {A : Type 0} → A → List (Entry A) → ℕ → A
 value_at other [] b = other
 value_at other (e ∷ es) b = cond (eqb b e.byte) e.says (value_at other es b)
 
-abbrev pub folds : List (Entry FoldByte)
-folds = 49 says Is One ∷ 50 says Is Two ∷ 51 says Is Three ∷ 52 says Is Four ∷ 54 says Is Six ∷ []
+abbrev pub folds : List (Entry (Option Fold))
+folds = 49 says Some One ∷ 50 says Some Two ∷ 51 says Some Three ∷ 52 says Some Four ∷ 54 says Some Six ∷ []
 
 -- `^` and `=`
 abbrev pub marks : List (Entry Mark)
 marks = 94 says Single ∷ 61 says Double ∷ []
 
 -- x y z `*`
-abbrev pub axis_letters : List (Entry AxisLetter)
-axis_letters = 120 says Along X ∷ 121 says Along Y ∷ 122 says Along Z ∷ 42 says Along Diagonal ∷ []
+abbrev pub axis_letters : List (Entry (Option Direction))
+axis_letters = 120 says Some X ∷ 121 says Some Y ∷ 122 says Some Z ∷ 42 says Some Diagonal ∷ []
 
 abbrev pub twelfths : ℕ → ℕ → ℕ → RunByte
 twelfths a b c = Letter (record { x = a; y = b; z = c })
@@ -49,14 +47,14 @@ run_bytes =
     ∷ 117 says twelfths 3 0 0 ∷ 118 says twelfths 0 3 0 ∷ 119 says twelfths 0 0 3 ∷ 100 says twelfths 3 3 3
     ∷ 39 says Prime ∷ []
 
-unfoldable pub fold_of : ℕ → FoldByte
-fold_of b = value_at Other folds b
+unfoldable pub fold_of : ℕ → Option Fold
+fold_of b = value_at Option.None folds b
 
 unfoldable pub mark_of : ℕ → Mark
-mark_of b = value_at None marks b
+mark_of b = value_at Unmarked marks b
 
-unfoldable pub letter_of : ℕ → AxisLetter
-letter_of b = value_at Absent axis_letters b
+unfoldable pub letter_of : ℕ → Option Direction
+letter_of b = value_at None axis_letters b
 
 unfoldable pub run_byte_of : ℕ → RunByte
 run_byte_of b = value_at Foreign run_bytes b
@@ -79,3 +77,11 @@ value_at-passes test other (e ∷ es) o p b = go (eqb b e.byte) refl (value_at-p
     go : (t : Bool) → eqb b e.byte ≡ t → test b (value_at other es b) ≡ true → test b (cond (eqb b e.byte) e.says (value_at other es b)) ≡ true
     go true h below = rw h (rw (eqb-true b e.byte h) ((and-eq-true_iff (test e.byte e.says) (passes test es)).0 p).0)
     go false h below = rw h below
+
+-- Which of two bytes is tested against the other says nothing.
+pub eqb-flipped : (a b : ℕ) → eqb a b ≡ eqb b a
+eqb-flipped a b = go (eqb a b) refl
+  where
+    go : (t : Bool) → eqb a b ≡ t → eqb a b ≡ eqb b a
+    go true e = e ∙ sym (eq-eqb b a (sym (eqb-true a b e)))
+    go false e = e ∙ sym (ne_eqb b a (λ h. true≢false (sym (eq-eqb a b (sym h)) ∙ e)))

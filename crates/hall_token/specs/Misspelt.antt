@@ -1,27 +1,24 @@
 -- Where a misspelt token goes wrong. The reader's offset is that of the first byte that no N token has after the bytes before it, or the token's length
 -- where the fold is missing: each stage of the reader fails at one byte, reads on if that one is left out, and fails there whatever follows.
-use Rattle.std.specs.Prelude.{◌≡◌, refl, Bool, true, false, cond, List, [], ◌∷◌, ◌++◌, ◌⊎◌, ℕ, zero, suc, ◌+◌, ◌<◌, eqb, length, take}
+use Rattle.std.specs.Prelude.{◌≡◌, refl, Bool, true, false, cond, List, [], ◌∷◌, ◌++◌, ◌⊎◌, ℕ, zero, suc, ◌+◌, ◌<◌, eqb, length, take, Option, Some, None}
 use Rattle.std.proofs.Common.{sym, ◌∙◌, ap, subst, inl, inr, arith, eqb-true}
 use Rattle.hall_axes.specs.declared.Fold.{Fold}
-use Rattle.hall_token.specs.declared.FoldByte.{FoldByte}
-use Rattle.hall_token.specs.declared.FoldByte.TheVariants.{Is, Other}
 use Rattle.hall_axes.specs.declared.Mark.{Mark}
-use Rattle.hall_axes.specs.declared.Mark.TheVariants.{None, Single, Double}
-use Rattle.hall_axes.specs.declared.AxisLetter.{AxisLetter}
-use Rattle.hall_axes.specs.declared.AxisLetter.TheVariants.{Along, Absent}
+use Rattle.hall_axes.specs.declared.Mark.TheVariants.{Unmarked, Single, Double}
 use Rattle.hall_token.specs.Bytes.{fold_of, mark_of, letter_of, value_at}
 use Rattle.hall_token.specs.Runs.{every, may_stand}
 use Rattle.hall_token.specs.Offsets.{sign_length, mark_length, run_start, passing, passing-short, passing-good, passing-stays}
 use Rattle.hall_token.specs.Reader.{Parts, parts, no-parts, read_run, letter_then, read_letter, mark_then, read_mark, fold_then, read_fold, read_token}
 use Rattle.hall_token.specs.Spelling.{Spells, read-exact}
 use Rattle.laws.specs.Prefixes.{FirstOffending}
+use Rattle.hall_axes.specs.declared.Direction.{Direction}
 
 -- The parts that a token spells.
 pub record Spelling (token : List ℕ) : Type 0 where
   pub negative : Bool
   pub fold : Fold
   pub mark : Mark
-  pub letter : AxisLetter
+  pub letter : Option Direction
   pub run : List ℕ
   pub spells : Spells token negative fold mark letter run
 
@@ -30,7 +27,7 @@ abbrev IsParts : Parts → Type 0
 IsParts (parts n f m l run) = Unit {0}
 IsParts (no-parts k) = ⊥
 
-parts-not : (n : Bool) (f : Fold) (m : Mark) (l : AxisLetter) (run : List ℕ) (k : ℕ) → parts n f m l run ≡ no-parts k → ⊥
+parts-not : (n : Bool) (f : Fold) (m : Mark) (l : Option Direction) (run : List ℕ) (k : ℕ) → parts n f m l run ≡ no-parts k → ⊥
 parts-not n f m l run k e = subst IsParts e tt
 
 same-offset : (j k : ℕ) → no-parts j ≡ no-parts k → j ≡ k
@@ -87,7 +84,7 @@ handed outer inner start b bs k same fresh alone h = go h.at refl
           stays = stays;
         }
 
-run-fault : (n : Bool) (f : Fold) (m : Mark) (l : AxisLetter) (run : List ℕ) (k : ℕ) → read_run n f m l run ≡ no-parts k
+run-fault : (n : Bool) (f : Fold) (m : Mark) (l : Option Direction) (run : List ℕ) (k : ℕ) → read_run n f m l run ≡ no-parts k
     → Fault (read_run n f m l) (run_start n m l) run k
 unfolding read_run
 run-fault n f m l run k e = go (every may_stand run) refl e
@@ -108,27 +105,27 @@ run-fault n f m l run k e = go (every may_stand run) refl e
 letter-fault : (n : Bool) (f : Fold) (m : Mark) (left : List ℕ) (k : ℕ) → read_letter n f m left ≡ no-parts k
     → Fault (read_letter n f m) (sign_length n + 1 + mark_length m) left k
 unfolding read_letter letter_then read_run every
-letter-fault n f m [] k e = absurd (parts-not n f m Absent [] k e)
+letter-fault n f m [] k e = absurd (parts-not n f m None [] k e)
 letter-fault n f m (b ∷ bs) k e = go (letter_of b) refl
   where
-    own : (l : AxisLetter) → letter_of b ≡ l → letter_then n f m l b bs ≡ no-parts k
-    own l h = ap (λ (x : AxisLetter). letter_then n f m x b bs) (sym h) ∙ e
+    own : (l : Option Direction) → letter_of b ≡ l → letter_then n f m l b bs ≡ no-parts k
+    own l h = ap (λ (x : Option Direction). letter_then n f m x b bs) (sym h) ∙ e
 
-    same : (l : AxisLetter) → letter_of b ≡ l → (w : List ℕ) → read_letter n f m (b ∷ w) ≡ letter_then n f m l b w
-    same l h w = ap (λ (x : AxisLetter). letter_then n f m x b w) h
+    same : (l : Option Direction) → letter_of b ≡ l → (w : List ℕ) → read_letter n f m (b ∷ w) ≡ letter_then n f m l b w
+    same l h w = ap (λ (x : Option Direction). letter_then n f m x b w) h
 
-    go : (l : AxisLetter) → letter_of b ≡ l → Fault (read_letter n f m) (sign_length n + 1 + mark_length m) (b ∷ bs) k
-    go (Along d) h =
-        taken (read_letter n f m) (read_run n f m (Along d)) (sign_length n + 1 + mark_length m) b bs k (same (Along d) h) (run-fault n f m (Along d) bs k
-        (own (Along d) h))
-    go Absent h =
+    go : (l : Option Direction) → letter_of b ≡ l → Fault (read_letter n f m) (sign_length n + 1 + mark_length m) (b ∷ bs) k
+    go (Some d) h =
+        taken (read_letter n f m) (read_run n f m (Some d)) (sign_length n + 1 + mark_length m) b bs k (same (Some d) h) (run-fault n f m (Some d) bs k
+        (own (Some d) h))
+    go None h =
         let s : sign_length n + 1 + mark_length m + 0 ≡ sign_length n + 1 + mark_length m = omega arith in
-        handed (read_letter n f m) (read_run n f m Absent) (sign_length n + 1 + mark_length m) b bs k (same Absent h) [] tt
-        (subst (λ (o : ℕ). Fault (read_run n f m Absent) o (b ∷ bs) k) s (run-fault n f m Absent (b ∷ bs) k (own Absent h)))
+        handed (read_letter n f m) (read_run n f m None) (sign_length n + 1 + mark_length m) b bs k (same None h) [] tt
+        (subst (λ (o : ℕ). Fault (read_run n f m None) o (b ∷ bs) k) s (run-fault n f m None (b ∷ bs) k (own None h)))
 
 mark-fault : (n : Bool) (f : Fold) (left : List ℕ) (k : ℕ) → read_mark n f left ≡ no-parts k → Fault (read_mark n f) (sign_length n + 1) left k
 unfolding read_mark mark_then read_letter read_run every
-mark-fault n f [] k e = absurd (parts-not n f None Absent [] k e)
+mark-fault n f [] k e = absurd (parts-not n f Unmarked None [] k e)
 mark-fault n f (b ∷ bs) k e = go (mark_of b) refl
   where
     own : (m : Mark) → mark_of b ≡ m → mark_then n f m b bs ≡ no-parts k
@@ -138,10 +135,10 @@ mark-fault n f (b ∷ bs) k e = go (mark_of b) refl
     same m h w = ap (λ (x : Mark). mark_then n f x b w) h
 
     go : (m : Mark) → mark_of b ≡ m → Fault (read_mark n f) (sign_length n + 1) (b ∷ bs) k
-    go None h =
+    go Unmarked h =
         let s : sign_length n + 1 + 0 ≡ sign_length n + 1 = omega arith in
-        handed (read_mark n f) (read_letter n f None) (sign_length n + 1) b bs k (same None h) [] tt
-        (subst (λ (o : ℕ). Fault (read_letter n f None) o (b ∷ bs) k) s (letter-fault n f None (b ∷ bs) k (own None h)))
+        handed (read_mark n f) (read_letter n f Unmarked) (sign_length n + 1) b bs k (same Unmarked h) [] tt
+        (subst (λ (o : ℕ). Fault (read_letter n f Unmarked) o (b ∷ bs) k) s (letter-fault n f Unmarked (b ∷ bs) k (own Unmarked h)))
     go Single h = taken (read_mark n f) (read_letter n f Single) (sign_length n + 1) b bs k (same Single h) (letter-fault n f Single bs k (own Single h))
     go Double h = taken (read_mark n f) (read_letter n f Double) (sign_length n + 1) b bs k (same Double h) (letter-fault n f Double bs k (own Double h))
 
@@ -157,22 +154,22 @@ unfolding read_fold fold_then
 fold-fault n [] k e = inr (refl, sym (same-offset (sign_length n) k e))
 fold-fault n (b ∷ bs) k e = inl (go (fold_of b) refl)
   where
-    own : (v : FoldByte) → fold_of b ≡ v → fold_then n v bs ≡ no-parts k
-    own v h = ap (λ (x : FoldByte). fold_then n x bs) (sym h) ∙ e
+    own : (v : Option Fold) → fold_of b ≡ v → fold_then n v bs ≡ no-parts k
+    own v h = ap (λ (x : Option Fold). fold_then n x bs) (sym h) ∙ e
 
-    same : (v : FoldByte) → fold_of b ≡ v → (w : List ℕ) → read_fold n (b ∷ w) ≡ fold_then n v w
-    same v h w = ap (λ (x : FoldByte). fold_then n x w) h
+    same : (v : Option Fold) → fold_of b ≡ v → (w : List ℕ) → read_fold n (b ∷ w) ≡ fold_then n v w
+    same v h w = ap (λ (x : Option Fold). fold_then n x w) h
 
-    go : (v : FoldByte) → fold_of b ≡ v → Fault (read_fold n) (sign_length n) (b ∷ bs) k
-    go (Is f) h = taken (read_fold n) (read_mark n f) (sign_length n) b bs k (same (Is f) h) (mark-fault n f bs k (own (Is f) h))
-    go Other h =
+    go : (v : Option Fold) → fold_of b ≡ v → Fault (read_fold n) (sign_length n) (b ∷ bs) k
+    go (Some f) h = taken (read_fold n) (read_mark n f) (sign_length n) b bs k (same (Some f) h) (mark-fault n f bs k (own (Some f) h))
+    go Option.None h =
         record {
           at = 0;
-          offset = omega (arith, same-offset (sign_length n) k (own Other h));
+          offset = omega (arith, same-offset (sign_length n) k (own Option.None h));
           within = omega arith;
           behind = 49 ∷ [];
           good = fold-alone n;
-          stays = λ w. same Other h w ∙ own Other h;
+          stays = λ w. same Option.None h w ∙ own Option.None h;
         }
 
 -- The token is empty, or `-` alone.

@@ -1,25 +1,22 @@
 -- Offsets in an N token: where its run starts, and the first byte of the run that offends.
-use Rattle.std.specs.Prelude.{◌≡◌, refl, Bool, true, false, cond, ◌&&◌, ℕ, suc, ◌+◌, ◌<◌, ◌≤◌, length, get_or, take, drop}
-use Rattle.std.proofs.Common.{sym, ◌∙◌, true≢false, arith, add-one, drop-cons}
+use Rattle.std.specs.Prelude.{◌≡◌, refl, Bool, true, false, cond, ◌&&◌, ℕ, suc, ◌+◌, ◌<◌, ◌≤◌, length, get_or, take, drop, not, ltb, Option, Some, None}
+use Rattle.std.specs.List.{position_or_len}
+use Rattle.std.proofs.Math.Bool.{and-eq-true_iff}
+use Rattle.std.proofs.Common.{sym, ◌∙◌, true≢false, arith, add-one, drop-cons, ltb-true, ltb-false}
 use Rattle.std.proofs.Math.Path.{ap}
 use mathlib.Core.List.{List, [], ◌∷◌, ◌++◌}
 use Rattle.std.proofs.Math.Seq.{drop-length}
 use Rattle.hall_axes.specs.declared.Fold.{Fold}
 use Rattle.hall_axes.specs.declared.Mark.{Mark}
-use Rattle.hall_axes.specs.declared.Mark.TheVariants.{None, Single, Double}
+use Rattle.hall_axes.specs.declared.Mark.TheVariants.{Unmarked, Single, Double}
 use Rattle.hall_axes.specs.declared.Axis.{Axis}
-use Rattle.hall_axes.specs.declared.AxisLetter.{AxisLetter}
-use Rattle.hall_axes.specs.declared.AxisLetter.TheVariants.{Along, Absent}
 use Rattle.operation.specs.declared.Translation.{Translation}
-use Rattle.hall_token.specs.declared.Moved.{Moved}
-use Rattle.hall_token.specs.declared.Moved.TheVariants.{By, WrongDigit}
 use Rattle.hall_token.specs.declared.RunByte.{RunByte}
-use Rattle.hall_token.specs.declared.RunClass.{RunClass}
-use Rattle.hall_token.specs.declared.RunClass.TheVariants.{Alphabet, NoDigit}
 use Rattle.hall_token.specs.Bytes.{run_byte_of}
-use Rattle.hall_token.specs.Runs.{every, may_stand, no_screw}
-use Rattle.hall_token.specs.Front.{rest, front, nothing}
+use Rattle.hall_token.specs.Runs.{every, no_screw}
+use Rattle.hall_token.specs.Front.{rest, front, nothing, found_place}
 use Rattle.hall_token.specs.Translations.{front_right, digits_right, translation_of, moved_by}
+use Rattle.hall_axes.specs.declared.Direction.{Direction}
 
 -- ---- where the run starts
 abbrev pub sign_length : Bool → ℕ
@@ -27,27 +24,27 @@ sign_length true = 1
 sign_length false = 0
 
 abbrev pub mark_length : Mark → ℕ
-mark_length None = 0
+mark_length Unmarked = 0
 mark_length Single = 1
 mark_length Double = 1
 
-abbrev pub letter_length : AxisLetter → ℕ
-letter_length (Along d) = 1
-letter_length Absent = 0
+abbrev pub letter_length : Option Direction → ℕ
+letter_length (Some d) = 1
+letter_length None = 0
 
 -- Behind the sign, the fold, the mark and the letter.
-abbrev pub run_start : Bool → Mark → AxisLetter → ℕ
+abbrev pub run_start : Bool → Mark → Option Direction → ℕ
 run_start n m l = sign_length n + 1 + mark_length m + letter_length l
 
 -- ---- the first byte that offends
-abbrev pub of_class : RunClass → RunByte → Bool
-of_class Alphabet = may_stand
-of_class NoDigit = no_screw
-
 -- How many bytes at a run's front pass a test.
 unfoldable pub passing : (RunByte → Bool) → List ℕ → ℕ
 passing p [] = 0
 passing p (b ∷ bs) = cond (p (run_byte_of b)) (suc (passing p bs)) 0
+
+-- The place of the first byte that does not, if there is one.
+abbrev pub failing_place : (RunByte → Bool) → List ℕ → Option ℕ
+failing_place p run = found_place (passing p run) (length run)
 
 -- The first digit that breaks the rule: the front byte, or else the first digit behind it.
 unfoldable pub wrong_digit_at : Fold → Axis → List ℕ → ℕ
@@ -77,6 +74,15 @@ passing-within p (b ∷ bs) = go (p (run_byte_of b)) (passing-within p bs)
     go : (t : Bool) → passing p bs ≤ length bs → cond t (suc (passing p bs)) 0 ≤ suc (length bs)
     go true h = omega arith
     go false h = omega arith
+
+-- A run that passes as a whole is passed to its end.
+passing_whole : (p : RunByte → Bool) (run : List ℕ) → every p run ≡ true → length run ≤ passing p run
+unfolding passing every
+passing_whole p [] e = omega arith
+passing_whole p (b ∷ bs) e =
+    let (here, below) = (and-eq-true_iff (p (run_byte_of b)) (every p bs)).0 e in
+    let more = passing_whole p bs below in
+    rw here (omega arith)
 
 -- A run that does not pass as a whole has a byte that does not.
 pub passing-short : (p : RunByte → Bool) (run : List ℕ) → every p run ≡ false → passing p run < length run
@@ -115,6 +121,40 @@ passing-stays p (b ∷ bs) w e = go (p (run_byte_of b)) refl (passing-stays p bs
         let s = below (sym (ap (λ (x : Bool). x && every p bs) h) ∙ e) in
         (rw (h, s.0), rw (h, s.1))
     go false h below = (rw h, rw h)
+
+-- The library's search for a byte that does not pass finds that place.
+pub found-failing : (p : RunByte → Bool) (run : List ℕ) → found_place (position_or_len (λ b. not (p (run_byte_of b))) run) (length run) ≡ failing_place p run
+unfolding passing
+found-failing p run = ap (λ (k : ℕ). found_place k (length run)) (same run)
+  where
+    by-test : (t : Bool) (k n : ℕ) → k ≡ n → cond (not (not t)) (1 + k) 0 ≡ cond t (suc n) 0
+    by-test true k n e = omega arith
+    by-test false k n e = refl
+
+    same : (l : List ℕ) → position_or_len (λ b. not (p (run_byte_of b))) l ≡ passing p l
+    same [] = refl
+    same (b ∷ bs) = by-test (p (run_byte_of b)) _ _ (same bs)
+
+-- A run is passed to its end exactly if it passes as a whole.
+pub every-short : (p : RunByte → Bool) (run : List ℕ) → ltb (passing p run) (length run) ≡ true → every p run ≡ false
+every-short p run h = go (every p run) refl
+  where
+    go : (t : Bool) → every p run ≡ t → every p run ≡ false
+    go true e =
+        let whole = passing_whole p run e in
+        let short = ltb-true (passing p run) (length run) h in
+        absurd (omega arith)
+    go false e = e
+
+pub every-whole : (p : RunByte → Bool) (run : List ℕ) → ltb (passing p run) (length run) ≡ false → every p run ≡ true
+every-whole p run h = go (every p run) refl
+  where
+    go : (t : Bool) → every p run ≡ t → every p run ≡ true
+    go true e = e
+    go false e =
+        let short = passing-short p run e in
+        let whole = ltb-false (passing p run) (length run) h in
+        absurd (omega arith)
 
 -- The byte that stops it.
 pub record FirstFails (p : RunByte → Bool) (run : List ℕ) : Type 0 where
@@ -169,11 +209,11 @@ unfolding wrong_digit_at
 wrong-nothing f a run h = ap (wrong_digit_at f a) (nothing run h)
 
 -- ---- found from the answer to the front byte alone
-module _ (f : Fold) (a : Axis) (run : List ℕ) (v : Moved) (some : length run ≡ 0 → ⊥) (alone : v ≡ moved_by f a (take 1 run)) where
+module _ (f : Fold) (a : Axis) (run : List ℕ) (v : Option Translation) (some : length run ≡ 0 → ⊥) (alone : v ≡ moved_by f a (take 1 run)) where
   byte : ℕ
   byte = get_or run 0 0
 
-  front-alone : v ≡ cond (front_right f a (run_byte_of byte) && true) (By (translation_of f (byte ∷ []))) WrongDigit
+  front-alone : v ≡ cond (front_right f a (run_byte_of byte) && true) (Some (translation_of f (byte ∷ []))) Option.None
   unfolding byte moved_by digits_right every
   front-alone = alone ∙ ap (λ (l : List ℕ). moved_by f a (take 1 l)) (front run some)
 
@@ -181,23 +221,23 @@ module _ (f : Fold) (a : Axis) (run : List ℕ) (v : Moved) (some : length run �
   unfolding byte wrong_digit_at
   front_at = ap (wrong_digit_at f a) (front run some)
 
-  pub alone-wrong : v ≡ WrongDigit → wrong_digit_at f a run ≡ 0
+  pub alone-wrong : v ≡ Option.None → wrong_digit_at f a run ≡ 0
   alone-wrong e = front_at ∙ go (front_right f a (run_byte_of byte)) (sym front-alone ∙ e)
     where
-      go : (t : Bool) → cond (t && true) (By (translation_of f (byte ∷ []))) WrongDigit ≡ WrongDigit → cond t (1 + passing no_screw (rest run)) 0 ≡ 0
+      go : (t : Bool) → cond (t && true) (Some (translation_of f (byte ∷ []))) Option.None ≡ Option.None → cond t (1 + passing no_screw (rest run)) 0 ≡ 0
       go true h = let z : ◌≡◌ {A = ℕ} 0 1 = cc in absurd (omega arith)
       go false h = refl
 
-  pub alone-right : (t : Translation) → v ≡ By t → wrong_digit_at f a run ≡ 1 + passing no_screw (rest run)
+  pub alone-right : (t : Translation) → v ≡ Some t → wrong_digit_at f a run ≡ 1 + passing no_screw (rest run)
   alone-right t e = front_at ∙ go (front_right f a (run_byte_of byte)) (sym front-alone ∙ e)
     where
-      go : (u : Bool) → cond (u && true) (By (translation_of f (byte ∷ []))) WrongDigit ≡ By t
+      go : (u : Bool) → cond (u && true) (Some (translation_of f (byte ∷ []))) Option.None ≡ Some t
           → cond u (1 + passing no_screw (rest run)) 0 ≡ 1 + passing no_screw (rest run)
       go true h = refl
       go false h = let z : ◌≡◌ {A = ℕ} 0 1 = cc in absurd (omega arith)
 
 -- ---- how long the parts are
-pub start-few : (n : Bool) (m : Mark) (l : AxisLetter) → (sign_length n ≤ 1) × (mark_length m ≤ 1) × (letter_length l ≤ 1)
+pub start-few : (n : Bool) (m : Mark) (l : Option Direction) → (sign_length n ≤ 1) × (mark_length m ≤ 1) × (letter_length l ≤ 1)
 start-few n m l = (sign n, mark m, letter l)
   where
     sign : (n : Bool) → sign_length n ≤ 1
@@ -205,10 +245,10 @@ start-few n m l = (sign n, mark m, letter l)
     sign false = omega arith
 
     mark : (m : Mark) → mark_length m ≤ 1
-    mark None = omega arith
+    mark Unmarked = omega arith
     mark Single = omega arith
     mark Double = omega arith
 
-    letter : (l : AxisLetter) → letter_length l ≤ 1
-    letter (Along d) = omega arith
-    letter Absent = omega arith
+    letter : (l : Option Direction) → letter_length l ≤ 1
+    letter (Some d) = omega arith
+    letter None = omega arith

@@ -1,5 +1,6 @@
 -- The letters of a run, of which each may stand there once: where a letter first repeats an earlier one.
-use Rattle.std.specs.Prelude.{◌≡◌, refl, Bool, true, false, cond, ◌&&◌, ℕ, suc, ◌+◌, ◌<◌, ◌≤◌, eqb, length, get_or, take, drop}
+use Rattle.std.specs.Prelude.{◌≡◌, refl, Bool, true, false, cond, ◌&&◌, ◌||◌, ℕ, suc, ◌+◌, ◌<◌, ◌≤◌, eqb, length, get_or, take, drop, Option}
+use Rattle.std.specs.List.{list_any}
 use Rattle.std.proofs.Common.{sym, ◌∙◌, ap, ⊎_elim, arith, add-one, eqb-true, eq-eqb, ne_eqb, length-append, drop-cons, take-suc}
 use Rattle.std.proofs.lemmas.Bool.{false≢true}
 use Rattle.std.proofs.Math.Bool.{and-eq-true_iff}
@@ -11,7 +12,8 @@ use mathlib.Core.List.{List, [], ◌∷◌, ◌++◌, append_assoc, Memᴰ as Me
 use Rattle.std.proofs.Math.Seq.{drop-length, take-append_seam, drop-append_seam}
 use Rattle.hall_token.specs.declared.RunByte.{RunByte}
 use Rattle.hall_token.specs.declared.RunByte.TheVariants.{Screw, Letter, Prime, Foreign}
-use Rattle.hall_token.specs.Bytes.{run_bytes, run_byte_of, value_at, passes, value_at-passes}
+use Rattle.hall_token.specs.Bytes.{run_bytes, run_byte_of, value_at, passes, value_at-passes, eqb-flipped}
+use Rattle.hall_token.specs.Front.{found_place}
 
 -- a b c n u v w d
 abbrev pub letters : List ℕ
@@ -54,6 +56,20 @@ repeat_from before (b ∷ bs) = cond (repeats b before) 0 (suc (repeat_from (bef
 
 abbrev pub repeat_at : List ℕ → ℕ
 repeat_at run = repeat_from [] run
+
+-- Where it does, if it does.
+abbrev pub repeat_place : List ℕ → Option ℕ
+repeat_place run = found_place (repeat_at run) (length run)
+
+-- What the library's search finds among bytes.
+pub contains-occurs : (b : ℕ) (l : List ℕ) → list_any (λ c. eqb c b) l ≡ occurs b l
+unfolding occurs
+contains-occurs b [] = refl
+contains-occurs b (c ∷ cs) = rw (eqb-flipped c b, contains-occurs b cs) (or-cond (eqb b c) (occurs b cs))
+  where
+    or-cond : (t u : Bool) → (t || u) ≡ cond t true u
+    or-cond true u = refl
+    or-cond false u = refl
 
 -- ---- a run passed byte by byte
 pub occurs-end : (b : ℕ) (l : List ℕ) → occurs b (drop (length l) l) ≡ false

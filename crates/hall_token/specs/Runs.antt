@@ -1,6 +1,7 @@
 -- The run of an N token, byte by byte: which bytes may stand there, which is the prime, which are digits.
-use Rattle.std.specs.Prelude.{◌≡◌, refl, Bool, true, false, cond, not, ◌&&◌, ℕ, ◌+◌, ◌<◌, length, get_or, drop, eqb}
-use Rattle.std.proofs.Common.{sym, ◌∙◌, ap, true≢false, ⊎_elim, add-one, eqb-true, drop-cons}
+use Rattle.std.specs.Prelude.{◌≡◌, refl, Bool, true, false, cond, not, ◌&&◌, ◌||◌, ℕ, ◌+◌, ◌<◌, length, get_or, drop, eqb}
+use Rattle.std.specs.List.{list_any}
+use Rattle.std.proofs.Common.{sym, ◌∙◌, ap, true≢false, ⊎_elim, add-one, eqb-true, eq-eqb, drop-cons}
 use Rattle.std.proofs.Math.Bool.{and-eq-true_iff}
 use mathlib.Core.List.Memᴰ.{cases_cons as member-cases}
 use mathlib.Core.List.Memᴰ.{head as here}
@@ -120,3 +121,14 @@ test-fails p b v t w e n = sym (e ∙ ap p w) ∙ not-true t n
 
 pub test-passes : (p : RunByte → Bool) (b : ℕ) (v : RunByte) (t : Bool) → v ≡ run_byte_of b → t ≡ p v → not t ≡ false → p (run_byte_of b) ≡ true
 test-passes p b v t w e n = sym (e ∙ ap p w) ∙ not-false t n
+
+-- No prime stands in a run where the library finds no byte 39.
+pub none-primed : (run : List ℕ) → not (list_any (λ b. eqb b 39) run) ≡ every no_prime run
+unfolding every
+none-primed [] = refl
+none-primed (b ∷ bs) = go (eqb b 39) refl (none-primed bs)
+  where
+    go : (t : Bool) → eqb b 39 ≡ t → not (list_any (λ c. eqb c 39) bs) ≡ every no_prime bs
+        → not (eqb b 39 || list_any (λ c. eqb c 39) bs) ≡ (no_prime (run_byte_of b) && every no_prime bs)
+    go true e below = rw (e, prime-here b (eqb-true b 39 e))
+    go false e below = rw (e, no-prime-here b (λ h. true≢false (sym (eq-eqb b 39 h) ∙ e))) below

@@ -1,5 +1,5 @@
 -- A run passed byte by byte from a sum so far: what the code's loop over the letters keeps, and that it comes to the translation rules.
-use Rattle.std.specs.Prelude.{◌≡◌, refl, Bool, true, false, cond, not, ◌&&◌, List, ◌∷◌, ℕ, suc, ◌+◌, ◌*◌, ◌/◌, ◌%◌, ◌<◌, ◌≤◌, leb, length, get_or, drop}
+use Rattle.std.specs.Prelude.{◌≡◌, refl, Bool, true, false, cond, not, ◌&&◌, List, ◌∷◌, ℕ, suc, ◌+◌, ◌*◌, ◌/◌, ◌%◌, ◌<◌, ◌≤◌, leb, length, get_or, drop, Option, Some}
 use Rattle.std.proofs.Common.{sym, ◌∙◌, ap, true≢false, zero-add, add-one, arith, drop-cons, leb-true, le-ltb, lt-ltb}
 use Rattle.std.proofs.Math.Bool.{and-eq-true_iff}
 use Rattle.std.proofs.Math.Seq.{drop-length}
@@ -10,8 +10,6 @@ use Rattle.hall_axes.specs.declared.Fold.TheVariants.{One, Two, Three, Four, Six
 use Rattle.hall_axes.specs.declared.Axis.{Axis}
 use Rattle.hall_token.specs.declared.RunByte.{RunByte}
 use Rattle.hall_token.specs.declared.RunByte.TheVariants.{Screw, Letter, Prime, Foreign}
-use Rattle.hall_token.specs.declared.Moved.{Moved}
-use Rattle.hall_token.specs.declared.Moved.TheVariants.{By, WrongDigit}
 use Rattle.hall_axes.specs.Axes.{fold_number, plain_z}
 use Rattle.hall_token.specs.Bytes.{run_bytes, run_byte_of, passes, value_at-passes}
 use Rattle.hall_token.specs.Front.{rest, front, nothing}
@@ -22,8 +20,8 @@ abbrev pub triple : ℕ → ℕ → ℕ → Translation
 triple a b c = record { x = a; y = b; z = c }
 
 -- The letters of a run added to (x, y, z), or a digit among them.
-unfoldable pub letters_from : List ℕ → ℕ → ℕ → ℕ → Moved
-letters_from run x y z = cond (every no_screw run) (By (triple ((x + sum_x run) % 12) ((y + sum_y run) % 12) ((z + sum_z run) % 12))) WrongDigit
+unfoldable pub letters_from : List ℕ → ℕ → ℕ → ℕ → Option Translation
+letters_from run x y z = cond (every no_screw run) (Some (triple ((x + sum_x run) % 12) ((y + sum_y run) % 12) ((z + sum_z run) % 12))) Option.None
 
 -- ---- one byte
 
@@ -45,18 +43,18 @@ early-remainder x v s = omega arith
 
 -- ---- the loop
 
-pub letters-end : (run : List ℕ) (x y z : ℕ) → x < 12 → y < 12 → z < 12 → letters_from (drop (length run) run) x y z ≡ By (triple x y z)
+pub letters-end : (run : List ℕ) (x y z : ℕ) → x < 12 → y < 12 → z < 12 → letters_from (drop (length run) run) x y z ≡ Some (triple x y z)
 unfolding letters_from every sum_x sum_y sum_z
 letters-end run x y z hx hy hz =
     rw drop-length
-    (ap By (λ i. triple (below x hx i) (below y hy i) (below z hz i)))
+    (ap Some (λ i. triple (below x hx i) (below y hy i) (below z hz i)))
   where
     below : (n : ℕ) → n < 12 → (n + 0) % 12 ≡ n
     below n h = omega arith
 
 -- At a digit the run is refused.
 pub letters-stop : (run : List ℕ) (i x y z : ℕ) → i < length run → no_screw (run_byte_of (get_or run i 0)) ≡ false → letters_from (drop i run) x y z
-    ≡ WrongDigit
+    ≡ Option.None
 unfolding letters_from
 letters-stop run i x y z h e = rw (every-stop no_screw run i h e)
 
@@ -67,10 +65,10 @@ letters-cons : (b : ℕ) (bs : List ℕ) (x y z : ℕ) → no_screw (run_byte_of
 unfolding letters_from every sum_x sum_y sum_z
 letters-cons b bs x y z e =
     rw e
-    (λ i. cond (every no_screw bs) (By (triple
+    (λ i. cond (every no_screw bs) (Some (triple
     (early-remainder x (letter_vector (run_byte_of b)).x (sum_x bs) i)
     (early-remainder y (letter_vector (run_byte_of b)).y (sum_y bs) i)
-    (early-remainder z (letter_vector (run_byte_of b)).z (sum_z bs) i))) WrongDigit)
+    (early-remainder z (letter_vector (run_byte_of b)).z (sum_z bs) i))) Option.None)
 
 -- Any other byte, which says v, adds its translation u.
 pub letters-next : (run : List ℕ) (i x y z : ℕ) (v : RunByte) (u : Translation) → i < length run → no_screw (run_byte_of (get_or run i 0)) ≡ true
@@ -105,7 +103,7 @@ moved-letters f a b bs e = simp (e, no_digit (run_byte_of b) e, no-rise, zero-ad
 
 -- A wrong digit in front refuses the run.
 pub moved-wrong : (f : Fold) (a : Axis) (b : ℕ) (bs : List ℕ) → no_screw (run_byte_of b) ≡ false → screw_right f a (screw_digit (run_byte_of b)) ≡ false
-    → moved_by f a (b ∷ bs) ≡ WrongDigit
+    → moved_by f a (b ∷ bs) ≡ Option.None
 unfolding moved_by digits_right front_right
 moved-wrong f a b bs e h = rw (e, h)
 
@@ -115,10 +113,11 @@ pub moved-screw : (f : Fold) (a : Axis) (b : ℕ) (bs : List ℕ) → no_screw (
 unfolding moved_by letters_from digits_right front_right translation_of rise sum_x sum_y sum_z
 moved-screw f a b bs e h = rw (e, h) (go (run_byte_of b) e)
   where
-    go : (v : RunByte) → no_screw v ≡ false → cond (every no_screw bs) (By
+    go : (v : RunByte) → no_screw v ≡ false → cond (every no_screw bs) (Some
         (triple (((letter_vector v).x + sum_x bs) % 12) (((letter_vector v).y + sum_y bs) % 12)
-        ((12 * screw_digit v / fold_number f + ((letter_vector v).z + sum_z bs)) % 12))) WrongDigit
-        ≡ cond (every no_screw bs) (By (triple ((0 + sum_x bs) % 12) ((0 + sum_y bs) % 12) ((12 * screw_digit v / fold_number f + sum_z bs) % 12))) WrongDigit
+        ((12 * screw_digit v / fold_number f + ((letter_vector v).z + sum_z bs)) % 12))) Option.None
+        ≡ cond (every no_screw bs) (Some (triple ((0 + sum_x bs) % 12) ((0 + sum_y bs) % 12) ((12 * screw_digit v / fold_number f + sum_z bs) % 12)))
+        Option.None
     go (Screw s) i = simp zero-add
     go (Letter t) i = absurd (true≢false i)
     go Prime i = absurd (true≢false i)
@@ -126,7 +125,7 @@ moved-screw f a b bs e h = rw (e, h) (go (run_byte_of b) e)
 
 -- ---- the same of a run's first byte, which says v, with t for its test
 
-pub moved_nothing : (f : Fold) (a : Axis) (run : List ℕ) → length run ≡ 0 → moved_by f a run ≡ By (triple 0 0 0)
+pub moved_nothing : (f : Fold) (a : Axis) (run : List ℕ) → length run ≡ 0 → moved_by f a run ≡ Some (triple 0 0 0)
 unfolding moved_by digits_right translation_of sum_x sum_y sum_z rise
 moved_nothing f a run h = ap (moved_by f a) (nothing run h)
 
@@ -138,7 +137,7 @@ front-letters f a run v t h w e n =
     ∙ ap (λ (l : List ℕ). letters_from l 0 0 0) (sym (front run h))
 
 pub front-wrong : (f : Fold) (a : Axis) (run : List ℕ) (v : RunByte) (t : Bool) → (length run ≡ 0 → ⊥) → v ≡ run_byte_of (get_or run 0 0) → t ≡ no_screw v
-    → t ≡ false → screw_right f a (screw_digit v) ≡ false → moved_by f a run ≡ WrongDigit
+    → t ≡ false → screw_right f a (screw_digit v) ≡ false → moved_by f a run ≡ Option.None
 front-wrong f a run v t h w e n r =
     ap (moved_by f a) (front run h)
     ∙ moved-wrong f a (get_or run 0 0) (rest run) (ap no_screw (sym w) ∙ sym e ∙ n) (ap (λ (x : RunByte). screw_right f a (screw_digit x)) (sym w) ∙ r)

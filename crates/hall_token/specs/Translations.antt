@@ -1,12 +1,10 @@
 -- The translation rules of R2.7 and R2.8: the letters of a token's run added in twelfths, and one digit that may stand first.
-use Rattle.std.specs.Prelude.{Bool, true, cond, ◌&&◌, List, [], ◌∷◌, ℕ, ◌+◌, ◌*◌, ◌/◌, ◌%◌, ltb}
+use Rattle.std.specs.Prelude.{Bool, true, cond, ◌&&◌, List, [], ◌∷◌, ℕ, ◌+◌, ◌*◌, ◌/◌, ◌%◌, ltb, Option, Some}
 use Rattle.operation.specs.declared.Translation.{Translation}
 use Rattle.hall_axes.specs.declared.Fold.{Fold}
 use Rattle.hall_axes.specs.declared.Axis.{Axis}
 use Rattle.hall_token.specs.declared.RunByte.{RunByte}
 use Rattle.hall_token.specs.declared.RunByte.TheVariants.{Screw, Letter, Prime, Foreign}
-use Rattle.hall_token.specs.declared.Moved.{Moved}
-use Rattle.hall_token.specs.declared.Moved.TheVariants.{By, WrongDigit}
 use Rattle.hall_axes.specs.Axes.{fold_number, plain_z}
 use Rattle.hall_token.specs.Bytes.{run_byte_of}
 use Rattle.hall_token.specs.Runs.{every, no_screw}
@@ -63,5 +61,5 @@ rise f (b ∷ bs) = 12 * screw_digit (run_byte_of b) / fold_number f
 unfoldable pub translation_of : Fold → List ℕ → Translation
 translation_of f run = record { x = sum_x run % 12; y = sum_y run % 12; z = (rise f run + sum_z run) % 12 }
 
-unfoldable pub moved_by : Fold → Axis → List ℕ → Moved
-moved_by f a run = cond (digits_right f a run) (By (translation_of f run)) WrongDigit
+unfoldable pub moved_by : Fold → Axis → List ℕ → Option Translation
+moved_by f a run = cond (digits_right f a run) (Some (translation_of f run)) Option.None

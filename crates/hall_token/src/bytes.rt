@@ -3,45 +3,49 @@
 ghost use Rattle.std.specs.Prelude.{◌≡◌};
 ghost use Rattle.hall_token.specs.Bytes.{fold_of, mark_of, letter_of, run_byte_of};
 
-use super::{FoldByte, RunByte};
-use hall_axes::{AxisLetter, Direction, Fold, Mark};
+use super::RunByte;
+use hall_axes::{Direction, Fold, Mark};
 use operation::Translation;
 
-pub(crate) fn fold_of(byte: u8) -> FoldByte
+#[tactic(auto, unfolding(crate::specs::Bytes::fold_of, crate::specs::Bytes::value_at))]
+pub(crate) fn fold_of(byte: u8) -> Option<Fold>
     ensures { result ≡ fold_of byte }
 {
     match byte {
-        b'1' => FoldByte::Is(Fold::One),
-        b'2' => FoldByte::Is(Fold::Two),
-        b'3' => FoldByte::Is(Fold::Three),
-        b'4' => FoldByte::Is(Fold::Four),
-        b'6' => FoldByte::Is(Fold::Six),
-        _ => FoldByte::Other,
+        b'1' => Some(Fold::One),
+        b'2' => Some(Fold::Two),
+        b'3' => Some(Fold::Three),
+        b'4' => Some(Fold::Four),
+        b'6' => Some(Fold::Six),
+        _ => None,
     }
 }
 
+#[tactic(auto, unfolding(crate::specs::Bytes::mark_of, crate::specs::Bytes::value_at))]
 pub(crate) fn mark_of(byte: u8) -> Mark
     ensures { result ≡ mark_of byte }
 {
     match byte {
         b'^' => Mark::Single,
         b'=' => Mark::Double,
-        _ => Mark::None,
+        _ => Mark::Unmarked,
     }
 }
 
-pub(crate) fn letter_of(byte: u8) -> AxisLetter
+#[tactic(auto, unfolding(crate::specs::Bytes::letter_of, crate::specs::Bytes::value_at))]
+pub(crate) fn letter_of(byte: u8) -> Option<Direction>
     ensures { result ≡ letter_of byte }
 {
     match byte {
-        b'x' => AxisLetter::Along(Direction::X),
-        b'y' => AxisLetter::Along(Direction::Y),
-        b'z' => AxisLetter::Along(Direction::Z),
-        b'*' => AxisLetter::Along(Direction::Diagonal),
-        _ => AxisLetter::Absent,
+        b'x' => Some(Direction::X),
+        b'y' => Some(Direction::Y),
+        b'z' => Some(Direction::Z),
+        b'*' => Some(Direction::Diagonal),
+        _ => None,
     }
 }
 
+#[tactic(auto, unfolding(crate::specs::Bytes::run_byte_of, crate::specs::Bytes::value_at))]
 pub(crate) fn run_byte(byte: u8) -> RunByte
     ensures { result ≡ run_byte_of byte }
 {

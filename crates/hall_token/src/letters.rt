@@ -1,6 +1,6 @@
 // The letters of an N token's run, of which each may stand there once. New in the port: the Rust adds a letter as often as it stands.
 ghost use Rattle.std.specs.Prelude.{◌≡◌, ◌<◌, length, get_or, take};
-ghost use Rattle.hall_token.specs.RunLetters.{is_letter, occurs, repeats, repeat_at};
+ghost use Rattle.hall_token.specs.RunLetters.{is_letter, repeats, repeat_place};
 
 use super::RunByte;
 use super::bytes::run_byte;
@@ -8,25 +8,7 @@ use super::bytes::run_byte;
 fn is_letter(byte: RunByte) -> bool
     ensures { result ≡ is_letter byte }
 {
-    match byte {
-        RunByte::Screw(_) => false,
-        RunByte::Letter(_) => true,
-        RunByte::Prime => false,
-        RunByte::Foreign => false,
-    }
-}
-
-fn occurs(byte: u8, bytes: &[u8]) -> bool
-    ensures { result ≡ occurs byte bytes.now }
-{
-    let mut i = 0;
-    while i < bytes.len() {
-        if byte == bytes[i] {
-            return true;
-        }
-        i += 1;
-    }
-    false
+    matches!(byte, RunByte::Letter(_))
 }
 
 // Whether the byte at a place is a letter that stands before it too.
@@ -34,23 +16,17 @@ fn repeats(run: &[u8], at: usize) -> bool
     requires { at < length run.now }
     ensures { result ≡ repeats (get_or run.now at 0) (take at run.now) }
 {
-    let byte = run[at];
-    if !is_letter(run_byte(byte)) {
-        return false;
-    }
-    occurs(byte, &run[0..at])
+    is_letter(run_byte(run[at])) && run[..at].contains(&run[at])
 }
 
-// The place of the first letter that repeats an earlier one, or the run's length.
-pub(crate) fn first_repeat(run: &[u8]) -> usize
-    ensures { result ≡ repeat_at run.now }
+// The place of the first letter that repeats an earlier one.
+pub(crate) fn first_repeat(run: &[u8]) -> Option<usize>
+    ensures { result ≡ repeat_place run.now }
 {
-    let mut i = 0;
-    while i < run.len() {
-        if repeats(run, i) {
-            return i;
+    for at in 0..run.len() {
+        if repeats(run, at) {
+            return Some(at);
         }
-        i += 1;
     }
-    i
+    None
 }

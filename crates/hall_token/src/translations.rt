@@ -5,60 +5,31 @@ ghost use Rattle.hall_token.specs.Runs.{every, may_stand, no_prime, no_screw};
 ghost use Rattle.hall_token.specs.Translations.{screw_digit, letter_vector, moved_by};
 ghost use Rattle.hall_token.specs.Sums.{letters_from};
 
+use super::RunByte;
 use super::bytes::run_byte;
-use super::{Moved, RunByte};
 use hall_axes::axes::{fold_number, plain_z};
 use hall_axes::{Axis, Fold};
 use operation::Translation;
 
+const ORIGIN: Translation = Translation { x: 0, y: 0, z: 0 };
+
 pub(crate) fn may_stand(byte: RunByte) -> bool
     ensures { result ≡ may_stand byte }
 {
-    match byte {
-        RunByte::Screw(_) => true,
-        RunByte::Letter(_) => true,
-        RunByte::Prime => true,
-        RunByte::Foreign => false,
-    }
+    !matches!(byte, RunByte::Foreign)
 }
 
 pub(crate) fn no_screw(byte: RunByte) -> bool
     ensures { result ≡ no_screw byte }
 {
-    match byte {
-        RunByte::Screw(_) => false,
-        RunByte::Letter(_) => true,
-        RunByte::Prime => true,
-        RunByte::Foreign => true,
-    }
-}
-
-// Whether every byte may stand in a run.
-pub(crate) fn spelt(run: &[u8]) -> bool
-    ensures { result ≡ every may_stand run.now }
-{
-    let mut i = 0;
-    while i < run.len() {
-        if !may_stand(run_byte(run[i])) {
-            return false;
-        }
-        i += 1;
-    }
-    true
+    !matches!(byte, RunByte::Screw(_))
 }
 
 // Whether no `'` stands in a run.
 pub(crate) fn unprimed(run: &[u8]) -> bool
     ensures { result ≡ every no_prime run.now }
 {
-    let mut i = 0;
-    while i < run.len() {
-        if run[i] == b'\'' {
-            return false;
-        }
-        i += 1;
-    }
-    true
+    !run.contains(&b'\'')
 }
 
 fn screw_digit(byte: RunByte) -> u8
@@ -66,9 +37,7 @@ fn screw_digit(byte: RunByte) -> u8
 {
     match byte {
         RunByte::Screw(digit) => digit,
-        RunByte::Letter(_) => 0,
-        RunByte::Prime => 0,
-        RunByte::Foreign => 0,
+        _ => 0,
     }
 }
 
@@ -77,54 +46,46 @@ fn letter_vector(byte: RunByte) -> Translation
 {
     match byte {
         RunByte::Letter(translation) => translation,
-        RunByte::Screw(_) => Translation { x: 0, y: 0, z: 0 },
-        RunByte::Prime => Translation { x: 0, y: 0, z: 0 },
-        RunByte::Foreign => Translation { x: 0, y: 0, z: 0 },
+        _ => ORIGIN,
     }
 }
 
-// The letters of a run added to (0,0,rise).
-fn letters(run: &[u8], rise: u8) -> Moved
+// The letters of a run added to (0,0,rise), if no digit is among them.
+fn letters(run: &[u8], rise: u8) -> Option<Translation>
     requires { rise < 12 }
     ensures { result ≡ letters_from run.now 0 0 rise }
 {
     let mut x: u8 = 0;
     let mut y: u8 = 0;
     let mut z = rise;
-    let mut i = 0;
-    while i < run.len() {
-        let byte = run_byte(run[i]);
+    for byte in run {
+        let byte = run_byte(*byte);
         if !no_screw(byte) {
-            return Moved::WrongDigit;
+            return None;
         }
         let vector = letter_vector(byte);
         x = (x + vector.x) % 12;
         y = (y + vector.y) % 12;
         z = (z + vector.z) % 12;
-        i += 1;
     }
-    Moved::By(Translation { x, y, z })
+    Some(Translation { x, y, z })
 }
 
-pub(crate) fn translation_of(fold: Fold, axis: Axis, run: &[u8]) -> Moved
+// The translation of a run, unless a digit stands where none may.
+pub(crate) fn translation_of(fold: Fold, axis: Axis, run: &[u8]) -> Option<Translation>
     ensures { result ≡ moved_by fold axis run.now }
 {
     if run.len() == 0 {
-        return Moved::By(Translation { x: 0, y: 0, z: 0 });
+        return Some(ORIGIN);
     }
     let first = run_byte(run[0]);
     if no_screw(first) {
         return letters(run, 0);
     }
-    let mark = axis.mark;
-    let direction = axis.direction;
-    if !plain_z(mark, direction) {
-        return Moved::WrongDigit;
-    }
     let digit = screw_digit(first);
     let turn = fold_number(fold);
-    if turn <= digit {
-        return Moved::WrongDigit;
+    if !plain_z(axis.mark, axis.direction) || turn <= digit {
+        return None;
     }
     letters(&run[1..], 12 * digit / turn)
 }

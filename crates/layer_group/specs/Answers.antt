@@ -1,5 +1,5 @@
 -- What is answered for a layer symbol's text: its group slot by slot, its order, its letter, an operation of it; or a refusal.
-use Rattle.std.specs.Prelude.{cond, List, ℕ, ◌+◌, ltb, get_or, replicate, take}
+use Rattle.std.specs.Prelude.{cond, List, ℕ, ◌+◌, ltb, get_or, replicate, take, Err, None, Ok, Option, Result, Some}
 use Rattle.operation.specs.Answer as answer
 use Rattle.operation.specs.Product.{identity_operation}
 use Rattle.operation.specs.declared.Operation.{Operation}
@@ -18,12 +18,6 @@ use Rattle.layer_group.specs.declared.refusal.Refusal.TheVariants.{Symbol, NoLay
 use Rattle.layer_group.specs.declared.Answer.{Answer}
 use Rattle.layer_group.specs.declared.Answer.TheVariants.{Group, Refused}
 use Rattle.layer_group.specs.declared.LayerGroup.{LayerGroup}
-use Rattle.layer_group.specs.declared.LayerOrder.{LayerOrder}
-use Rattle.layer_group.specs.declared.LayerOrder.TheVariants.{Is, Refused as OrderRefused}
-use Rattle.layer_group.specs.declared.LayerLetter.{LayerLetter}
-use Rattle.layer_group.specs.declared.LayerLetter.TheVariants.{Is as IsLetter, Refused as LetterRefused}
-use Rattle.layer_group.specs.declared.LayerOperation.{LayerOperation}
-use Rattle.layer_group.specs.declared.LayerOperation.TheVariants.{Operation as FoundOperation, PastEnd, Refused as FoundRefused}
 
 -- ---- the group, slot by slot
 -- A refusal carries number and place and no other data: letter P, no operations.
@@ -50,30 +44,30 @@ unfoldable pub layer_answer : List ℕ → LayerGroup
 layer_answer text = layered (symbol_answer (capitalised text))
 
 -- ---- order, letter, operation
-abbrev pub order_by : Answer → ℕ → LayerOrder
-order_by Group count = Is count
-order_by (Refused r) count = OrderRefused r
+abbrev pub order_by : Answer → ℕ → Result ℕ Refusal
+order_by Group count = Ok count
+order_by (Refused r) count = Err r
 
-unfoldable pub order_of : List ℕ → LayerOrder
+unfoldable pub order_of : List ℕ → Result ℕ Refusal
 order_of text = let g = layer_answer text in order_by g.answer g.count
 
 -- The small letter is 32 behind the capital.
 abbrev pub small_of : Centering → ℕ
 small_of c = byte_of c + 32
 
-abbrev pub letter_by : Answer → Centering → LayerLetter
-letter_by Group c = IsLetter (small_of c)
-letter_by (Refused r) c = LetterRefused r
+abbrev pub letter_by : Answer → Centering → Result ℕ Refusal
+letter_by Group c = Ok (small_of c)
+letter_by (Refused r) c = Err r
 
-unfoldable pub letter_of : List ℕ → LayerLetter
+unfoldable pub letter_of : List ℕ → Result ℕ Refusal
 letter_of text = let g = layer_answer text in letter_by g.answer g.centering
 
 -- An index past the end is refused 28.
-abbrev pub operation_by : Answer → ℕ → List Operation → ℕ → LayerOperation
-operation_by Group count operations i = cond (ltb i count) (FoundOperation (get_or operations i identity_operation)) PastEnd
-operation_by (Refused r) count operations i = FoundRefused r
+abbrev pub operation_by : Answer → ℕ → List Operation → ℕ → Result (Option Operation) Refusal
+operation_by Group count operations i = cond (ltb i count) (Ok (Some (get_or operations i identity_operation))) (Ok None)
+operation_by (Refused r) count operations i = Err r
 
-unfoldable pub operation_at : List ℕ → ℕ → LayerOperation
+unfoldable pub operation_at : List ℕ → ℕ → Result (Option Operation) Refusal
 operation_at text i = let g = layer_answer text in operation_by g.answer g.count g.operations i
 
 -- ---- in numbers
@@ -85,15 +79,15 @@ operations_by (Refused r) operations = answer.refused (number_of r) (place_of r)
 abbrev pub operations_answer : LayerGroup → answer.Answer (List Operation) answer.Nothing
 operations_answer g = operations_by g.answer (take g.count g.operations)
 
-abbrev pub order_answer : LayerOrder → answer.Answer ℕ answer.Nothing
-order_answer (Is n) = answer.given n
-order_answer (OrderRefused r) = answer.refused (number_of r) (place_of r) tt
+abbrev pub order_answer : Result ℕ Refusal → answer.Answer ℕ answer.Nothing
+order_answer (Ok n) = answer.given n
+order_answer (Err r) = answer.refused (number_of r) (place_of r) tt
 
-abbrev pub letter_answer : LayerLetter → answer.Answer ℕ answer.Nothing
-letter_answer (IsLetter b) = answer.given b
-letter_answer (LetterRefused r) = answer.refused (number_of r) (place_of r) tt
+abbrev pub letter_answer : Result ℕ Refusal → answer.Answer ℕ answer.Nothing
+letter_answer (Ok b) = answer.given b
+letter_answer (Err r) = answer.refused (number_of r) (place_of r) tt
 
-abbrev pub operation_answer : LayerOperation → answer.Answer Operation answer.Nothing
-operation_answer (FoundOperation o) = answer.given o
-operation_answer PastEnd = answer.refused 28 0 tt
-operation_answer (FoundRefused r) = answer.refused (number_of r) (place_of r) tt
+abbrev pub operation_answer : Result (Option Operation) Refusal → answer.Answer Operation answer.Nothing
+operation_answer (Ok (Some o)) = answer.given o
+operation_answer (Ok None) = answer.refused 28 0 tt
+operation_answer (Err r) = answer.refused (number_of r) (place_of r) tt

@@ -1,7 +1,10 @@
 -- The copy in capitals is the text with one byte changed, and where: what the code writes.
 use Rattle.std.proofs.Math.Path.{◌≡◌, refl, sym, ap}
-use Rattle.std.proofs.Common.{◌∙◌, add-one, drop_of_length-le, take-append-drop, take-suc-set}
-use Rattle.std.specs.Prelude.{Bool, ◌||◌, List, [], ◌∷◌, ◌++◌, ℕ, suc, ◌+◌, ◌-◌, ◌<◌, ◌≤◌}
+use Rattle.std.specs.Prelude as std
+use Rattle.std.specs.List.{position, position_or_len}
+use Rattle.std.proofs.Common.{◌∙◌, add-one, drop_of_length-le, take-append-drop, take_at, lt-ltb, le-ltb}
+use Rattle.std.proofs.Math.Seq.{take-set-lt}
+use Rattle.std.specs.Prelude.{Bool, not, ◌||◌, List, [], ◌∷◌, ◌++◌, ℕ, suc, ◌+◌, ◌-◌, ◌<◌, ◌≤◌}
 use Rattle.std.proofs.Math.Bool.{true, false, cond}
 use native.Mathlib.Omega.{arith}
 use Rattle.std.proofs.Math.Decide.{dec_lt}
@@ -36,19 +39,9 @@ module _ (text : List ℕ) where
   at-token = ap capitalised (sym (take-append-drop (run whitespace text) text))
       ∙ capitalised-blank (take (run whitespace text) text) (drop (run whitespace text) text) (run-every whitespace text) (run-stops whitespace text)
 
-  -- ---- whether p or c stands at a place and ends its token
-  pub letter-none : (at : ℕ) → length text ≤ at → letter_here (drop at text) ≡ false
+  -- A place past the end has no letter.
+  letter-none : (at : ℕ) → length text ≤ at → letter_here (drop at text) ≡ false
   letter-none at h = rw (drop_of_length-le text h)
-
-  pub letter-other : (at : ℕ) → at < length text → is_small (get_or text at 0) ≡ false → letter_here (drop at text) ≡ false
-  letter-other at h e = rw (drop-cons text at 0 h, e)
-
-  pub letter-last : (at : ℕ) → at < length text → is_small (get_or text at 0) ≡ true → length text ≤ at + 1 → letter_here (drop at text) ≡ true
-  letter-last at h e k = let none : drop (suc at) text ≡ [] = drop_of_length-le text {i = suc at} (omega arith) in rw (drop-cons text at 0 h, e, none)
-
-  pub letter-before : (at : ℕ) → at < length text → is_small (get_or text at 0) ≡ true → at + 1 < length text → letter_here (drop at text)
-      ≡ whitespace (get_or text (at + 1) 0)
-  letter-before at h e k = rw (drop-cons text at 0 h, e, ← (add-one at), drop-cons text (at + 1) 0 k)
 
   -- Such a byte is p or c.
   pub letter-small : (at : ℕ) → at < length text → letter_here (drop at text) ≡ true → 32 ≤ get_or text at 0
@@ -109,9 +102,48 @@ module _ (text : List ℕ) where
     unfolding from_token
     change-minus n m e = set_split text start _ inside ∙ sym (there ∙ rw (rw here-again at n, eq-eqb (get_or text start 0) 45 m, rw (add-one start) at e))
 
+-- ---- the first token
+-- The search for a byte that is no whitespace ends where the run of whitespace does.
+first-run : (s : List ℕ) → position_or_len (λ b. not (whitespace b)) s ≡ run whitespace s
+unfolding run
+first-run [] = refl
+first-run (b ∷ s) = by-test (whitespace b) (first-run s)
+  where
+    by-test : (t : Bool) → position_or_len (λ b. not (whitespace b)) s ≡ run whitespace s
+        → cond (not (not t)) (1 + position_or_len (λ b. not (whitespace b)) s) 0 ≡ cond t (suc (run whitespace s)) 0
+    by-test true e = omega (arith, e)
+    by-test false e = refl
+
+pub token-found : (s : List ℕ) (i : ℕ) → position (λ b. not (whitespace b)) s ≡ std.Some i → (i ≡ run whitespace s) × (i < length s)
+token-found s i e = elim (dec_lt (run whitespace s) (length s)) [
+  | yes h ↦
+      let found : position (λ b. not (whitespace b)) s ≡ std.Some (run whitespace s) = rw (first-run s, lt-ltb (run whitespace s) (length s) h) refl in
+      let both : std.Some (run whitespace s) ≡ std.Some i = sym found ∙ e in
+      let same : run whitespace s ≡ i = cc in
+      (sym same, omega arith)
+  | no h ↦
+      let low : length s ≤ run whitespace s = omega arith in
+      let missed : position (λ b. not (whitespace b)) s ≡ std.None = rw (first-run s, le-ltb (run whitespace s) (length s) low) refl in
+      let both : ◌≡◌ {A = std.Option ℕ} std.None (std.Some i) = sym missed ∙ e in
+      absurd (cc)
+]
+
+pub token-missed : (s : List ℕ) → position (λ b. not (whitespace b)) s ≡ std.None → capitalised s ≡ s
+token-missed s e = elim (dec_lt (run whitespace s) (length s)) [
+  | yes h ↦
+      let found : position (λ b. not (whitespace b)) s ≡ std.Some (run whitespace s) = rw (first-run s, lt-ltb (run whitespace s) (length s) h) refl in
+      let both : ◌≡◌ {A = std.Option ℕ} std.None (std.Some (run whitespace s)) = sym e ∙ found in
+      absurd (cc)
+  | no h ↦ blank-whole s (omega arith)
+]
+
 -- ---- the copying
--- One byte more in front.
-pub copied_next : (copy text : List ℕ) (i : ℕ) → i < length text → length text ≤ length copy → take i copy ≡ take i text
-    → take (i + 1) (set copy i (get_or text i 0)) ≡ take (i + 1) text
-copied_next copy text i h k e =
-    rw (add-one i) (take-suc-set copy i (get_or text i 0) (omega arith) ∙ ap (λ l. l ++ (get_or text i 0 ∷ [])) e ∙ sym (take-suc text i 0 h))
+-- The text in front of the slots,
+pub copy-front : (text copy rest : List ℕ) → copy ≡ text → take (length text) (copy ++ rest) ≡ text
+copy-front text copy rest e = rw e (take_at text rest (length text) refl)
+
+-- and one byte of it changed.
+pub copy-changed : (text copy : List ℕ) (place byte : ℕ) → take (length text) copy ≡ text → place < length text
+    → set text place byte ≡ capitalised text → take (length text) (set copy place byte) ≡ capitalised text
+copy-changed text copy place byte front h e =
+    take-set-lt (length text) copy place byte h ∙ ap (λ l. set l place byte) front ∙ e

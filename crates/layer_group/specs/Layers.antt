@@ -1,14 +1,14 @@
 -- The layer rules, said of motions of space: zero in the four entries that mix z with x or y, and where the zz entry is 1 a whole number of cells along z;
 -- and the test of an operation's digits that decides them.
-use Rattle.std.specs.Prelude.{◌≡◌, Bool, true, false, cond, ◌&&◌, ◌||◌, not, List, [], ◌∷◌, ℕ, zero, suc, ◌+◌, ◌<◌, eqb, length, get_or, drop}
-use Rattle.std.proofs.Common.{sym, drop-cons}
-use Rattle.std.proofs.Math.Numerals.{add-one}
+use Rattle.std.specs.Prelude as std
+use Rattle.std.specs.List.{position, position_or_len}
+use Rattle.std.specs.Prelude.{◌≡◌, refl, Bool, true, false, cond, ◌&&◌, ◌||◌, not, List, [], ◌∷◌, ℕ, zero, suc, ◌+◌, ◌≤◌, ◌<◌, eqb, length}
+use Rattle.std.proofs.Common.{sym, ◌∙◌, arith, lt-ltb, le-ltb}
+use Rattle.std.proofs.Math.Decide.{dec_lt}
 use Rattle.std.proofs.Math.IntN.{one}
-use Rattle.std.proofs.Math.Seq.{drop-length}
 use Rattle.laws.specs.Integer.{nought}
 use Rattle.laws.specs.Motion.{SpaceMotion}
 use Rattle.laws.specs.Residue.{residue}
-use Rattle.operation.specs.Product.{identity_operation}
 use Rattle.operation.specs.declared.Operation.{Operation}
 
 -- A motion of a layer. Twelve twelfths are a cell, so a whole number of cells leaves no residue.
@@ -30,18 +30,41 @@ front [] = zero
 front (o ∷ l) = cond (is_layer o) (suc (front l)) zero
 
 -- ---- the search
-module _ (l : List Operation) (i : ℕ) (h : i < length l) where
-  -- It is here,
-  pub front-hit : is_layer (get_or l i identity_operation) ≡ false → front (drop i l) ≡ 0
-  unfolding front
-  front-hit e = rw (drop-cons l i identity_operation, e)
+-- The index of the first operation that does not pass it.
+abbrev pub off_position : List Operation → std.Option ℕ
+off_position l = position (λ o. not (is_layer o)) l
 
-  -- or it is further on.
-  pub front-miss : is_layer (get_or l i identity_operation) ≡ true → front (drop i l) ≡ front (drop (i + 1) l) + 1
-  unfolding front
-  front-miss e = rw (drop-cons l i identity_operation, e, add-one i) (sym (add-one _))
-
--- There is none.
-pub front-end : (l : List Operation) → front (drop (length l) l) ≡ 0
+off-front : (l : List Operation) → position_or_len (λ o. not (is_layer o)) l ≡ front l
 unfolding front
-front-end l = rw drop-length
+off-front [] = refl
+off-front (o ∷ l) = by-test (is_layer o) (off-front l)
+  where
+    by-test : (b : Bool) → position_or_len (λ o. not (is_layer o)) l ≡ front l
+        → cond (not (not b)) (1 + position_or_len (λ o. not (is_layer o)) l) 0 ≡ cond b (suc (front l)) 0
+    by-test true e = omega (arith, e)
+    by-test false e = refl
+
+-- As the search finds one,
+pub front-found : (l : List Operation) (i : ℕ) → off_position l ≡ std.Some i → (front l ≡ i) × (i < length l)
+front-found l i e = elim (dec_lt (front l) (length l)) [
+  | yes h ↦
+      let found : off_position l ≡ std.Some (front l) = rw (off-front l, lt-ltb (front l) (length l) h) refl in
+      let both : std.Some (front l) ≡ std.Some i = sym found ∙ e in
+      let same : front l ≡ i = cc in
+      (same, omega arith)
+  | no h ↦
+      let low : length l ≤ front l = omega arith in
+      let missed : off_position l ≡ std.None = rw (off-front l, le-ltb (front l) (length l) low) refl in
+      let both : ◌≡◌ {A = std.Option ℕ} std.None (std.Some i) = sym missed ∙ e in
+      absurd (cc)
+]
+
+-- or none.
+pub front-missed : (l : List Operation) → off_position l ≡ std.None → length l ≤ front l
+front-missed l e = elim (dec_lt (front l) (length l)) [
+  | yes h ↦
+      let found : off_position l ≡ std.Some (front l) = rw (off-front l, lt-ltb (front l) (length l) h) refl in
+      let both : ◌≡◌ {A = std.Option ℕ} std.None (std.Some (front l)) = sym e ∙ found in
+      absurd (cc)
+  | no h ↦ omega arith
+]

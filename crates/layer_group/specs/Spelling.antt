@@ -1,8 +1,9 @@
 -- Which texts spell which layer symbol, said of the text alone: the letter is p or c, and the rest is read as in a plain symbol with P or C. And that the
 -- plain reader on the copy in capitals says exactly this, every refusal with its place: nobody has to believe the copy.
-use Rattle.std.specs.Prelude.{◌≡◌, refl, ◌⊎◌, ◌↔◌, Bool, true, false, cond, ◌&&◌, List, [], ◌∷◌, ◌++◌, ℕ, zero, suc, ◌-◌, ◌<◌, ◌≤◌, eqb, ltb, length, get_or}
+use Rattle.std.specs.Prelude.{◌≡◌, refl, ◌⊎◌, ◌↔◌, Bool, true, false, cond, ◌&&◌, List, [], ◌∷◌, ◌++◌, ℕ, zero, suc, ◌-◌, ◌<◌, ◌≤◌, eqb, ltb, length, get_or, Option, Some}
 use Rattle.std.proofs.Common.{sym, ◌∙◌, ap, subst, inl, inr, arith, eqb-true, eq-eqb, ltb-true, ltb-false, lt-ltb, le-ltb}
 use Rattle.std.proofs.lemmas.Bool.{not-false}
+use Rattle.std.proofs.lemmas.Option.{some_pair_parts}
 use Rattle.laws.specs.Truth.{and_both, or-either, clash}
 use Rattle.operation.specs.declared.Operation.{Operation}
 use Rattle.centering.specs.Letters.{byte_of}
@@ -16,7 +17,6 @@ use Rattle.hall_symbol.specs.Reader.{Reading, symbol, refusal, read_symbol}
 use Rattle.hall_symbol.specs.Spelling.{lattice_spelling, Fit, Begins, lattice, rotation, Spells, FirstForbidden, LatticeWrong, Refuses, Says}
 use Rattle.hall_symbol.specs.Lattice.{lattice_token}
 use Rattle.hall_symbol.specs.Parts.{lattice-read}
-use Rattle.hall_symbol.specs.declared.lattice.Lattice.TheVariants.{Is as IsLattice}
 use Rattle.hall_symbol.specs.Agreement.{says-read, read-says}
 use Rattle.hall_symbol.specs.declared.refusal.Refusal.{Refusal}
 use Rattle.hall_symbol.specs.declared.refusal.Refusal.TheVariants.{TooLong, ForbiddenByte, NoToken, Lattice, Token, Shift, NoRotation, TooMany}
@@ -446,7 +446,7 @@ layer-letter text c gs (plain, K, s) =
     let (w, inverted, after, cut) = first-letter s.begins in
     let same : lattice_spelling K.inverted K.letter ≡ lattice_spelling inverted c = sym (cut-firstword plain K.w _ K.after (plain-cut text plain K))
     ∙ cut-firstword plain w _ after cut in
-    let read : IsLattice K.inverted K.letter ≡ IsLattice inverted c =
+    let read : ◌≡◌ {A = Option (Bool × Centering)} (Some (K.inverted, K.letter)) (Some (inverted, c)) =
     sym (lattice-read K.inverted K.letter) ∙ ap lattice_token same ∙ lattice-read inverted c in
-    let letter : K.letter ≡ c = cc in
+    let letter : K.letter ≡ c = (some_pair_parts K.inverted inverted K.letter c read).1 in
     subst OfLayer letter K.layer

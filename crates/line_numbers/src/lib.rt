@@ -8,16 +8,16 @@ ghost use Rattle.operation_line.specs.Writing.{written_answer, write_of, buffer_
 ghost use Rattle.answer_numbers.specs.Packing.{packed, mapped, operation_number};
 
 use answer_numbers::{operation_number, refused};
-use operation_line::{ReadLine, WrittenLine};
+use operation_line::{ReadingRefusal, WritingRefusal};
 
 pub fn read_line(line: &[u8]) -> u64
     ensures { result ≡ packed (mapped operation_number (answer_of (read_line line.now))) }
 {
     match operation_line::reader::read_line(line) {
-        ReadLine::Operation(o) => operation_number(o),
-        ReadLine::TooLong => refused(40, 0),
-        ReadLine::Misspelt(place) => refused(41, place),
-        ReadLine::Determinant => refused(42, 0),
+        Ok(o) => operation_number(o),
+        Err(ReadingRefusal::TooLong) => refused(40, 0),
+        Err(ReadingRefusal::Misspelt(place)) => refused(41, place),
+        Err(ReadingRefusal::Determinant) => refused(42, 0),
     }
 }
 
@@ -26,9 +26,9 @@ pub fn write_line(operation: &[u8], out: &mut [u8]) -> u64
         × (out.new ≡ buffer_of operation.now out.old) }
 {
     match line_writing::write_line(operation, out) {
-        WrittenLine::Length(n) => n as u64,
-        WrittenLine::NoOperation => refused(34, 0),
-        WrittenLine::Determinant => refused(42, 0),
-        WrittenLine::NoRoom => refused(20, 0),
+        Ok(n) => n as u64,
+        Err(WritingRefusal::NoOperation) => refused(34, 0),
+        Err(WritingRefusal::Determinant) => refused(42, 0),
+        Err(WritingRefusal::NoRoom) => refused(20, 0),
     }
 }

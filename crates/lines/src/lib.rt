@@ -1,7 +1,7 @@
 // Cutting bytes that come in pieces into lines: the line that is being read is kept by value, and each call takes of a piece what belongs to one line.
 #![tactic(auto)]
 
-ghost use Rattle.std.specs.Prelude.{◌≡◌, true, [], ◌++◌, ◌≤◌, take, drop, replicate};
+ghost use Rattle.std.specs.Prelude.{◌≡◌, true, [], ◌++◌, ◌≤◌, length, drop, replicate};
 ghost use Rattle.lines.specs.Feeding.{joined};
 ghost use Rattle.lines.specs.Keeping.{held, stored, zeros, line_in, taken_from, last_of};
 
@@ -50,18 +50,15 @@ pub fn take_line(kept: Kept, piece: &[u8]) -> Taken
     ensures { result ≡ taken_from kept piece.now }
 {
     let mut line = counted(kept);
-    let mut i = 0usize;
-    while i < piece.len() {
-        let byte = piece[i];
-        i += 1;
+    for (i, &byte) in piece.iter().enumerate() {
         if byte == b'\n' {
-            return ended(kept, line, i);
+            return ended(kept, line, i + 1);
         }
         line = join(line, byte);
     }
     Taken {
         kept: line,
-        taken: i,
+        taken: piece.len(),
         finished: false,
         line: no_line(),
     }
@@ -87,25 +84,23 @@ pub fn last_line(kept: Kept) -> Last
 fn counted(kept: Kept) -> Kept
     ensures { result ≡ stored kept.bytes (held kept) }
 {
-    let bytes = kept.bytes;
-    if 80 < kept.status {
-        return Kept { status: 81, bytes };
+    Kept {
+        status: kept.status.min(81),
+        ..kept
     }
-    kept
 }
 
 // Of a line over 80 bytes nothing more is kept.
 fn join(kept: Kept, byte: u8) -> Kept
     ensures { result ≡ stored kept.bytes (joined (held kept) byte) }
 {
-    let mut bytes = kept.bytes;
-    let status = kept.status;
-    if 80 <= status {
-        return Kept { status: 81, bytes };
+    if 80 <= kept.status {
+        return Kept { status: 81, ..kept };
     }
-    bytes[status as usize] = byte;
+    let mut bytes = kept.bytes;
+    bytes[kept.status as usize] = byte;
     Kept {
-        status: status + 1,
+        status: kept.status + 1,
         bytes,
     }
 }
@@ -135,29 +130,25 @@ fn no_line() -> Line
 fn line_of(kept: Kept) -> Line
     ensures { result ≡ line_in (held kept) }
 {
-    let bytes = kept.bytes;
     if 80 < kept.status {
         return Line {
             length: 81,
-            bytes: first_bytes(bytes, 80),
+            bytes: padded(&kept.bytes),
         };
     }
     let length = kept.status as usize;
     Line {
         length,
-        bytes: first_bytes(bytes, length),
+        bytes: padded(&kept.bytes[..length]),
     }
 }
 
-fn first_bytes(bytes: [u8; 80], n: usize) -> [u8; 81]
-    requires { n ≤ 80 }
-    ensures { result ≡ take n bytes ++ drop n zeros }
+// Zeros behind the bytes.
+fn padded(bytes: &[u8]) -> [u8; 81]
+    requires { length bytes.now ≤ 80 }
+    ensures { result ≡ bytes.now ++ drop (length bytes.now) zeros }
 {
-    let mut line = [0u8; 81];
-    let mut i = 0usize;
-    while i < n {
-        line[i] = bytes[i];
-        i += 1;
-    }
+    let mut line = [0; 81];
+    line[..bytes.len()].copy_from_slice(bytes);
     line
 }

@@ -1,11 +1,9 @@
 -- What is answered for a symbol's text and a list of five-byte operations, by (xii) of the requests: the symbol's refusal, 43, 44; and then the first entry
 -- that is foreign or repeated, the lowest missing code, or yes.
-use Rattle.std.specs.Prelude.{Bool, true, false, cond, not, ◌&&◌, ◌||◌, List, ℕ, zero, suc, ◌*◌, ◌/◌, ◌%◌, min, eqb, leb, ltb, length, get_or, take, drop}
+use Rattle.std.specs.Prelude.{Bool, true, false, cond, not, ◌&&◌, ◌||◌, List, ℕ, zero, suc, ◌*◌, ◌/◌, ◌%◌, min, eqb, leb, ltb, length, get_or, take, drop, Err, None, Ok, Option, Result, Some}
 use Rattle.operation.specs.Product.{identity_operation}
 use Rattle.operation.specs.declared.Operation.{Operation}
 use Rattle.five_bytes.specs.FiveBytes.{five_bytes_of}
-use Rattle.five_bytes.specs.declared.FiveBytes.{FiveBytes}
-use Rattle.five_bytes.specs.declared.FiveBytes.TheVariants.{Is, Wrong}
 use Rattle.centering.specs.declared.Centering.{Centering}
 use Rattle.subgroup_laws.specs.Bounded.{some, first}
 use Rattle.space_group.specs.Traversal.{turn_of, same_turn, same_class}
@@ -13,9 +11,10 @@ use Rattle.symbol_group.specs.Answers.{symbol_answer}
 use Rattle.symbol_group.specs.declared.Answer.{Answer}
 use Rattle.symbol_group.specs.declared.Answer.TheVariants.{Group, Refused as NoGroup}
 use Rattle.symbol_group.specs.declared.SymbolGroup.{SymbolGroup}
-use Rattle.list_check.specs.declared.Checked.{Checked}
-use Rattle.list_check.specs.declared.Checked.TheVariants.{Yes, Entry, Missing, Refused}
 use Rattle.list_check.specs.declared.refusal.Refusal.TheVariants.{Symbol, Length, Entry as WrongEntry}
+use Rattle.list_check.specs.declared.Verdict.TheVariants.{Entry, Missing, Yes}
+use Rattle.list_check.specs.declared.Verdict.{Verdict}
+use Rattle.list_check.specs.declared.refusal.Refusal.{Refusal}
 
 -- ---- the entries
 -- A list is a multiple of five bytes, and at most 240.
@@ -29,14 +28,14 @@ entry_count list = length list / 5
 unfoldable pub bytes_at : List ℕ → ℕ → List ℕ
 bytes_at list i = take 5 (drop (5 * i) list)
 
-abbrev pub is_wrong : FiveBytes → Bool
-is_wrong (Is o) = false
-is_wrong Wrong = true
+abbrev pub is_wrong : Option Operation → Bool
+is_wrong (Some o) = false
+is_wrong None = true
 
 -- A wrong entry has no operation; the identity stands in, and no list that is compared has it.
-abbrev pub operation_by : FiveBytes → Operation
-operation_by (Is o) = o
-operation_by Wrong = identity_operation
+abbrev pub operation_by : Option Operation → Operation
+operation_by (Some o) = o
+operation_by None = identity_operation
 
 -- Whether the code of entry i is over 19682 or a coordinate over 11.
 unfoldable pub wrong_at : List ℕ → ℕ → Bool
@@ -76,31 +75,31 @@ unfoldable pub lowest : (ℕ → Bool) → (ℕ → ℕ) → ℕ → ℕ
 lowest test code zero = no_code
 lowest test code (suc n) = cond (test n) (min (code n) (lowest test code n)) (lowest test code n)
 
-abbrev pub missing_answer : ℕ → Checked
-missing_answer code = cond (ltb code no_code) (Missing code) Yes
+abbrev pub missing_answer : ℕ → Result Verdict Refusal
+missing_answer code = cond (ltb code no_code) (Ok (Missing code)) (Ok Yes)
 
 -- The first of n entries that is off; or, if none is, the lowest missing code; or yes.
-unfoldable pub entries_answer : Centering → ℕ → (ℕ → Operation) → ℕ → (ℕ → Operation) → Checked
+unfoldable pub entries_answer : Centering → ℕ → (ℕ → Operation) → ℕ → (ℕ → Operation) → Result Verdict Refusal
 entries_answer c count operation n entry =
     let off = first (off_at c count operation entry) n in
-    cond (ltb off n) (Entry off) (missing_answer (lowest (missing_at c n entry operation) (λ k. turn_of (operation k)) count))
+    cond (ltb off n) (Ok (Entry off)) (missing_answer (lowest (missing_at c n entry operation) (λ k. turn_of (operation k)) count))
 
 -- 43 goes before 44, and every entry is looked at for 44 before any is named.
-unfoldable pub list_answer : Centering → ℕ → (ℕ → Operation) → List ℕ → Checked
+unfoldable pub list_answer : Centering → ℕ → (ℕ → Operation) → List ℕ → Result Verdict Refusal
 list_answer c count operation list =
     let wrong = first (wrong_at list) (entry_count list) in
     cond (length_fits (length list))
-    (cond (ltb wrong (entry_count list)) (Refused (WrongEntry wrong)) (entries_answer c count operation (entry_count list) (entry_at list)))
-    (Refused Length)
+    (cond (ltb wrong (entry_count list)) (Err (WrongEntry wrong)) (entries_answer c count operation (entry_count list) (entry_at list)))
+    (Err Length)
 
 -- Slot k of the operations of a group.
 unfoldable pub slot_at : List Operation → ℕ → Operation
 slot_at operations k = get_or operations k identity_operation
 
 -- The symbol's refusal goes first.
-abbrev pub checked_by : Answer → SymbolGroup → List ℕ → Checked
+abbrev pub checked_by : Answer → SymbolGroup → List ℕ → Result Verdict Refusal
 checked_by Group g list = list_answer g.centering g.count (slot_at g.operations) list
-checked_by (NoGroup r) g list = Refused (Symbol r)
+checked_by (NoGroup r) g list = Err (Symbol r)
 
-unfoldable pub checked_of : List ℕ → List ℕ → Checked
+unfoldable pub checked_of : List ℕ → List ℕ → Result Verdict Refusal
 checked_of text list = checked_by (symbol_answer text).answer (symbol_answer text) list

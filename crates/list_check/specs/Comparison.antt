@@ -1,6 +1,6 @@
 -- Entries against the set of motions of a symbol: what foreign, repeated and missing mean, and that the tests of the definition say it. The idea: the set is
 -- the listed operations with L added, and each rotation is listed once.
-use Rattle.std.specs.Prelude.{◌≡◌, refl, ◌⊎◌, ◌↔◌, Bool, false, cond, ◌||◌, ℕ, zero, suc, ◌≤◌, ◌<◌, min, ltb}
+use Rattle.std.specs.Prelude.{◌≡◌, refl, ◌⊎◌, ◌↔◌, Bool, false, cond, ◌||◌, ℕ, zero, suc, ◌≤◌, ◌<◌, min, ltb, Ok, Result}
 use Rattle.std.proofs.Common.{sym, ◌∙◌, arith, lt-ltb, le-ltb, ltb-true, ltb-false}
 use Rattle.std.proofs.Math.Path.{ap}
 use Rattle.std.proofs.Math.Logic.{inl, inr}
@@ -28,8 +28,10 @@ use Rattle.space_group_theorems.specs.Members.{rotation-generated, rotations-onc
 use Rattle.space_group_theorems.specs.SetOfMotions.{InGeneratedSet, set-exactly}
 use Rattle.list_check.specs.Checked.{alike, foreign_at, repeated_at, off_at, missing_at, no_code, lowest, missing_answer, entries_answer}
 use Rattle.list_check.specs.Answers.{turns, off-answer, on-answer}
-use Rattle.list_check.specs.Slots.{alike-parts, alike-symmetric}
-use Rattle.list_check.specs.declared.Checked.TheVariants.{Yes, Entry, Missing}
+use Rattle.list_check.specs.Slots.{alike-parts}
+use Rattle.list_check.specs.declared.Verdict.{Verdict}
+use Rattle.list_check.specs.declared.Verdict.TheVariants.{Entry, Missing, Yes}
+use Rattle.list_check.specs.declared.refusal.Refusal.{Refusal}
 
 -- ---- what is said of n entries
 module _ (c : Centering) (gens : List Operation) (n : ℕ) (entry : ℕ → Operation) where
@@ -286,14 +288,14 @@ module _
     code_below k h = code_lt (operation k).rotation (listed-digits k h)
 
     -- By the first entry that is off, and then by the lowest code.
-    answer-off : FirstPassing off n (first off n) → entries_answer c count operation n entry ≡ Entry (first off n)
+    answer-off : FirstPassing off n (first off n) → entries_answer c count operation n entry ≡ Ok (Entry (first off n))
     answer-off f = off-answer c count operation n entry f.below
 
     answer-on : first off n ≡ n → entries_answer c count operation n entry ≡ missing_answer (lowest missing code count)
     answer-on e = on-answer c count operation n entry (omega arith)
 
     -- The answer names entry i exactly if it is the first that is foreign or repeated,
-    pub entry_named : (i : ℕ) → (entries_answer c count operation n entry ≡ Entry i) ↔ FirstOffEntry c gens n entry i
+    pub entry_named : (i : ℕ) → (entries_answer c count operation n entry ≡ Ok (Entry i)) ↔ FirstOffEntry c gens n entry i
     entry_named i = (
       (λ e. elim (first-cases off n) [
         | inl f ↦ let same : first off n ≡ i = let d = sym (answer-off f) ∙ e in cc in named (rw same at f)
@@ -306,13 +308,13 @@ module _
             before = λ j h. (on-exactly j (let w = f.within in omega arith)).1 (f.before j h);
           } in
           let same = first_found off n i passing in
-          answer-off (rw same passing) ∙ ap Entry same,
+          answer-off (rw same passing) ∙ ap (λ x. Ok (Entry x)) same,
     )
       where
-        not_entry : (k : ℕ) → missing_answer k ≡ Entry i → ⊥
+        not_entry : (k : ℕ) → missing_answer k ≡ Ok (Entry i) → ⊥
         not_entry k = by-test (ltb k no_code)
           where
-            by-test : (b : Bool) → cond b (Missing k) Yes ≡ Entry i → ⊥
+            by-test : (b : Bool) → cond {A = Result Verdict Refusal} b (Ok (Missing k)) (Ok Yes) ≡ Ok (Entry i) → ⊥
             by-test true e = let z : ◌≡◌ {A = ℕ} 0 1 = cc in omega arith
             by-test false e = let z : ◌≡◌ {A = ℕ} 0 1 = cc in omega arith
 
@@ -325,7 +327,7 @@ module _
             }
 
     -- it names a code exactly if that is the lowest of a rotation that no entry has,
-    pub missing-named : (m : ℕ) → (entries_answer c count operation n entry ≡ Missing m) ↔ LowestLacking c gens n entry m
+    pub missing-named : (m : ℕ) → (entries_answer c count operation n entry ≡ Ok (Missing m)) ↔ LowestLacking c gens n entry m
     missing-named m = (
       (λ e. elim (first-cases off n) [
         | inl f ↦ absurd (let d = sym (answer-off f) ∙ e in let z : ◌≡◌ {A = ℕ} 0 1 = cc in omega arith)
@@ -334,7 +336,7 @@ module _
       back,
     )
       where
-        missing-code : (k : ℕ) (b : Bool) → ltb k no_code ≡ b → cond b (Missing k) Yes ≡ Missing m → (k < no_code) × (k ≡ m)
+        missing-code : (k : ℕ) (b : Bool) → ltb k no_code ≡ b → cond {A = Result Verdict Refusal} b (Ok (Missing k)) (Ok Yes) ≡ Ok (Missing m) → (k < no_code) × (k ≡ m)
         missing-code k true t e = (ltb-true k no_code t, cc)
         missing-code k false t e = let z : ◌≡◌ {A = ℕ} 0 1 = cc in absurd (omega arith)
 
@@ -353,7 +355,7 @@ module _
                   omega arith;
             }
 
-        back : LowestLacking c gens n entry m → entries_answer c count operation n entry ≡ Missing m
+        back : LowestLacking c gens n entry m → entries_answer c count operation n entry ≡ Ok (Missing m)
         back L =
             let on : (i : ℕ) → i < n → off i ≡ false = λ i h. (on-exactly i h).1 (L.none-off i h) in
             let (k, h, t, e) = lacking-misses L.rotation L.lacking in
@@ -364,10 +366,10 @@ module _
             let (j, b, s, q) = lowest-found missing code count low in
             let least = L.least (operation j).rotation (missing-lacks on j b s) in
             let same : lowest missing code count ≡ m = omega arith in
-            answer-on (first-none off n on) ∙ rw (lt-ltb (lowest missing code count) no_code low) (ap Missing same)
+            answer-on (first-none off n on) ∙ rw (lt-ltb (lowest missing code count) no_code low) (ap (λ x. Ok (Missing x)) same)
 
     -- and it is yes exactly if the entries are the set of motions modulo L, each once.
-    pub yes-said : (entries_answer c count operation n entry ≡ Yes) ↔ Whole c gens n entry
+    pub yes-said : (entries_answer c count operation n entry ≡ Ok Yes) ↔ Whole c gens n entry
     yes-said = (
       (λ e. elim (first-cases off n) [
         | inl f ↦ absurd (let d = sym (answer-off f) ∙ e in let z : ◌≡◌ {A = ℕ} 0 1 = cc in omega arith)
@@ -377,7 +379,7 @@ module _
       back,
     )
       where
-        none-low : (k : ℕ) (b : Bool) → ltb k no_code ≡ b → cond b (Missing k) Yes ≡ Yes → no_code ≤ k
+        none-low : (k : ℕ) (b : Bool) → ltb k no_code ≡ b → cond {A = Result Verdict Refusal} b (Ok (Missing k)) (Ok Yes) ≡ Ok Yes → no_code ≤ k
         none-low k true t e = let z : ◌≡◌ {A = ℕ} 0 1 = cc in absurd (omega arith)
         none-low k false t e = ltb-false k no_code t
 
@@ -397,7 +399,7 @@ module _
               );
             }
 
-        back : Whole c gens n entry → entries_answer c count operation n entry ≡ Yes
+        back : Whole c gens n entry → entries_answer c count operation n entry ≡ Ok Yes
         back W = answer-on (first-none off n on) ∙ rw (le-ltb (lowest missing code count) no_code high) refl
           where
             on : (i : ℕ) → i < n → off i ≡ false

@@ -1,5 +1,5 @@
 -- The entries of a list as numbers: which are in range, which lists are well formed, and what operation an entry in range says.
-use Rattle.std.specs.Prelude.{◌≡◌, refl, ◌⊎◌, ◌↔◌, true, ◌&&◌, List, ℕ, ◌+◌, ◌*◌, ◌-◌, ◌%◌, ◌≤◌, ◌<◌, eqb, leb, ltb, length, get_or, take, drop}
+use Rattle.std.specs.Prelude.{◌≡◌, refl, ◌⊎◌, ◌↔◌, true, ◌&&◌, List, ℕ, ◌+◌, ◌*◌, ◌-◌, ◌%◌, ◌≤◌, ◌<◌, eqb, leb, ltb, length, get_or, take, drop, Some}
 use Rattle.std.proofs.Common.{sym, ◌∙◌, inl, inr, true≢false, add-zero, eq-eqb, ne_eqb, eqb-true, le-leb, leb-true, lt-ltb, ltb-true, length-take, length-drop, get_or-take, get_or-drop}
 use Rattle.std.proofs.Math.Path.{ap}
 use Rattle.std.proofs.Math.Bool.{false}
@@ -10,7 +10,6 @@ use Rattle.operation.specs.Code.{rotation_of, rotation-digits}
 use Rattle.operation.specs.Meaning.{Digits}
 use Rattle.five_bytes.specs.FiveBytes.{below_twelve, code_in, translation_in, five_bytes_of}
 use Rattle.five_bytes.specs.OneForm.{twelve-below, below_twelve_lem}
-use Rattle.five_bytes.specs.declared.FiveBytes.TheVariants.{Is}
 use Rattle.laws.specs.Truth.{and_both, both-and, and-fails, and-fails-left, passes-or-fails}
 use Rattle.list_check.specs.Checked.{length_fits, entry_count, bytes_at, is_wrong, wrong_at, entry_at}
 
@@ -67,7 +66,7 @@ length-wrong list = (forth, back)
 -- What they are, by their numbers.
 right-five : (bytes : List ℕ) → length bytes ≡ 5 → code_in bytes < 19683 → (translation_in bytes).x < 12 → (translation_in bytes).y < 12
     → (translation_in bytes).z < 12
-    → five_bytes_of bytes ≡ Is (record { rotation = rotation_of (code_in bytes); translation = translation_in bytes })
+    → five_bytes_of bytes ≡ Some (record { rotation = rotation_of (code_in bytes); translation = translation_in bytes })
 unfolding five_bytes_of
 right-five bytes long h x y z = rw (eq-eqb (length bytes) 5 long, twelve-below (translation_in bytes) x y z, lt-ltb (code_in bytes) 19683 h) refl
 
@@ -97,7 +96,7 @@ module _ (list : List ℕ) (i : ℕ) (inside : 5 * i + 5 ≤ length list) where
 
   -- An entry in range says the operation of its code and coordinates,
   pub entry-said : InRange list i → five_bytes_of (bytes_at list i)
-      ≡ Is (record { rotation = rotation_of (code_in (bytes_at list i)); translation = translation_in (bytes_at list i) })
+      ≡ Some (record { rotation = rotation_of (code_in (bytes_at list i)); translation = translation_in (bytes_at list i) })
   entry-said r =
       let a = first_byte in
       let b = byte_at 1 (omega arith) in

@@ -2,7 +2,7 @@
 -- repeated, the lowest missing code, or yes, said of the text's set of motions.
 use Rattle.std.proofs.Math.Path.{◌≡◌, refl, sym, ap}
 use Rattle.std.proofs.Common.{◌∙◌, subst}
-use Rattle.std.specs.Prelude.{◌⊎◌, ◌↔◌, Bool, cond, ℕ, ◌<◌, ltb, length}
+use Rattle.std.specs.Prelude.{◌⊎◌, ◌↔◌, Bool, cond, ℕ, ◌<◌, ltb, length, Err, Ok, Result}
 use Rattle.std.proofs.Math.Logic.{inl, inr}
 use Rattle.std.proofs.Math.Bool.{true, false}
 use mathlib.Core.List.{List, Memᴰ as Mem}
@@ -11,7 +11,6 @@ use Rattle.operation.specs.Meaning.{Digits}
 use Rattle.operation.specs.Product.{identity_operation}
 use Rattle.operation.specs.declared.Operation.{Operation}
 use Rattle.centering.specs.declared.Centering.{Centering}
-use Rattle.hall_symbol.specs.Reader.{symbol}
 use Rattle.hall_symbol.specs.Spelling.{Spells}
 use Rattle.hall_symbol.specs.Agreement.{spells-once}
 use Rattle.subgroup_laws.specs.Bounded.{first, FirstPassing, first_found, first-none, first-cases}
@@ -29,10 +28,10 @@ use Rattle.list_check.specs.Checked.{length_fits, entry_count, wrong_at, entry_a
 use Rattle.list_check.specs.Answers.{length-answer, range-answer, entries-answer, slot-listed}
 use Rattle.list_check.specs.Comparison.{Whole, FirstOffEntry, LowestLacking, entry_named, missing-named, yes-said}
 use Rattle.list_check.specs.Entries.{RightLength, WellFormed, WrongLength, FirstWrong, length-right, length-wrong, entry-inside, entry-digits, entry-right, entry-wrong}
-use Rattle.list_check.specs.declared.Checked.{Checked}
-use Rattle.list_check.specs.declared.Checked.TheVariants.{Yes, Entry, Missing, Refused}
 use Rattle.list_check.specs.declared.refusal.Refusal.{Refusal}
 use Rattle.list_check.specs.declared.refusal.Refusal.TheVariants.{Symbol, Length, Entry as WrongEntry}
+use Rattle.list_check.specs.declared.Verdict.TheVariants.{Entry, Missing, Yes}
+use Rattle.list_check.specs.declared.Verdict.{Verdict}
 
 -- The text spells this symbol, and its generators make a group.
 abbrev pub Accepts : List ℕ → Centering → List Operation → Type 0
@@ -72,7 +71,7 @@ module _ (c : Centering) (count : ℕ) (operation : ℕ → Operation) (list : L
       entries-answer c count operation list right (omega arith)
 
   -- one with an entry out of range is refused 44,
-  wrong-entry : (i : ℕ) → FirstWrong list i → list_answer c count operation list ≡ Refused (WrongEntry i)
+  wrong-entry : (i : ℕ) → FirstWrong list i → list_answer c count operation list ≡ Err (WrongEntry i)
   wrong-entry i F =
       let right = F.right-length in
       let within = F.within in
@@ -82,7 +81,7 @@ module _ (c : Centering) (count : ℕ) (operation : ℕ → Operation) (list : L
         before = λ j h. (entry-right list j (entry-inside list right j (omega arith))).1 (F.before j h);
       } in
       let same = first_found (wrong_at list) (entry_count list) i passing in
-      range-answer c count operation list right (omega arith) ∙ ap (λ (k : ℕ). Refused (WrongEntry k)) same
+      range-answer c count operation list right (omega arith) ∙ ap (λ (k : ℕ). (Err (WrongEntry k))) same
 
   -- and one of these holds of any list.
   cases : WrongLength list ⊎ (((i : ℕ) × FirstWrong list i) ⊎ WellFormed list)
@@ -106,7 +105,7 @@ module _ (c : Centering) (count : ℕ) (operation : ℕ → Operation) (list : L
       ]
 
   -- What only a comparison answers is answered for a well-formed list alone.
-  only-compared : (x : Checked) → ((r : ℕ) → ¬ (Refused (WrongEntry r) ≡ x)) → ¬ (Refused Length ≡ x)
+  only-compared : (x : Result Verdict Refusal) → ((r : ℕ) → ¬ (Err (WrongEntry r) ≡ x)) → ¬ (Err Length ≡ x)
       → (list_answer c count operation list ≡ x) ↔ (WellFormed list × (entries_answer c count operation (entry_count list) (entry_at list) ≡ x))
   only-compared x not_entry not-length = (
     (λ e. elim cases [
@@ -120,18 +119,18 @@ module _ (c : Centering) (count : ℕ) (operation : ℕ → Operation) (list : L
   )
 
   -- The comparison refuses nothing,
-  never-refused : (n : ℕ) (entry : ℕ → Operation) (r : Refusal) → ¬ (entries_answer c count operation n entry ≡ Refused r)
+  never-refused : (n : ℕ) (entry : ℕ → Operation) (r : Refusal) → ¬ (entries_answer c count operation n entry ≡ Err r)
   unfolding entries_answer
   never-refused n entry r =
       by_tests (ltb (first (off_at c count operation entry) n) n) (ltb (lowest (missing_at c n entry operation) (λ k. turn_of (operation k)) count) no_code) _ _
     where
-      by_tests : (a b : Bool) (i k : ℕ) → ¬ (cond a (Entry i) (cond b (Missing k) Yes) ≡ Refused r)
+      by_tests : (a b : Bool) (i k : ℕ) → ¬ (cond a (Ok (Entry i)) (cond b (Ok (Missing k)) (Ok Yes)) ≡ Err r)
       by_tests true b i k e = let z : ◌≡◌ {A = ℕ} 0 1 = cc in omega arith
       by_tests false true i k e = let z : ◌≡◌ {A = ℕ} 0 1 = cc in omega arith
       by_tests false false i k e = let z : ◌≡◌ {A = ℕ} 0 1 = cc in omega arith
 
   -- so 43 and 44 are answered exactly by their rules.
-  length-refused : (list_answer c count operation list ≡ Refused Length) ↔ WrongLength list
+  length-refused : (list_answer c count operation list ≡ Err Length) ↔ WrongLength list
   length-refused = (
     (λ e. elim cases [
       | inl w ↦ w
@@ -143,7 +142,7 @@ module _ (c : Centering) (count : ℕ) (operation : ℕ → Operation) (list : L
     length-answer c count operation list,
   )
 
-  entry-refused : (i : ℕ) → (list_answer c count operation list ≡ Refused (WrongEntry i)) ↔ FirstWrong list i
+  entry-refused : (i : ℕ) → (list_answer c count operation list ≡ Err (WrongEntry i)) ↔ FirstWrong list i
   entry-refused i = (
     (λ e. elim cases [
       | inl w ↦ absurd (let d = sym (length-answer c count operation list w) ∙ e in let z : ◌≡◌ {A = ℕ} 0 1 = cc in omega arith)
@@ -158,7 +157,7 @@ module _ (c : Centering) (count : ℕ) (operation : ℕ → Operation) (list : L
 -- ---- by the text
 module _ (text list : List ℕ) where
   -- An answer that is not the symbol's refusal is that of the list for the symbol that the text spells.
-  by-symbol : (x : Checked) → ((r : symbol-refusal.Refusal) → ¬ (Refused (Symbol r) ≡ x)) → (P : Centering → List Operation → Type 0)
+  by-symbol : (x : Result Verdict Refusal) → ((r : symbol-refusal.Refusal) → ¬ (Err (Symbol r) ≡ x)) → (P : Centering → List Operation → Type 0)
       → ((T : AcceptedText text) → (list_answer (symbol_answer text).centering (symbol_answer text).count (slot_at (symbol_answer text).operations) list ≡ x)
       ↔ P T.letter T.generators)
       → (checked_of text list ≡ x) ↔ ((c : Centering) × (gens : List Operation) × Accepts text c gens × P c gens)
@@ -186,7 +185,7 @@ module _ (text list : List ℕ) where
     ranged-digits (right, ranged) i h = entry-digits list i (entry-inside list right i h) (ranged i h)
 
     -- What a comparison says, of a well-formed list.
-    well-formed : (x : Checked) → ((r : ℕ) → ¬ (Refused (WrongEntry r) ≡ x)) → ¬ (Refused Length ≡ x) → (Q : Type 0)
+    well-formed : (x : Result Verdict Refusal) → ((r : ℕ) → ¬ (Err (WrongEntry r) ≡ x)) → ¬ (Err Length ≡ x) → (Q : Type 0)
         → (WellFormed list → (entries_answer T.letter (count text T) (operation text T) (entry_count list) (entry_at list) ≡ x) ↔ Q)
         → (list_answer (symbol_answer text).centering (count text T) (operation text T) list ≡ x) ↔ (WellFormed list × Q)
     well-formed x not_entry not-length Q said =
@@ -197,60 +196,60 @@ module _ (text list : List ℕ) where
 
   -- Yes: exactly if the text is accepted, the list is well formed, no two entries are one operation modulo L, and with L added they are the text's set of
   -- motions.
-  pub yes-exactly : (checked_of text list ≡ Yes)
+  pub yes-exactly : (checked_of text list ≡ Ok Yes)
       ↔ ((c : Centering) × (gens : List Operation) × Accepts text c gens × (WellFormed list × Whole c gens (entry_count list) (entry_at list)))
   yes-exactly =
-      by-symbol Yes (λ r e. let z : ◌≡◌ {A = ℕ} 0 1 = cc in omega arith) (λ c gens. WellFormed list × Whole c gens (entry_count list) (entry_at list))
-      (λ T. well-formed T Yes (λ r e. let z : ◌≡◌ {A = ℕ} 0 1 = cc in omega arith) (λ e. let z : ◌≡◌ {A = ℕ} 0 1 = cc in omega arith)
+      by-symbol (Ok Yes) (λ r e. let z : ◌≡◌ {A = ℕ} 0 1 = cc in omega arith) (λ c gens. WellFormed list × Whole c gens (entry_count list) (entry_at list))
+      (λ T. well-formed T (Ok Yes) (λ r e. let z : ◌≡◌ {A = ℕ} 0 1 = cc in omega arith) (λ e. let z : ◌≡◌ {A = ℕ} 0 1 = cc in omega arith)
       (Whole T.letter T.generators (entry_count list) (entry_at list))
       (λ well. yes-said T.letter T.generators T.operations T.steps T.accepted (count text T) (operation text T) (listed text T) (indexed text T)
       (entry_count list) (entry_at list) (ranged-digits T well)))
 
   -- Entry i: exactly if all that is well, and i is the first entry that is no motion of the set or differs from an entry before it by a translation of L.
-  pub entry-exactly : (i : ℕ) → (checked_of text list ≡ Entry i)
+  pub entry-exactly : (i : ℕ) → (checked_of text list ≡ Ok (Entry i))
       ↔ ((c : Centering) × (gens : List Operation) × Accepts text c gens × (WellFormed list × FirstOffEntry c gens (entry_count list) (entry_at list) i))
   entry-exactly i =
-      by-symbol (Entry i) (λ r e. let z : ◌≡◌ {A = ℕ} 0 1 = cc in
+      by-symbol (Ok (Entry i)) (λ r e. let z : ◌≡◌ {A = ℕ} 0 1 = cc in
       omega arith) (λ c gens. WellFormed list × FirstOffEntry c gens (entry_count list) (entry_at list) i)
-      (λ T. well-formed T (Entry i) (λ r e. let z : ◌≡◌ {A = ℕ} 0 1 = cc in omega arith) (λ e. let z : ◌≡◌ {A = ℕ} 0 1 = cc in omega arith)
+      (λ T. well-formed T (Ok (Entry i)) (λ r e. let z : ◌≡◌ {A = ℕ} 0 1 = cc in omega arith) (λ e. let z : ◌≡◌ {A = ℕ} 0 1 = cc in omega arith)
       (FirstOffEntry T.letter T.generators (entry_count list) (entry_at list) i)
       (λ well. entry_named T.letter T.generators T.operations T.steps T.accepted (count text T) (operation text T) (listed text T)
       (indexed text T) (entry_count list) (entry_at list) (ranged-digits T well) i))
 
   -- Missing: exactly if no entry is so, and this is the lowest code of a rotation of the set that no entry has.
-  pub missing-exactly : (code : ℕ) → (checked_of text list ≡ Missing code)
+  pub missing-exactly : (code : ℕ) → (checked_of text list ≡ Ok (Missing code))
       ↔ ((c : Centering) × (gens : List Operation) × Accepts text c gens × (WellFormed list × LowestLacking c gens (entry_count list) (entry_at list) code))
   missing-exactly m =
-      by-symbol (Missing m) (λ r e. let z : ◌≡◌ {A = ℕ} 0 1 = cc in
+      by-symbol (Ok (Missing m)) (λ r e. let z : ◌≡◌ {A = ℕ} 0 1 = cc in
       omega arith) (λ c gens. WellFormed list × LowestLacking c gens (entry_count list) (entry_at list) m)
-      (λ T. well-formed T (Missing m) (λ r e. let z : ◌≡◌ {A = ℕ} 0 1 = cc in omega arith) (λ e. let z : ◌≡◌ {A = ℕ} 0 1 = cc in omega arith)
+      (λ T. well-formed T (Ok (Missing m)) (λ r e. let z : ◌≡◌ {A = ℕ} 0 1 = cc in omega arith) (λ e. let z : ◌≡◌ {A = ℕ} 0 1 = cc in omega arith)
       (LowestLacking T.letter T.generators (entry_count list) (entry_at list) m)
       (λ well. missing-named T.letter T.generators T.operations T.steps T.accepted (count text T) (operation text T) (listed text T)
       (indexed text T) (entry_count list) (entry_at list) (ranged-digits T well) m))
 
   -- 43: exactly if the text is accepted, and the length is no multiple of five or over 240.
-  pub length-exactly : (checked_of text list ≡ Refused Length) ↔ ((c : Centering) × (gens : List Operation) × Accepts text c gens × WrongLength list)
+  pub length-exactly : (checked_of text list ≡ Err Length) ↔ ((c : Centering) × (gens : List Operation) × Accepts text c gens × WrongLength list)
   length-exactly =
-      by-symbol (Refused Length) (λ r e. let z : ◌≡◌ {A = ℕ} 0 1 = cc in omega arith) (λ c gens. WrongLength list)
+      by-symbol (Err Length) (λ r e. let z : ◌≡◌ {A = ℕ} 0 1 = cc in omega arith) (λ c gens. WrongLength list)
       (λ T. length-refused (symbol_answer text).centering (count text T) (operation text T) list)
 
   -- 44 at i: exactly if the text is accepted, the length is right, and i is the first entry with a code over 19682 or a coordinate over 11.
-  pub range-exactly : (i : ℕ) → (checked_of text list ≡ Refused (WrongEntry i))
+  pub range-exactly : (i : ℕ) → (checked_of text list ≡ Err (WrongEntry i))
       ↔ ((c : Centering) × (gens : List Operation) × Accepts text c gens × FirstWrong list i)
   range-exactly i =
-      by-symbol (Refused (WrongEntry i)) (λ r e. let z : ◌≡◌ {A = ℕ} 0 1 = cc in omega arith) (λ c gens. FirstWrong list i)
+      by-symbol (Err (WrongEntry i)) (λ r e. let z : ◌≡◌ {A = ℕ} 0 1 = cc in omega arith) (λ c gens. FirstWrong list i)
       (λ T. entry-refused (symbol_answer text).centering (count text T) (operation text T) list i)
 
   -- The symbol's own refusals go first, whatever the list is.
-  pub symbol-first : (r : symbol-refusal.Refusal) → (checked_of text list ≡ Refused (Symbol r)) ↔ ((symbol_answer text).answer ≡ NoGroup r)
+  pub symbol-first : (r : symbol-refusal.Refusal) → (checked_of text list ≡ Err (Symbol r)) ↔ ((symbol_answer text).answer ≡ NoGroup r)
   unfolding checked_of
   symbol-first r = (by_answer (symbol_answer text).answer, λ e. rw e refl)
     where
-      by_answer : (a : Answer) → checked_by a (symbol_answer text) list ≡ Refused (Symbol r) → a ≡ NoGroup r
+      by_answer : (a : Answer) → checked_by a (symbol_answer text) list ≡ Err (Symbol r) → a ≡ NoGroup r
       by_answer Group e = absurd (not-symbol e)
         where
           not-symbol : list_answer (symbol_answer text).centering (symbol_answer text).count (slot_at (symbol_answer text).operations) list
-              ≡ Refused (Symbol r) → ⊥
+              ≡ Err (Symbol r) → ⊥
           not-symbol e = elim (cases (symbol_answer text).centering (symbol_answer text).count (slot_at (symbol_answer text).operations) list) [
             | inl w ↦ let d = sym (length-answer _ _ _ list w) ∙ e in let z : ◌≡◌ {A = ℕ} 0 1 = cc in omega arith
             | inr rest ↦ elim rest [

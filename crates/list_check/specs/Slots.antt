@@ -1,7 +1,10 @@
 -- What the code keeps of the entries that it has passed: the set of the operations that they are, by index. While no entry is off, an operation is in the set
 -- exactly if an entry is alike to it, so the set tells a repeated entry, and in the end what is missing.
-use Rattle.std.specs.Prelude.{◌≡◌, refl, ◌↔◌, Bool, cond, List, ℕ, zero, suc, ◌+◌, ◌≤◌, ◌<◌, ◌^◌, min, eqb, length, get_or}
-use Rattle.std.proofs.Common.{sym, ◌∙◌, ap, true≢false, add-one, arith, eqb-true, eq-eqb, ne_eqb}
+use Rattle.std.specs.Prelude.{◌≡◌, refl, ◌↔◌, Bool, cond, Option, Some, None, MatchOption, Result, Ok, Err, List, ℕ, zero, suc, ◌+◌, ◌≤◌, ◌<◌, ◌^◌, min, eqb, ltb, length, get_or, position}
+use Rattle.std.specs.List.{position_or_len}
+use Rattle.std.proofs.Common.{sym, ◌∙◌, ap, true≢false, add-one, arith, eqb-true, eq-eqb, ne_eqb, lt-ltb, le-ltb, ltb-true, ltb-false, subst}
+use Rattle.std.proofs.lemmas.List.Quantifiers.{position-Some}
+use Rattle.std.proofs.lemmas.List.Sums.{fails_before_first}
 use Rattle.std.proofs.Math.Path.{ap₂}
 use Rattle.std.proofs.Math.Logic.{inl, inr}
 use Rattle.std.proofs.Math.Bool.{true, false, not, ◌||◌}
@@ -20,8 +23,7 @@ use Rattle.centering.specs.LatticeLaws.{congruent-lattice}
 use Rattle.centering.specs.declared.Centering.{Centering}
 use Rattle.subgroup_laws.specs.Bounded.{some, first, passes-some, some-passes, first_found, first-none, first-cases}
 use Rattle.space_group.specs.Traversal.{turn_of}
-use Rattle.list_check.specs.Checked.{alike, foreign_at, repeated_at, off_at, lowest, slot_at, entry_at}
-use Rattle.list_check.specs.declared.comparing.Compared.{Compared}
+use Rattle.list_check.specs.Checked.{alike, foreign_at, repeated_at, off_at, no_code, lowest, slot_at, entry_count, entry_at}
 
 -- ---- one operation modulo the lattice
 -- The test says: one code, and translations that differ by a vector of L.
@@ -85,8 +87,42 @@ pub first-here : (p : ℕ → Bool) (n i : ℕ) → i < n → ((j : ℕ) → j <
 first-here p n i h before e = sym (first_found p n i (record { below = h; passes = e; before = before }))
 
 -- and where all fail none is found.
-pub first-nowhere : (p : ℕ → Bool) (n i : ℕ) → n ≤ i → ((j : ℕ) → j < i → p j ≡ false) → n ≡ first p n
-first-nowhere p n i h before = sym (first-none p n (λ j l. before j (omega arith)))
+pub first-nowhere : (p : ℕ → Bool) (n : ℕ) → ((j : ℕ) → j < n → p j ≡ false) → n ≡ first p n
+first-nowhere p n before = sym (first-none p n before)
+
+-- The first number below n that passes, if one does.
+abbrev pub first_below : (ℕ → Bool) → ℕ → Option ℕ
+first_below p n = cond (ltb (first p n) n) (Some (first p n)) None
+
+-- What a search of them found,
+pub below-found : (p : ℕ → Bool) (n i : ℕ) → i < n → p i ≡ true → ((j : ℕ) → j < i → p j ≡ false) → Some i ≡ first_below p n
+below-found p n i h e before = rw (← first-here p n i h before e, lt-ltb i n h) refl
+
+-- or that it found none.
+pub below-nothing : (p : ℕ → Bool) (n : ℕ) → ((j : ℕ) → j < n → p j ≡ false) → None ≡ first_below p n
+below-nothing p n none = rw (first-none p n none, le-ltb n n (omega arith)) refl
+
+-- What a search over them says.
+pub below-by : (p : ℕ → Bool) (n : ℕ) (r : Option ℕ) → MatchOption r ((k : ℕ) → 0 ≤ k → k < n → p k ≡ false)
+    (λ i. (0 ≤ i) × (i < n) × (p i ≡ true) × ((k : ℕ) → 0 ≤ k → k < i → p k ≡ false)) → r ≡ first_below p n
+below-by p n None none = below-nothing p n (λ k h. none k (omega arith) h)
+below-by p n (Some i) (low, h, e, before) = below-found p n i h e (λ k l. before k (omega arith) l)
+
+-- The first is there if it is found,
+pub found-below : (p : ℕ → Bool) (n i : ℕ) → Some i ≡ first_below p n → (i < n) × (i ≡ first p n)
+found-below p n i e = by-test (ltb (first p n) n) refl e
+  where
+    by-test : (b : Bool) → ltb (first p n) n ≡ b → Some i ≡ cond b (Some (first p n)) None → (i < n) × (i ≡ first p n)
+    by-test true t e = let same : i ≡ first p n = cc in (rw same (ltb-true (first p n) n t), same)
+    by-test false t e = let z : ◌≡◌ {A = ℕ} 0 1 = cc in absurd (omega arith)
+
+-- and none is there if none is.
+pub nothing-below : (p : ℕ → Bool) (n : ℕ) → None ≡ first_below p n → n ≤ first p n
+nothing-below p n e = by-test (ltb (first p n) n) refl e
+  where
+    by-test : (b : Bool) → ltb (first p n) n ≡ b → None ≡ cond b (Some (first p n)) None → n ≤ first p n
+    by-test true t e = let z : ◌≡◌ {A = ℕ} 0 1 = cc in absurd (omega arith)
+    by-test false t e = ltb-false (first p n) n t
 
 -- One more that fails.
 pub one_more : (p : ℕ → Bool) (i : ℕ) → ((j : ℕ) → j < i → p j ≡ false) → p i ≡ false → (j : ℕ) → j < i + 1 → p j ≡ false
@@ -106,25 +142,78 @@ Once count operation = (j k : ℕ) → j < count → k < count → turn_of (oper
 unfoldable pub lowest_unseen : ℕ → List Operation → ℕ → ℕ
 lowest_unseen count operations seen = lowest (λ k. not (member seen k)) (λ k. turn_of (slot_at operations k)) count
 
+-- Each rotation of the group has a code.
+abbrev pub Coded : ℕ → (ℕ → Operation) → Type 0
+Coded count operation = (k : ℕ) → k < count → turn_of (operation k) < no_code
+
+-- A code, or none.
+abbrev pub code_found : ℕ → Option ℕ
+code_found code = cond (ltb code no_code) (Some code) None
+
+-- The lowest code of the operations below k that were not seen.
+abbrev pub unseen_below : ℕ → List Operation → ℕ → ℕ
+unseen_below seen operations k = lowest (λ j. not (member seen j)) (λ j. turn_of (slot_at operations j)) k
+
 -- One more operation, seen or not.
-pub unseen-next : (seen : ℕ) (operations : List Operation) (k best : ℕ) (d : Operation) → k < length operations
-    → best ≡ lowest (λ j. not (member seen j)) (λ j. turn_of (slot_at operations j)) k
-    → cond (member seen k) best (min (turn_of (get_or operations k d)) best) ≡ lowest (λ j. not (member seen j)) (λ j. turn_of (slot_at operations j)) (k + 1)
+pub seen-stays : (seen : ℕ) (operations : List Operation) (k : ℕ) → member seen k ≡ true
+    → unseen_below seen operations k ≡ unseen_below seen operations (k + 1)
 unfolding lowest
-unseen-next seen operations k best d h e = rw (slot_is operations k d h, add-one k, ← e) (by-test (member seen k))
+seen-stays seen operations k e = rw (add-one k, e) refl
+
+pub unseen-next : (seen : ℕ) (operations : List Operation) (k : ℕ) → member seen k ≡ false
+    → min (turn_of (slot_at operations k)) (unseen_below seen operations k) ≡ unseen_below seen operations (k + 1)
+unfolding lowest
+unseen-next seen operations k e = rw (add-one k, e) refl
+
+-- The lower of a code and one that was found, or that code if none was.
+pub lower-found : (code low r : ℕ) (o : Option ℕ) → code < no_code → o ≡ code_found low → MatchOption o (r ≡ code) (λ best. r ≡ min best code)
+    → Some r ≡ code_found (min code low)
+lower-found code low r o h e m = by-test (ltb low no_code) refl (subst (λ (o : Option ℕ). MatchOption o (r ≡ code) (λ best. r ≡ min best code)) e m)
   where
-    by-test : (b : Bool) → cond b best (min (turn_of (slot_at operations k)) best) ≡ cond (not b) (min (turn_of (slot_at operations k)) best) best
-    by-test true = refl
-    by-test false = refl
+    by-test : (b : Bool) → ltb low no_code ≡ b → MatchOption (cond b (Some low) None) (r ≡ code) (λ best. r ≡ min best code)
+        → Some r ≡ code_found (min code low)
+    by-test true t e =
+        let same : r ≡ min code low = omega (arith, e) in
+        rw (← same, lt-ltb r no_code (omega arith)) refl
+    by-test false t e =
+        let high = ltb-false low no_code t in
+        let same : r ≡ min code low = omega (arith, e) in
+        rw (← same, lt-ltb r no_code (omega arith)) refl
 
 -- The set holds the operations that the first i entries are.
 abbrev pub Seen : Centering → ℕ → (ℕ → Operation) → (ℕ → Operation) → ℕ → ℕ → Type 0
 Seen c count operation entry i seen = (k : ℕ) → k < count → member seen k ≡ some (λ j. alike c (operation k) (entry j)) i
 
--- The first entry that is off, and if none is, the set that all entries make.
-pub record Compares (c : Centering) (count : ℕ) (operations : List Operation) (n : ℕ) (list : List ℕ) (r : Compared) : Type 0 where
-  pub found : r.at ≡ first (off_at c count (slot_at operations) (entry_at list)) n
-  pub seen : n ≤ r.at → Seen c count (slot_at operations) (entry_at list) n r.seen
+-- The set that all entries make if none is off, and else the first that is.
+abbrev pub Compares : Centering → List Operation → List ℕ → Result ℕ ℕ → Type 0
+Compares c operations list (Ok seen) =
+    (entry_count list ≤ first (off_at c (length operations) (slot_at operations) (entry_at list)) (entry_count list))
+    × Seen c (length operations) (slot_at operations) (entry_at list) (entry_count list) seen
+Compares c operations list (Err i) =
+    (i < entry_count list) × (i ≡ first (off_at c (length operations) (slot_at operations) (entry_at list)) (entry_count list))
+
+-- The place that a search of the operations found is the first,
+pub place-found : (c : Centering) (operations : List Operation) (o e : Operation) (k : ℕ) → o ≡ e → Some k ≡ position (alike c o) operations
+    → (k < length operations) × (k ≡ first (λ j. alike c e (slot_at operations j)) (length operations))
+unfolding slot_at
+place-found c operations o e k q found =
+    let (h, there, before) = position-Some (alike c o) operations k identity_operation (sym found) in
+    (h, rw (← q) (first-here (λ j. alike c o (slot_at operations j)) (length operations) k h before there))
+
+-- and it found none if there is none.
+pub place-nothing : (c : Centering) (operations : List Operation) (o e : Operation) → o ≡ e → None ≡ position (alike c o) operations
+    → length operations ≤ first (λ j. alike c e (slot_at operations j)) (length operations)
+unfolding slot_at
+place-nothing c operations o e q none =
+    rw (← q) (omega (arith, first-none (λ j. alike c o (slot_at operations j)) (length operations) (nothing_at (alike c o) operations none)))
+  where
+    nothing_at : (p : Operation → Bool) (xs : List Operation) → None ≡ position p xs → (j : ℕ) → j < length xs → p (get_or xs j identity_operation) ≡ false
+    nothing_at p xs e j h = by-test (ltb (position_or_len p xs) (length xs)) refl e
+      where
+        by-test : (b : Bool) → ltb (position_or_len p xs) (length xs) ≡ b → None ≡ cond b (Some (position_or_len p xs)) None
+            → p (get_or xs j identity_operation) ≡ false
+        by-test true t e = let z : ◌≡◌ {A = ℕ} 0 1 = cc in absurd (omega arith)
+        by-test false t e = fails_before_first p xs j identity_operation (omega (arith, ltb-false (position_or_len p xs) (length xs) t))
 
 module _ (c : Centering) (count : ℕ) (operation entry : ℕ → Operation) (once : Once count operation) where
   -- Nothing is seen before the first entry.

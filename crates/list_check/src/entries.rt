@@ -1,30 +1,26 @@
 // The entries of a list: five bytes each, one after the other.
 ghost use Rattle.std.specs.Prelude.{◌≡◌, ◌+◌, ◌*◌, ◌≤◌, length};
-ghost use Rattle.subgroup_laws.specs.Bounded.{first};
 ghost use Rattle.five_bytes.specs.FiveBytes.{five_bytes_of};
-ghost use Rattle.list_check.specs.Checked.{bytes_at, wrong_at, entry_at};
+ghost use Rattle.list_check.specs.Checked.{bytes_at, entry_count, wrong_at, entry_at};
+ghost use Rattle.list_check.specs.Entries.{RightLength};
+ghost use Rattle.list_check.specs.Slots.{first_below};
 
-use five_bytes::{FiveBytes, operation_in};
+use five_bytes::operation_in;
 use operation::Operation;
 use operation::product::identity;
 
-fn entry(list: &[u8], i: usize) -> FiveBytes
+fn entry(list: &[u8], i: usize) -> Option<Operation>
     requires { 5 * i + 5 ≤ length list.now }
     ensures { result ≡ five_bytes_of (bytes_at list.now i) }
 {
-    let at = 5 * i;
-    let end = at + 5;
-    operation_in(&list[at..end])
+    operation_in(&list[5 * i..5 * i + 5])
 }
 
 fn is_wrong(list: &[u8], i: usize) -> bool
     requires { 5 * i + 5 ≤ length list.now }
     ensures { result ≡ wrong_at list.now i }
 {
-    match entry(list, i) {
-        FiveBytes::Is(_) => false,
-        FiveBytes::Wrong => true,
-    }
+    matches!(entry(list, i), None)
 }
 
 // Five bytes that are no operation give the identity; no list that is compared has such.
@@ -33,22 +29,15 @@ pub(crate) fn operation_at(list: &[u8], i: usize) -> Operation
     ensures { result ≡ entry_at list.now i }
 {
     match entry(list, i) {
-        FiveBytes::Is(operation) => operation,
-        FiveBytes::Wrong => identity(),
+        Some(operation) => operation,
+        None => identity(),
     }
 }
 
-// The index of the first of n entries that is no operation, or n.
-pub(crate) fn first_wrong(list: &[u8], n: usize) -> usize
-    requires { (n ≤ 48) × (5 * n ≤ length list.now) }
-    ensures { result ≡ first (wrong_at list.now) n }
+// The index of the first entry that is no operation.
+pub(crate) fn first_wrong(list: &[u8]) -> Option<usize>
+    requires { RightLength list.now }
+    ensures { result ≡ first_below (wrong_at list.now) (entry_count list.now) }
 {
-    let mut i = 0usize;
-    while i < n {
-        if is_wrong(list, i) {
-            return i;
-        }
-        i += 1;
-    }
-    n
+    (0..list.len() / 5).find(|&i| is_wrong(list, i))
 }

@@ -1,6 +1,6 @@
 -- What is answered for a magnetic symbol's text: the group, its order, its letter, an operation of it, and its list as numbers; or a refusal, 28 for an index
 -- past the end.
-use Rattle.std.specs.Prelude.{cond, List, ℕ, ltb, length, get_or, take}
+use Rattle.std.specs.Prelude.{cond, List, ℕ, ltb, length, get_or, take, Err, None, Ok, Option, Result, Some}
 use Rattle.group_growth.specs.Flagged.{Flagged, held}
 use Rattle.operation.specs.Answer as answer
 use Rattle.operation.specs.Product.{identity_operation}
@@ -9,8 +9,6 @@ use Rattle.centering.specs.declared.Centering.{Centering}
 use Rattle.centering.specs.declared.Centering.TheVariants.{P}
 use Rattle.space_group.specs.FlaggedGenerators.{with_flags}
 use Rattle.space_group.specs.FlaggedOutcomes.{number_outcome, slots_by}
-use Rattle.space_group.specs.declared.flagged.FlaggedAnswer.{FlaggedAnswer}
-use Rattle.space_group.specs.declared.flagged.FlaggedAnswer.TheVariants as generators
 use Rattle.symbol_group.specs.Refusals.{number_of, place_of}
 use Rattle.symbol_group.specs.declared.refusal.Refusal.{Refusal}
 use Rattle.symbol_group.specs.declared.refusal.Refusal.TheVariants.{Text, Group as NoGroup}
@@ -21,12 +19,7 @@ use Rattle.magnetic_group.specs.Symbols.{SymbolOutcome, made, misread}
 use Rattle.magnetic_group.specs.declared.Answer.TheVariants.{Group, Refused}
 use Rattle.magnetic_group.specs.declared.MagneticGroup.{MagneticGroup}
 use Rattle.magnetic_group.specs.declared.FlaggedOperation.{FlaggedOperation}
-use Rattle.magnetic_group.specs.declared.MagneticOrder.{MagneticOrder}
-use Rattle.magnetic_group.specs.declared.MagneticOrder.TheVariants.{Is, Refused as OrderRefused}
-use Rattle.magnetic_group.specs.declared.MagneticLetter.{MagneticLetter}
-use Rattle.magnetic_group.specs.declared.MagneticLetter.TheVariants.{Is as IsLetter, Refused as LetterRefused}
-use Rattle.magnetic_group.specs.declared.MagneticOperation.{MagneticOperation}
-use Rattle.magnetic_group.specs.declared.MagneticOperation.TheVariants.{Operation as FoundOperation, PastEnd, Refused as FoundRefused}
+use Rattle.space_group.specs.declared.refusal.Refusal.{Refusal as GroupRefusal}
 
 -- ---- the group
 -- A refusal carries number and place and no other data.
@@ -34,9 +27,9 @@ abbrev pub refused_answer : Refusal → MagneticGroup
 refused_answer r = record { answer = Refused r; centering = P; count = 0 }
 
 -- What generators answer.
-abbrev pub made_answer : Centering → FlaggedAnswer → MagneticGroup
-made_answer c (generators.Group count) = record { answer = Group; centering = c; count = count }
-made_answer c (generators.Refused r) = refused_answer (NoGroup r)
+abbrev pub made_answer : Centering → Result ℕ GroupRefusal → MagneticGroup
+made_answer c (Ok count) = record { answer = Group; centering = c; count = count }
+made_answer c (Err r) = refused_answer (NoGroup r)
 
 abbrev pub group_by : SymbolOutcome → MagneticGroup
 group_by (made c (group operations steps)) = record { answer = Group; centering = c; count = length operations }
@@ -52,37 +45,37 @@ unfoldable pub slots_of : List ℕ → List ℕ
 slots_of text = let m = magnetic_answer text in slots_by (number_outcome m.symbol.centering (generators_of m))
 
 -- ---- order, letter, operation
-abbrev pub order_by : SymbolOutcome → MagneticOrder
-order_by (made c (group operations steps)) = Is (length operations)
-order_by (made c (refused r)) = OrderRefused (NoGroup r)
-order_by (misread r) = OrderRefused (Text r)
+abbrev pub order_by : SymbolOutcome → Result ℕ Refusal
+order_by (made c (group operations steps)) = Ok (length operations)
+order_by (made c (refused r)) = Err (NoGroup r)
+order_by (misread r) = Err (Text r)
 
-abbrev pub letter_by : SymbolOutcome → MagneticLetter
-letter_by (made c (group operations steps)) = IsLetter c
-letter_by (made c (refused r)) = LetterRefused (NoGroup r)
-letter_by (misread r) = LetterRefused (Text r)
+abbrev pub letter_by : SymbolOutcome → Result Centering Refusal
+letter_by (made c (group operations steps)) = Ok c
+letter_by (made c (refused r)) = Err (NoGroup r)
+letter_by (misread r) = Err (Text r)
 
 -- An operation beside its flag.
 abbrev pub beside_flag : Flagged Operation → FlaggedOperation
 beside_flag f = record { operation = f.element; flag = f.flag }
 
-abbrev pub operation_by : SymbolOutcome → ℕ → MagneticOperation
+abbrev pub operation_by : SymbolOutcome → ℕ → Result (Option FlaggedOperation) Refusal
 operation_by (made c (group operations steps)) i =
-    cond (ltb i (length operations)) (FoundOperation (beside_flag (get_or operations i (held identity_operation)))) PastEnd
-operation_by (made c (refused r)) i = FoundRefused (NoGroup r)
-operation_by (misread r) i = FoundRefused (Text r)
+    cond (ltb i (length operations)) (Ok (Some (beside_flag (get_or operations i (held identity_operation))))) (Ok None)
+operation_by (made c (refused r)) i = Err (NoGroup r)
+operation_by (misread r) i = Err (Text r)
 
 -- ---- in numbers
 -- Each answer with what was asked for, or with the refusal's number and place.
-abbrev pub order_answer : MagneticOrder → answer.Answer ℕ answer.Nothing
-order_answer (Is n) = answer.given n
-order_answer (OrderRefused r) = answer.refused (number_of r) (place_of r) tt
+abbrev pub order_answer : Result ℕ Refusal → answer.Answer ℕ answer.Nothing
+order_answer (Ok n) = answer.given n
+order_answer (Err r) = answer.refused (number_of r) (place_of r) tt
 
-abbrev pub letter_answer : MagneticLetter → answer.Answer Centering answer.Nothing
-letter_answer (IsLetter c) = answer.given c
-letter_answer (LetterRefused r) = answer.refused (number_of r) (place_of r) tt
+abbrev pub letter_answer : Result Centering Refusal → answer.Answer Centering answer.Nothing
+letter_answer (Ok c) = answer.given c
+letter_answer (Err r) = answer.refused (number_of r) (place_of r) tt
 
-abbrev pub operation_answer : MagneticOperation → answer.Answer FlaggedOperation answer.Nothing
-operation_answer (FoundOperation f) = answer.given f
-operation_answer PastEnd = answer.refused 28 0 tt
-operation_answer (FoundRefused r) = answer.refused (number_of r) (place_of r) tt
+abbrev pub operation_answer : Result (Option FlaggedOperation) Refusal → answer.Answer FlaggedOperation answer.Nothing
+operation_answer (Ok (Some f)) = answer.given f
+operation_answer (Ok None) = answer.refused 28 0 tt
+operation_answer (Err r) = answer.refused (number_of r) (place_of r) tt

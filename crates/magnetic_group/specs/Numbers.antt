@@ -1,6 +1,6 @@
 -- The list of a magnetic symbol as numbers: they say the operations that are answered, in their order; and how the answers are put together from them.
 use Rattle.std.proofs.Math.Path.{◌≡◌, sym, ap}
-use Rattle.std.specs.Prelude.{refl, ℕ, ◌-◌, ◌≤◌, ◌<◌, eqb, get_or, replicate}
+use Rattle.std.specs.Prelude.{refl, ℕ, ◌-◌, ◌≤◌, ◌<◌, eqb, get_or, replicate, Err, None, Ok, Result, Some}
 use Rattle.std.proofs.Common.{◌∙◌, arith, lt-ltb, le-ltb}
 use mathlib.Core.List.{List, map}
 use Rattle.std.proofs.Math.Decide.{dec_lt}
@@ -26,7 +26,6 @@ use Rattle.space_group.specs.FlaggedOutcomes.{ListOutcome, number_outcome, answe
 use Rattle.space_group.specs.FlaggedSlots.{numbers-off, numbers-grown}
 use Rattle.space_group.specs.FlaggedSaid.{numbers-verdict}
 use Rattle.space_group.specs.declared.refusal.Refusal.TheVariants.{Lattice}
-use Rattle.space_group.specs.declared.flagged.FlaggedAnswer.{FlaggedAnswer}
 use Rattle.symbol_group.specs.declared.refusal.Refusal.{Refusal}
 use Rattle.symbol_group.specs.declared.refusal.Refusal.TheVariants.{Text, Group as NoGroup}
 use Rattle.magnetic_symbol.specs.Answer.{magnetic_answer}
@@ -37,9 +36,7 @@ use Rattle.magnetic_group.specs.Symbols.{SymbolOutcome, made, misread, on_symbol
 use Rattle.magnetic_group.specs.Answers.{refused_answer, made_answer, group_by, generators_of, slots_of, order_by, letter_by, beside_flag, operation_by}
 use Rattle.magnetic_group.specs.declared.Answer.TheVariants.{Group, Refused}
 use Rattle.magnetic_group.specs.declared.MagneticGroup.{MagneticGroup}
-use Rattle.magnetic_group.specs.declared.MagneticOrder.TheVariants.{Is, Refused as OrderRefused}
-use Rattle.magnetic_group.specs.declared.MagneticLetter.TheVariants.{Is as IsLetter, Refused as LetterRefused}
-use Rattle.magnetic_group.specs.declared.MagneticOperation.TheVariants.{Operation as FoundOperation, PastEnd, Refused as FoundRefused}
+use Rattle.space_group.specs.declared.refusal.Refusal.{Refusal as GroupRefusal}
 
 -- ---- what the numbers say
 -- The list of an outcome, or its refusal.
@@ -94,7 +91,7 @@ module _ (c : Centering) (gens : List (Flagged Operation)) where
   answer-image f (numbers.refused r) = refl
 
   -- So they are as many, or there is the same refusal.
-  made-group : (a : FlaggedAnswer) → a ≡ answer_by (number_outcome c gens) → made_answer c a ≡ group_by (made c (outcome_of c gens))
+  made-group : (a : Result ℕ GroupRefusal) → a ≡ answer_by (number_outcome c gens) → made_answer c a ≡ group_by (made c (outcome_of c gens))
   made-group a e =
       ap (made_answer c) (e ∙ sym (answer-image flagged_said (number_outcome c gens)) ∙ ap answer_by numbers-say) ∙ by-outcome (outcome_of c gens)
     where
@@ -113,7 +110,7 @@ module _ (bytes : List ℕ) (m : MagneticSymbol) (e : m ≡ magnetic_answer byte
   list-misread r a = sym (ap group_by (outcome-is ∙ ap (λ t. on_symbol t m) a))
 
   -- or it is one.
-  pub list-made : m.symbol.answer ≡ text.Symbol → (answer : FlaggedAnswer) → answer ≡ answer_by (number_outcome m.symbol.centering (generators_of m))
+  pub list-made : m.symbol.answer ≡ text.Symbol → (answer : Result ℕ GroupRefusal) → answer ≡ answer_by (number_outcome m.symbol.centering (generators_of m))
       → made_answer m.symbol.centering answer ≡ group_by (magnetic_outcome bytes)
   list-made a answer told = made-group m.symbol.centering (generators_of m) answer told ∙ sym (ap group_by (outcome-is ∙ ap (λ t. on_symbol t m) a))
 
@@ -123,38 +120,38 @@ module _ (bytes : List ℕ) (m : MagneticSymbol) (e : m ≡ magnetic_answer byte
 
 -- ---- order and letter
 module _ (bytes : List ℕ) (g : MagneticGroup) (e : g ≡ group_by (magnetic_outcome bytes)) where
-  order-by : (o : SymbolOutcome) → g ≡ group_by o → g.answer ≡ Group → (Is g.count ≡ order_by o) × (IsLetter g.centering ≡ letter_by o)
-  order-by (made c (group operations steps)) p a = (ap (λ (g : MagneticGroup). Is g.count) p, ap (λ (g : MagneticGroup). IsLetter g.centering) p)
+  order-by : (o : SymbolOutcome) → g ≡ group_by o → g.answer ≡ Group → (Ok g.count ≡ order_by o) × (Ok g.centering ≡ letter_by o)
+  order-by (made c (group operations steps)) p a = (ap (λ (g : MagneticGroup). Ok g.count) p, ap (λ (g : MagneticGroup). Ok g.centering) p)
   order-by (made c (refused r)) p a = let b = sym (ap (λ (g : MagneticGroup). g.answer) p) ∙ a in let z : ◌≡◌ {A = ℕ} 0 1 = cc in absurd (omega arith)
   order-by (misread r) p a = let b = sym (ap (λ (g : MagneticGroup). g.answer) p) ∙ a in let z : ◌≡◌ {A = ℕ} 0 1 = cc in absurd (omega arith)
 
   refused-by : (o : SymbolOutcome) → g ≡ group_by o → (r : Refusal) → g.answer ≡ Refused r
-      → (OrderRefused r ≡ order_by o) × (LetterRefused r ≡ letter_by o) × ((i : ℕ) → FoundRefused r ≡ operation_by o i)
+      → (Err r ≡ order_by o) × (Err r ≡ letter_by o) × ((i : ℕ) → Err r ≡ operation_by o i)
   refused-by (made c (group operations steps)) p r a =
       let b = sym (ap (λ (g : MagneticGroup). g.answer) p) ∙ a in let z : ◌≡◌ {A = ℕ} 0 1 = cc in absurd (omega arith)
   refused-by (made c (refused q)) p r a =
       let b = sym (ap (λ (g : MagneticGroup). g.answer) p) ∙ a in
       let z : NoGroup q ≡ r = cc in
-      (ap OrderRefused (sym z), ap LetterRefused (sym z), λ i. ap FoundRefused (sym z))
+      (ap Err (sym z), ap Err (sym z), λ i. ap Err (sym z))
   refused-by (misread q) p r a =
       let b = sym (ap (λ (g : MagneticGroup). g.answer) p) ∙ a in
       let z : Text q ≡ r = cc in
-      (ap OrderRefused (sym z), ap LetterRefused (sym z), λ i. ap FoundRefused (sym z))
+      (ap Err (sym z), ap Err (sym z), λ i. ap Err (sym z))
 
-  pub order-given : g.answer ≡ Group → Is g.count ≡ order_by (magnetic_outcome bytes)
+  pub order-given : g.answer ≡ Group → Ok g.count ≡ order_by (magnetic_outcome bytes)
   order-given a = (order-by (magnetic_outcome bytes) e a).0
 
-  pub letter-given : g.answer ≡ Group → IsLetter g.centering ≡ letter_by (magnetic_outcome bytes)
+  pub letter-given : g.answer ≡ Group → Ok g.centering ≡ letter_by (magnetic_outcome bytes)
   letter-given a = (order-by (magnetic_outcome bytes) e a).1
 
   module _ (r : Refusal) (a : g.answer ≡ Refused r) where
-    pub order-refused : OrderRefused r ≡ order_by (magnetic_outcome bytes)
+    pub order-refused : Err r ≡ order_by (magnetic_outcome bytes)
     order-refused = (refused-by (magnetic_outcome bytes) e r a).0
 
-    pub letter-refused : LetterRefused r ≡ letter_by (magnetic_outcome bytes)
+    pub letter-refused : Err r ≡ letter_by (magnetic_outcome bytes)
     letter-refused = (refused-by (magnetic_outcome bytes) e r a).1
 
-    pub operation-refused : (i : ℕ) → FoundRefused r ≡ operation_by (magnetic_outcome bytes) i
+    pub operation-refused : (i : ℕ) → Err r ≡ operation_by (magnetic_outcome bytes) i
     operation-refused = (refused-by (magnetic_outcome bytes) e r a).2
 
 -- ---- the operations
@@ -214,14 +211,14 @@ module _ (bytes : List ℕ) (g : MagneticGroup) (slots : List ℕ) (a : g.answer
 
 module _ (bytes : List ℕ) (count : ℕ) (slots : List ℕ) (L : Listed bytes count slots) where
   -- None is answered past the end,
-  pub operation-past : (i : ℕ) → count ≤ i → PastEnd ≡ operation_by (magnetic_outcome bytes) i
+  pub operation-past : (i : ℕ) → count ≤ i → Ok None ≡ operation_by (magnetic_outcome bytes) i
   operation-past i h =
       let long : length L.operations ≤ i = omega (arith, ap length L.said, length-map L.found flagged_said, L.counted) in
       rw (L.outcome, le-ltb i (length L.operations) long) refl
 
   -- and before it those that the numbers say.
   pub operation-given : (i d : ℕ) → i < count → (o : Operation) → o ≡ said_by (get_or slots i d) → (bit : ℕ) → bit ≡ flag_of (get_or slots i d)
-      → FoundOperation (record { operation = o; flag = eqb bit 1 }) ≡ operation_by (magnetic_outcome bytes) i
+      → Ok (Some (record { operation = o; flag = eqb bit 1 })) ≡ operation_by (magnetic_outcome bytes) i
   operation-given i d h o said bit flag =
       let inside : i < length L.found = omega (arith, L.counted) in
       let long : i < length L.operations = omega (arith, ap length L.said, length-map L.found flagged_said, L.counted) in
@@ -231,5 +228,5 @@ module _ (bytes : List ℕ) (count : ℕ) (slots : List ℕ) (L : Listed bytes c
       ap (λ l. get_or l i (held identity_operation)) L.said ∙ image-at flagged_said L.found i d (held identity_operation) inside in
       let first = said ∙ ap said_by slot in
       let second = ap (λ b. eqb b 1) (flag ∙ ap flag_of slot) in
-      (λ k. FoundOperation (record { operation = first k; flag = second k })) ∙ ap (λ f. FoundOperation (beside_flag f)) (sym own)
+      (λ k. Ok (Some (record { operation = first k; flag = second k }))) ∙ ap (λ f. Ok (Some (beside_flag f))) (sym own)
       ∙ sym (rw (L.outcome, lt-ltb i (length L.operations) long) refl)

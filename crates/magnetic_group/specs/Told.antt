@@ -1,7 +1,7 @@
 -- What is answered for a magnetic symbol's text, by number and place: the order exactly if the text spells a symbol whose generators are accepted, the reader's
 -- refusals 1 to 11 and 17 as it tells them, and 12, 13 and 14 each exactly if its rule holds. Number, place and value determine the answer.
 use Rattle.std.proofs.Math.Path.{◌≡◌, sym, ap, subst}
-use Rattle.std.specs.Prelude.{refl, ◌↔◌, Bool, List, ℕ, length}
+use Rattle.std.specs.Prelude.{refl, ◌↔◌, Bool, List, ℕ, length, Err, Ok, Result}
 use Rattle.std.proofs.Common.{◌∙◌, arith}
 use Rattle.std.proofs.Math.Logic.{inl, inr}
 use Rattle.group_growth.specs.Flagged.{Flagged}
@@ -23,16 +23,15 @@ use Rattle.magnetic_symbol.specs.Told.{MagneticSpells, MagneticRefuses, magnetic
 use Rattle.magnetic_group.specs.Generated.{FewPairs, SmallPairs, OneTranslation, group, refused, outcome_of}
 use Rattle.magnetic_group.specs.Symbols.{SymbolOutcome, made, misread, magnetic_outcome, made-spelled, spelled-outcome, refused-outcome, symbol-accepted, symbol-twelve, symbol-thirteen, symbol-fourteen}
 use Rattle.magnetic_group.specs.Answers.{order_by, order_answer}
-use Rattle.magnetic_group.specs.declared.MagneticOrder.{MagneticOrder}
-use Rattle.magnetic_group.specs.declared.MagneticOrder.TheVariants.{Is, Refused as OrderRefused}
+use Rattle.symbol_group.specs.declared.refusal.Refusal.{Refusal}
 
 -- ---- number, place and value
-pub order-once : (a b : MagneticOrder) → order_answer a ≡ order_answer b → a ≡ b
-order-once (Is n) (Is m) e = let z : n ≡ m = cc in ap Is z
-order-once (Is n) (OrderRefused s) e = let z : ◌≡◌ {A = ℕ} 0 1 = cc in absurd (omega arith)
-order-once (OrderRefused r) (Is m) e = let z : ◌≡◌ {A = ℕ} 0 1 = cc in absurd (omega arith)
-order-once (OrderRefused r) (OrderRefused s) e =
-    let p : number_of r ≡ number_of s = cc in let q : place_of r ≡ place_of s = cc in ap OrderRefused (told-once r s p q)
+pub order-once : (a b : Result ℕ Refusal) → order_answer a ≡ order_answer b → a ≡ b
+order-once (Ok n) (Ok m) e = let z : n ≡ m = cc in ap Ok z
+order-once (Ok n) (Err s) e = let z : ◌≡◌ {A = ℕ} 0 1 = cc in absurd (omega arith)
+order-once (Err r) (Ok m) e = let z : ◌≡◌ {A = ℕ} 0 1 = cc in absurd (omega arith)
+order-once (Err r) (Err s) e =
+    let p : number_of r ≡ number_of s = cc in let q : place_of r ≡ place_of s = cc in ap Err (told-once r s p q)
 
 -- ---- by the text
 -- The text spells a symbol of whose generators this is true.
@@ -49,13 +48,13 @@ by-made : (o : SymbolOutcome) (c : Centering) (r : generators.Refusal) → o ≡
 by-made o c r e = rw e refl
 
 -- and comes from them alone,
-made_by : (o : SymbolOutcome) (r : generators.Refusal) → order_by o ≡ OrderRefused (NoGroup r) → (c : Centering) × (o ≡ made c (refused r))
+made_by : (o : SymbolOutcome) (r : generators.Refusal) → order_by o ≡ Err (NoGroup r) → (c : Centering) × (o ≡ made c (refused r))
 made_by (made c (group operations steps)) r e = let z : ◌≡◌ {A = ℕ} 0 1 = cc in absurd (omega arith)
 made_by (made c (refused q)) r e = let z : q ≡ r = cc in (c, ap (λ q. made c (refused q)) z)
 made_by (misread q) r e = let z : ◌≡◌ {A = ℕ} 0 1 = cc in absurd (omega arith)
 
 -- or that of the reader.
-misread-by : (o : SymbolOutcome) (r : reading.Refusal) → order_by o ≡ OrderRefused (Text r) → o ≡ misread r
+misread-by : (o : SymbolOutcome) (r : reading.Refusal) → order_by o ≡ Err (Text r) → o ≡ misread r
 misread-by (made c (group operations steps)) r e = let z : ◌≡◌ {A = ℕ} 0 1 = cc in absurd (omega arith)
 misread-by (made c (refused q)) r e = let z : ◌≡◌ {A = ℕ} 0 1 = cc in absurd (omega arith)
 misread-by (misread q) r e = let z : q ≡ r = cc in ap misread z
@@ -86,7 +85,7 @@ module _ (text : List ℕ) where
       ↔ ((c : Centering) × (magnetic_outcome text ≡ made c (refused r)))
   unfolding told
   told-made r = (
-    (λ e. made_by (magnetic_outcome text) r (order-once (order_by (magnetic_outcome text)) (OrderRefused (NoGroup r)) e)),
+    (λ e. made_by (magnetic_outcome text) r (order-once (order_by (magnetic_outcome text)) (Err (NoGroup r)) e)),
     λ (c, e). by-made (magnetic_outcome text) c r e,
   )
 
@@ -94,7 +93,7 @@ module _ (text : List ℕ) where
   pub text-exactly : (r : reading.Refusal) → (told text ≡ answer.refused (text-numbers.number_of r) (text-numbers.place_of r) tt) ↔ MagneticRefuses text r
   unfolding told
   text-exactly r = (
-    (λ e. misread-refuses (misread-by (magnetic_outcome text) r (order-once (order_by (magnetic_outcome text)) (OrderRefused (Text r)) e))),
+    (λ e. misread-refuses (misread-by (magnetic_outcome text) r (order-once (order_by (magnetic_outcome text)) (Err (Text r)) e))),
     λ m. ap (λ o. order_answer (order_by o)) (refused-outcome text r m),
   )
     where

@@ -10,7 +10,7 @@ use centering::Centering;
 use magnetic_symbol::MagneticSymbol;
 use operation::Operation;
 use packed_operation::{flag, said};
-use space_group::flagged::{FlaggedAnswer, flagged_group};
+use space_group::flagged::flagged_group;
 use symbol_group::refusal::Refusal;
 
 #[derive(Clone, Copy)]
@@ -34,27 +34,6 @@ pub struct FlaggedOperation {
     pub flag: bool,
 }
 
-// How many operations a magnetic symbol has.
-#[derive(Clone, Copy)]
-pub enum MagneticOrder {
-    Is(usize),
-    Refused(Refusal),
-}
-
-#[derive(Clone, Copy)]
-pub enum MagneticLetter {
-    Is(Centering),
-    Refused(Refusal),
-}
-
-// An operation of a magnetic symbol. `PastEnd` is refusal 28 at place 0.
-#[derive(Clone, Copy)]
-pub enum MagneticOperation {
-    Operation(FlaggedOperation),
-    PastEnd,
-    Refused(Refusal),
-}
-
 fn refused(refusal: Refusal) -> MagneticGroup
     ensures { result ≡ refused_answer refusal }
 {
@@ -65,12 +44,12 @@ fn refused(refusal: Refusal) -> MagneticGroup
     }
 }
 
-fn made(c: Centering, answer: FlaggedAnswer) -> MagneticGroup
+fn made(c: Centering, answer: Result<usize, space_group::refusal::Refusal>) -> MagneticGroup
     ensures { result ≡ made_answer c answer }
 {
     match answer {
-        FlaggedAnswer::Refused(refusal) => refused(Refusal::Group(refusal)),
-        FlaggedAnswer::Group(count) => MagneticGroup {
+        Err(refusal) => refused(Refusal::Group(refusal)),
+        Ok(count) => MagneticGroup {
             answer: Answer::Group,
             centering: c,
             count,
@@ -88,60 +67,49 @@ pub fn list(text: &[u8], numbers: &mut [u64; 96]) -> MagneticGroup
     let c = symbol.centering;
     let generators = symbol.generators;
     let answer = flagged_group(c, symbol.count, generators, flags, numbers);
-    let told = symbol.answer;
-    match told {
+    match symbol.answer {
         hall_symbol::Answer::Refused(refusal) => refused(Refusal::Text(refusal)),
         hall_symbol::Answer::Symbol => made(c, answer),
     }
 }
 
-pub fn order(text: &[u8]) -> MagneticOrder
+pub fn order(text: &[u8]) -> Result<usize, Refusal>
     ensures { result ≡ order_by (magnetic_outcome text.now) }
 {
     let mut numbers = [0u64; 96];
     let g = list(text, &mut numbers);
-    let answer = g.answer;
-    match answer {
-        Answer::Group => MagneticOrder::Is(g.count),
-        Answer::Refused(refusal) => MagneticOrder::Refused(refusal),
+    match g.answer {
+        Answer::Group => Ok(g.count),
+        Answer::Refused(refusal) => Err(refusal),
     }
 }
 
-pub fn letter(text: &[u8]) -> MagneticLetter
+pub fn letter(text: &[u8]) -> Result<Centering, Refusal>
     ensures { result ≡ letter_by (magnetic_outcome text.now) }
 {
     let mut numbers = [0u64; 96];
     let g = list(text, &mut numbers);
-    let answer = g.answer;
-    match answer {
-        Answer::Group => {
-            let c = g.centering;
-            MagneticLetter::Is(c)
-        }
-        Answer::Refused(refusal) => MagneticLetter::Refused(refusal),
+    match g.answer {
+        Answer::Group => Ok(g.centering),
+        Answer::Refused(refusal) => Err(refusal),
     }
 }
 
 // Operation number i in list order, with its flag.
-pub fn operation_at(text: &[u8], index: usize) -> MagneticOperation
+pub fn operation_at(text: &[u8], index: usize) -> Result<Option<FlaggedOperation>, Refusal>
     ensures { result ≡ operation_by (magnetic_outcome text.now) index }
 {
     let mut numbers = [0u64; 96];
     let g = list(text, &mut numbers);
-    let answer = g.answer;
-    match answer {
-        Answer::Refused(refusal) => MagneticOperation::Refused(refusal),
-        Answer::Group => {
-            if g.count <= index {
-                return MagneticOperation::PastEnd;
-            }
+    match g.answer {
+        Answer::Refused(refusal) => Err(refusal),
+        Answer::Group if index < g.count => {
             let n = numbers[index];
-            let operation = said(n);
-            let bit = flag(n);
-            MagneticOperation::Operation(FlaggedOperation {
-                operation,
-                flag: bit == 1,
-            })
+            Ok(Some(FlaggedOperation {
+                operation: said(n),
+                flag: flag(n) == 1,
+            }))
         }
+        Answer::Group => Ok(None),
     }
 }

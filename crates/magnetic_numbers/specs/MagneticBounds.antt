@@ -1,6 +1,6 @@
 -- What is answered for a magnetic symbol's text can be packed: orders are at most 96, operations have entries in −1..1 and coordinates below 12, and places
 -- are those of the text without its time reversals.
-use Rattle.std.specs.Prelude.{◌≡◌, refl, Bool, true, false, cond, ℕ, ◌≤◌, ltb, length, get_or}
+use Rattle.std.specs.Prelude.{◌≡◌, refl, Bool, true, false, cond, ℕ, ◌≤◌, ltb, length, get_or, None, Ok, Some}
 use Rattle.std.proofs.Common.{ap, arith, ltb-true}
 use mathlib.Core.List.{List, Memᴰ as Mem}
 use Rattle.group_growth.specs.Flagged.{Flagged, held}
@@ -23,7 +23,6 @@ use Rattle.magnetic_group.specs.Generated.{group, refused}
 use Rattle.magnetic_group.specs.Members.{at-most-96, pair-generated, translation-below}
 use Rattle.magnetic_group.specs.Symbols.{SymbolOutcome, made, misread, magnetic_outcome, made-spelled, symbol-list, symbol-twelve}
 use Rattle.magnetic_group.specs.Told.{told, text-exactly}
-use Rattle.magnetic_group.specs.declared.MagneticOperation.TheVariants.{Operation as Found, PastEnd}
 use Rattle.magnetic_numbers.specs.FlaggedNumbers.{ReducedFlagged}
 use Rattle.answer_numbers.specs.Packing.{Told, Close, near, Within, Low, AnyLetter}
 use Rattle.symbol_numbers.specs.SymbolBounds.{text-close}
@@ -98,7 +97,7 @@ module _ (text : List ℕ) where
   operation-by i (made c (group listed steps)) e = by-test (ltb i (length listed)) refl
     where
       by-test : (b : Bool) → ltb i (length listed) ≡ b
-          → Within ReducedFlagged (operation_answer (cond b (Found (beside_flag (get_or listed i (held identity_operation)))) PastEnd))
+          → Within ReducedFlagged (operation_answer (cond b (Ok (Some (beside_flag (get_or listed i (held identity_operation))))) (Ok None)))
       by-test true t =
           member-reduced c listed steps e (get_or listed i (held identity_operation)) (member-at listed i (held identity_operation)
           (ltb-true i (length listed) t))

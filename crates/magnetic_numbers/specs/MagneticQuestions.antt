@@ -1,5 +1,5 @@
 -- What can be asked of a magnetic symbol, what is answered, and that the list of its operations as numbers answers so.
-use Rattle.std.specs.Prelude.{◌≡◌, refl, cond, List, ℕ, ltb, get_or}
+use Rattle.std.specs.Prelude.{◌≡◌, refl, cond, List, ℕ, ltb, get_or, Option, Result}
 use Rattle.std.proofs.Common.{ap, arith, lt-ltb, le-ltb}
 use Rattle.std.proofs.Math.Decide.{dec_lt}
 use Rattle.operation.specs.Answer.{Answer, given, refused, Nothing}
@@ -14,13 +14,12 @@ use Rattle.magnetic_group.specs.Numbers.{order-given, letter-given, order-refuse
 use Rattle.magnetic_group.specs.Symbols.{SymbolOutcome, magnetic_outcome}
 use Rattle.magnetic_group.specs.declared.Answer.TheVariants.{Group, Refused}
 use Rattle.magnetic_group.specs.declared.MagneticGroup.{MagneticGroup}
-use Rattle.magnetic_group.specs.declared.MagneticLetter.{MagneticLetter}
-use Rattle.magnetic_group.specs.declared.MagneticOperation.{MagneticOperation}
 use Rattle.answer_numbers.specs.Packing.{Told, Within, Low, mapped, letters, mapped-low}
 use Rattle.magnetic_numbers.specs.FlaggedNumbers.{flagged_number, flagged_operations}
 use Rattle.magnetic_numbers.specs.MagneticBounds.{order-within, letter-within, operation-within}
 use Rattle.symbol_numbers.specs.declared.question.Question.{Question}
 use Rattle.symbol_numbers.specs.declared.question.Question.TheVariants.{Order, Letter, Operation}
+use Rattle.magnetic_group.specs.declared.FlaggedOperation.{FlaggedOperation}
 
 -- What is answered.
 abbrev pub answer_to : Question → SymbolOutcome → Answer ℕ Nothing
@@ -45,8 +44,9 @@ module _ (text : List ℕ) (g : MagneticGroup) (e : g ≡ group_by (magnetic_out
   pub refused-answer : (r : Refusal) → g.answer ≡ Refused r → (q : Question)
       → refused (number_of r) (place_of r) tt ≡ answer_to q (magnetic_outcome text)
   refused-answer r a Order = ap order_answer (order-refused text g e r a)
-  refused-answer r a Letter = ap (λ (l : MagneticLetter). mapped byte_of (letter_answer l)) (letter-refused text g e r a)
-  refused-answer r a (Operation i) = ap (λ (o : MagneticOperation). mapped flagged_number (operation_answer o)) (operation-refused text g e r a i)
+  refused-answer r a Letter = ap (λ (l : Result Centering Refusal). mapped byte_of (letter_answer l)) (letter-refused text g e r a)
+  refused-answer r a (Operation i) =
+      ap (λ (o : Result (Option FlaggedOperation) Refusal). mapped flagged_number (operation_answer o)) (operation-refused text g e r a i)
 
   -- which can be told;
   pub refused-told : (r : Refusal) → g.answer ≡ Refused r → Told (number_of r) (place_of r)
@@ -56,10 +56,10 @@ module _ (text : List ℕ) (g : MagneticGroup) (e : g ≡ group_by (magnetic_out
   pub list-answers : (slots : List ℕ) → slots ≡ slots_of text → g.answer ≡ Group → (q : Question)
       → numbers_answer q g.count g.centering slots ≡ answer_to q (magnetic_outcome text)
   list-answers slots h a Order = ap order_answer (order-given text g e a)
-  list-answers slots h a Letter = ap (λ (l : MagneticLetter). mapped byte_of (letter_answer l)) (letter-given text g e a)
+  list-answers slots h a Letter = ap (λ (l : Result Centering Refusal). mapped byte_of (letter_answer l)) (letter-given text g e a)
   list-answers slots h a (Operation i) =
       let L = slots-listed text g slots a e h in
-      let told : MagneticOperation → Answer ℕ Nothing = λ o. mapped flagged_number (operation_answer o) in
+      let told : Result (Option FlaggedOperation) Refusal → Answer ℕ Nothing = λ o. mapped flagged_number (operation_answer o) in
       elim (dec_lt i g.count) [
         | yes l ↦
             let n = get_or slots i 0 in

@@ -1,6 +1,6 @@
 -- What is answered for the record of a magnetic symbol, and for a buffer that ends with one, can be packed: it holds at most 96 operations, and its refusals
 -- are those of the symbol, or are at 0.
-use Rattle.std.specs.Prelude.{◌≡◌, Bool, true, false, cond, List, ℕ, length}
+use Rattle.std.specs.Prelude.{◌≡◌, Bool, true, false, cond, List, ℕ, length, Err, Ok, Result}
 use Rattle.std.proofs.Math.Path.{refl}
 use Rattle.std.proofs.Common.{arith}
 use Rattle.std.proofs.lemmas.List.{length-map}
@@ -12,8 +12,6 @@ use Rattle.record_writing.specs.Places.{room_from}
 use Rattle.group_record.specs.Rules.{Told as ToldBy, holds, told_by}
 use Rattle.group_record.specs.Rules.{refused as not-held}
 use Rattle.record_writing.specs.SymbolRecords.{symbol_record_answer}
-use Rattle.record_writing.specs.declared.Copied.TheVariants as Copy
-use Rattle.record_writing.specs.declared.SymbolRecord.TheVariants.{Written, NoRoom}
 use Rattle.magnetic_group.specs.Generated.{group, refused}
 use Rattle.magnetic_group.specs.Symbols.{SymbolOutcome, made, misread, magnetic_outcome}
 use Rattle.magnetic_record.specs.Answers.{reading_by, reading_of, magnetic_order_answer, magnetic_letter_answer}
@@ -23,17 +21,18 @@ use Rattle.magnetic_record.specs.Reading.{magnetic_rules}
 use Rattle.magnetic_record.specs.RoundTrips.{magnetic-written-again}
 use Rattle.magnetic_record.specs.SecondEdition.{MagneticItem}
 use Rattle.magnetic_record.specs.TextRecords.{written_by, magnetic_record_of}
-use Rattle.magnetic_record.specs.declared.MagneticReading.{MagneticReading}
-use Rattle.magnetic_record.specs.declared.MagneticReading.TheVariants.{Is, Refused}
 use Rattle.magnetic_numbers.specs.MagneticBounds.{few, refused-told, misread-told}
 use Rattle.answer_numbers.specs.Packing.{Within, Low, letters}
 use Rattle.record_numbers.specs.RecordBounds.{record-told, room-told}
+use Rattle.record_writing.specs.declared.Unwritten.TheVariants.{NoRoom}
+use Rattle.record_writing.specs.declared.Unwritten.TheVariants as Copy
+use Rattle.group_record.specs.declared.Refusal.{Refusal}
 
 -- ---- written
 record-by : (text : List ℕ) (start size : ℕ) (o : SymbolOutcome) → magnetic_outcome text ≡ o → Within Low (symbol_record_answer (written_by o start size))
 record-by text start size (made c (group listed steps)) e = by-room (room_from start (total_length 6 (length listed)) size)
   where
-    by-room : (b : Bool) → Within Low (symbol_record_answer (cond b (Written (length listed)) NoRoom))
+    by-room : (b : Bool) → Within Low (symbol_record_answer (cond b (Ok (length listed)) (Err NoRoom)))
     by-room true = omega (arith, few text c listed steps e)
     by-room false = room-told
 record-by text start size (made c (refused r)) e = refused-told text c r e
@@ -60,7 +59,7 @@ module _ (bytes : List ℕ) (b : Bytes bytes) where
       → Within Low (copy_answer (copied_by t start size))
   copy-by (holds k c items) e start size = by-room (room_from start (total_length 6 (length items)) size)
     where
-      by-room : (r : Bool) → Within Low (copy_answer (cond r (Copy.Written (length items)) Copy.NoRoom))
+      by-room : (r : Bool) → Within Low (copy_answer (cond r (Ok (length items)) (Err Copy.NoRoom)))
       by-room true = order-by (holds k c items) e
       by-room false = room-told
   copy-by (not-held why) e start size = record-told why
@@ -71,6 +70,6 @@ module _ (bytes : List ℕ) (b : Bytes bytes) where
   copy_within out start = copy-by (told_by magnetic_rules bytes) refl start (length out)
 
 -- and its letter.
-pub letter-within : (a : MagneticReading) → Within Low (magnetic_letter_answer a)
-letter-within (Is c n) = letters.low c tt
-letter-within (Refused why) = record-told why
+pub letter-within : (a : Result (Centering × ℕ) Refusal) → Within Low (magnetic_letter_answer a)
+letter-within (Ok (c, n)) = letters.low c tt
+letter-within (Err why) = record-told why

@@ -7,7 +7,6 @@ ghost use Rattle.magnetic_record.specs.Copying.{magnetic_copied_of, magnetic_cop
 ghost use Rattle.magnetic_record.specs.TextRecords.{magnetic_record_of, magnetic_buffer_of};
 ghost use Rattle.answer_numbers.specs.Packing.{packed};
 
-use magnetic_record::MagneticReading;
 use magnetic_record_reading::reader::read_record;
 use record_numbers::record::{copied, refused_record};
 use symbol_numbers::symbol::written;
@@ -23,8 +22,8 @@ pub fn order(bytes: &[u8]) -> u64
     ensures { result ≡ packed (magnetic_order_answer (reading_of bytes.now)) }
 {
     match read_record(bytes) {
-        MagneticReading::Is(_, n) => n as u64,
-        MagneticReading::Refused(why) => refused_record(why),
+        Ok((_, n)) => n as u64,
+        Err(why) => refused_record(why),
     }
 }
 
@@ -32,8 +31,8 @@ pub fn letter(bytes: &[u8]) -> u64
     ensures { result ≡ packed (magnetic_letter_answer (reading_of bytes.now)) }
 {
     match read_record(bytes) {
-        MagneticReading::Is(centering, _) => centering.byte() as u64,
-        MagneticReading::Refused(why) => refused_record(why),
+        Ok((centering, _)) => centering.byte() as u64,
+        Err(why) => refused_record(why),
     }
 }
 

@@ -1,12 +1,11 @@
 -- What a reader of magnetic records answers: the letter and the count of what is told, or the refusal. In numbers: the order, and the letter's byte; each of
 -- 30 to 35 is given exactly when its rule says so, and the two answers together determine the reading.
-use Rattle.std.specs.Prelude.{◌≡◌, refl, ◌↔◌, List, ℕ, ◌<◌, length}
+use Rattle.std.specs.Prelude.{◌≡◌, refl, ◌↔◌, List, ℕ, ◌<◌, length, Err, Ok, Result, Some}
 use Rattle.std.proofs.Common.{sym, ◌∙◌, ap, ap₂, arith}
 use Rattle.operation.specs.Answer.{Answer, given, refused, Nothing}
 use Rattle.centering.specs.Letters.{byte_of, letter_of}
 use Rattle.centering.specs.LatticeLaws.{letter-by-byte}
 use Rattle.centering.specs.declared.Centering.{Centering}
-use Rattle.centering.specs.declared.Letter.TheVariants as letter
 use Rattle.group_record.specs.Items.{Bytes}
 use Rattle.group_record.specs.Rules.{Told, holds, told_by}
 use Rattle.group_record.specs.Rules.{refused as not-held}
@@ -15,43 +14,43 @@ use Rattle.group_record.specs.RefusalNumbers.{told_answer, Refuses, too_few, tol
 use Rattle.magnetic_record.specs.SecondEdition.{MagneticItem}
 use Rattle.magnetic_record.specs.Reading.{magnetic_rules}
 use Rattle.magnetic_record.specs.Acceptance.{magnetic_meaning}
-use Rattle.magnetic_record.specs.declared.MagneticReading.{MagneticReading}
-use Rattle.magnetic_record.specs.declared.MagneticReading.TheVariants.{Is, Refused}
+use Rattle.group_record.specs.declared.Refusal.{Refusal}
 
 -- ---- the answer
-abbrev pub reading_by : Told MagneticItem Centering (Unit {0}) → MagneticReading
-reading_by (holds k c items) = Is c (length items)
-reading_by (not-held why) = Refused why
+abbrev pub reading_by : Told MagneticItem Centering (Unit {0}) → Result (Centering × ℕ) Refusal
+reading_by (holds k c items) = Ok (c, (length items))
+reading_by (not-held why) = Err why
 
 -- What a buffer is read as.
-abbrev pub reading_of : List ℕ → MagneticReading
+abbrev pub reading_of : List ℕ → Result (Centering × ℕ) Refusal
 reading_of bytes = reading_by (told_by magnetic_rules bytes)
 
 -- ---- in numbers
 -- The order,
-abbrev pub magnetic_order_answer : MagneticReading → Answer ℕ Nothing
-magnetic_order_answer (Is c n) = given n
-magnetic_order_answer (Refused why) = refused (refusal_number why) 0 tt
+abbrev pub magnetic_order_answer : Result (Centering × ℕ) Refusal → Answer ℕ Nothing
+magnetic_order_answer (Ok (c, n)) = given n
+magnetic_order_answer (Err why) = refused (refusal_number why) 0 tt
 
 -- and the letter, by its byte.
-abbrev pub magnetic_letter_answer : MagneticReading → Answer ℕ Nothing
-magnetic_letter_answer (Is c n) = given (byte_of c)
-magnetic_letter_answer (Refused why) = refused (refusal_number why) 0 tt
+abbrev pub magnetic_letter_answer : Result (Centering × ℕ) Refusal → Answer ℕ Nothing
+magnetic_letter_answer (Ok (c, n)) = given (byte_of c)
+magnetic_letter_answer (Err why) = refused (refusal_number why) 0 tt
 
 -- Letters with one byte are one.
 one-letter : (c d : Centering) → byte_of c ≡ byte_of d → c ≡ d
-one-letter c d e = let same : letter.Is c ≡ letter.Is d = sym (letter-by-byte c) ∙ ap letter_of e ∙ letter-by-byte d in cc
+one-letter c d e = let same : Some c ≡ Some d = sym (letter-by-byte c) ∙ ap letter_of e ∙ letter-by-byte d in cc
 
 -- The two answers determine the reading.
-pub one-magnetic-reading : (a b : MagneticReading) → magnetic_order_answer a ≡ magnetic_order_answer b → magnetic_letter_answer a ≡ magnetic_letter_answer b
+pub one-magnetic-reading : (a b : Result (Centering × ℕ) Refusal) → magnetic_order_answer a ≡ magnetic_order_answer b
+    → magnetic_letter_answer a ≡ magnetic_letter_answer b
     → a ≡ b
-one-magnetic-reading (Is c n) (Is d m) e f =
+one-magnetic-reading (Ok (c, n)) (Ok (d, m)) e f =
     let count : n ≡ m = cc in
     let byte : byte_of c ≡ byte_of d = cc in
-    ap₂ (λ (x : Centering) (k : ℕ). Is x k) (one-letter c d byte) count
-one-magnetic-reading (Is c n) (Refused s) e f = let z : ◌≡◌ {A = ℕ} 0 1 = cc in absurd (omega arith)
-one-magnetic-reading (Refused r) (Is d m) e f = let z : ◌≡◌ {A = ℕ} 0 1 = cc in absurd (omega arith)
-one-magnetic-reading (Refused r) (Refused s) e f = let same : refusal_number r ≡ refusal_number s = cc in ap Refused (one-refusal r s same)
+    ap₂ (λ (x : Centering) (k : ℕ). (Ok (x, k))) (one-letter c d byte) count
+one-magnetic-reading (Ok (c, n)) (Err s) e f = let z : ◌≡◌ {A = ℕ} 0 1 = cc in absurd (omega arith)
+one-magnetic-reading (Err r) (Ok (d, m)) e f = let z : ◌≡◌ {A = ℕ} 0 1 = cc in absurd (omega arith)
+one-magnetic-reading (Err r) (Err s) e f = let same : refusal_number r ≡ refusal_number s = cc in ap Err (one-refusal r s same)
 
 -- ---- each of 30 to 35 exactly when
 -- Either answer has the number and the place that are told,
@@ -64,10 +63,10 @@ told-order (holds k c items) number place = (
 )
 
 -- and the letter is refused where the order is.
-pub letter-refused : (a : MagneticReading) (number place : ℕ)
+pub letter-refused : (a : Result (Centering × ℕ) Refusal) (number place : ℕ)
     → (magnetic_letter_answer a ≡ refused number place tt) ↔ (magnetic_order_answer a ≡ refused number place tt)
-letter-refused (Refused why) number place = ((λ e. e), λ e. e)
-letter-refused (Is c n) number place = (
+letter-refused (Err why) number place = ((λ e. e), λ e. e)
+letter-refused (Ok (c, n)) number place = (
   (λ e. let z : ◌≡◌ {A = ℕ} 0 1 = cc in absurd (omega arith)),
   λ e. let z : ◌≡◌ {A = ℕ} 0 1 = cc in absurd (omega arith),
 )

@@ -2,7 +2,7 @@
 -- bytes that it was read from.
 use Rattle.std.proofs.Math.Path.{◌≡◌, refl, ap, ap₂}
 use Rattle.std.proofs.Common.{sym, ◌∙◌, arith, length-append, drop_at}
-use Rattle.std.specs.Prelude.{Bool, not, ℕ, ◌+◌, ◌*◌, ◌-◌, ◌≤◌, ltb}
+use Rattle.std.specs.Prelude.{Bool, not, ℕ, ◌+◌, ◌*◌, ◌-◌, ◌≤◌, ltb, Err, Ok, Result}
 use Rattle.std.proofs.Math.Bool.{true, false, cond}
 use mathlib.Core.List.{List, ◌++◌}
 use Rattle.std.proofs.Math.ListN.{length, take, drop}
@@ -17,21 +17,20 @@ use Rattle.record_writing.specs.Places.{room_from, placed_in, placed_end}
 use Rattle.record_writing.specs.Copying.{copy_answer}
 use Rattle.record_writing.specs.WritingNumbers.{no_room, or_no_room, room_as}
 use Rattle.group_record.specs.declared.Refusal.{Refusal}
-use Rattle.record_writing.specs.declared.Copied.{Copied}
-use Rattle.record_writing.specs.declared.Copied.TheVariants.{Written, NoRoom, Refused as NotCopied}
 use Rattle.magnetic_record.specs.SecondEdition.{MagneticItem, second_edition}
 use Rattle.magnetic_record.specs.Reading.{magnetic_rules}
 use Rattle.magnetic_record.specs.RoundTrips.{magnetic-written-again}
 use Rattle.magnetic_record.specs.Answers.{reading_by, reading_of, magnetic_order_answer}
-use Rattle.magnetic_record.specs.declared.MagneticReading.TheVariants.{Is, Refused}
+use Rattle.record_writing.specs.declared.Unwritten.TheVariants.{NoRoom, Refused as NotCopied}
+use Rattle.record_writing.specs.declared.Unwritten.{Unwritten}
 
 -- The refusal of what was read goes first; then there is room for its record, or 20.
-abbrev pub copied_by : Told MagneticItem Centering (Unit {0}) → ℕ → ℕ → Copied
-copied_by (holds k c items) start size = cond (room_from start (total_length second_edition.width (length items)) size) (Written (length items)) NoRoom
-copied_by (not-held why) start size = NotCopied why
+abbrev pub copied_by : Told MagneticItem Centering (Unit {0}) → ℕ → ℕ → Result ℕ (Unwritten Refusal)
+copied_by (holds k c items) start size = cond (room_from start (total_length second_edition.width (length items)) size) (Ok (length items)) (Err NoRoom)
+copied_by (not-held why) start size = Err (NotCopied why)
 
 -- What is answered.
-unfoldable pub magnetic_copied_of : List ℕ → List ℕ → ℕ → Copied
+unfoldable pub magnetic_copied_of : List ℕ → List ℕ → ℕ → Result ℕ (Unwritten Refusal)
 magnetic_copied_of bytes out start = copied_by (told_by magnetic_rules bytes) start (length out)
 
 -- A refusal touches nothing.
@@ -70,51 +69,56 @@ module _ (bytes : List ℕ) where
       let (long, last) = end-bytes b c items e in
       record { letter = c; items = items; told = e; count = refl; long = long; last = last }
 
-  pub read-end : Bytes bytes → (c : Centering) (n : ℕ) → Is c n ≡ reading_of bytes → RecordAtEnd bytes n
+  abbrev order_in : Result (Centering × ℕ) Refusal → ℕ
+  order_in (Ok r) = r.1
+  order_in (Err why) = 0
+
+  pub read-end : Bytes bytes → (c : Centering) (n : ℕ) → Ok (c, n) ≡ reading_of bytes → RecordAtEnd bytes n
   read-end b c n e = go (told_by magnetic_rules bytes) refl e
     where
-      go : (t : Told MagneticItem Centering (Unit {0})) → told_by magnetic_rules bytes ≡ t → Is c n ≡ reading_by t → RecordAtEnd bytes n
-      go (holds k d items) told p = let count : length items ≡ n = cc in rw (← count) (at-end b d items told)
+      go : (t : Told MagneticItem Centering (Unit {0})) → told_by magnetic_rules bytes ≡ t → Ok (c, n) ≡ reading_by t → RecordAtEnd bytes n
+      go (holds k d items) told p = let count : length items ≡ n = ap order_in (sym p) in rw (← count) (at-end b d items told)
       go (not-held why) told p = let z : ◌≡◌ {A = ℕ} 0 1 = cc in absurd (omega arith)
 
   module _ (out : List ℕ) (start : ℕ) where
     -- A refusal is answered, and the buffer stays.
-    pub copy-refused : (why : Refusal) → Refused why ≡ reading_of bytes
-        → (NotCopied why ≡ magnetic_copied_of bytes out start) × (out ≡ magnetic_copy_buffer bytes out start)
+    pub copy-refused : (why : Refusal) → Err why ≡ reading_of bytes
+        → (Err (NotCopied why) ≡ magnetic_copied_of bytes out start) × (out ≡ magnetic_copy_buffer bytes out start)
     unfolding magnetic_copied_of magnetic_copy_buffer
     copy-refused why e = go (told_by magnetic_rules bytes) e
       where
-        go : (t : Told MagneticItem Centering (Unit {0})) → Refused why ≡ reading_by t
-            → (NotCopied why ≡ copied_by t start (length out)) × (out ≡ copy_by t out start)
+        go : (t : Told MagneticItem Centering (Unit {0})) → Err why ≡ reading_by t
+            → (Err (NotCopied why) ≡ copied_by t start (length out)) × (out ≡ copy_by t out start)
         go (holds k d items) p = let z : ◌≡◌ {A = ℕ} 0 1 = cc in absurd (omega arith)
-        go (not-held other) p = let same : why ≡ other = cc in (ap NotCopied same, refl)
+        go (not-held other) p = let same : why ≡ other = cc in (ap (λ x. Err (NotCopied x)) same, refl)
 
     -- The end of the buffer, placed, is the copy.
     pub copy-placed : (n : ℕ) (E : RecordAtEnd bytes n) (last : List ℕ) → last ≡ drop (length bytes - total_length 6 n) bytes
         → (b : Bool) → b ≡ room_from start (length last) (length out) → (left : List ℕ) → left ≡ placed_in out start last
-        → (cond b (Written n) NoRoom ≡ magnetic_copied_of bytes out start) × (left ≡ magnetic_copy_buffer bytes out start)
+        → (cond b (Ok n) (Err NoRoom) ≡ magnetic_copied_of bytes out start) × (left ≡ magnetic_copy_buffer bytes out start)
     unfolding magnetic_copied_of magnetic_copy_buffer
     copy-placed n E last same b room left placed =
         let own : last ≡ framed second_edition (byte_of E.letter) E.items = same ∙ E.last in
         let size : length last ≡ total_length 6 (length E.items) = ap length own ∙ framed-length second_edition (byte_of E.letter) E.items in
         let fits = room ∙ ap (λ (k : ℕ). room_from start k (length out)) size in (
-          ap₂ (λ (t : Bool) (k : ℕ). cond t (Written k) NoRoom) fits (sym E.count)
+          ap₂ (λ (t : Bool) (k : ℕ). cond t (Ok k) (Err NoRoom)) fits (sym E.count)
               ∙ ap (λ (t : Told MagneticItem Centering (Unit {0})). copied_by t start (length out)) (sym E.told),
           placed ∙ ap (placed_in out start) own ∙ ap (λ (t : Told MagneticItem Centering (Unit {0})). copy_by t out start) (sym E.told),
         )
 
     -- Where n operations were copied, the bytes from the start on are those that were read.
-    pub copied-same : Bytes bytes → (n : ℕ) → magnetic_copied_of bytes out start ≡ Written n
+    pub copied-same : Bytes bytes → (n : ℕ) → magnetic_copied_of bytes out start ≡ Ok n
         → take (start + total_length 6 n) (magnetic_copy_buffer bytes out start) ≡ take start out ++ drop (length bytes - total_length 6 n) bytes
     unfolding magnetic_copied_of magnetic_copy_buffer
     copied-same b n e = by (told_by magnetic_rules bytes) refl e
       where
-        by : (t : Told MagneticItem Centering (Unit {0})) → told_by magnetic_rules bytes ≡ t → copied_by t start (length out) ≡ Written n
+        by : (t : Told MagneticItem Centering (Unit {0})) → told_by magnetic_rules bytes ≡ t → copied_by t start (length out) ≡ Ok n
             → take (start + total_length 6 n) (copy_by t out start) ≡ take start out ++ drop (length bytes - total_length 6 n) bytes
         by (not-held why) told p = let z : ◌≡◌ {A = ℕ} 0 1 = cc in absurd (omega arith)
         by (holds k c items) told p = go (room_from start (total_length 6 (length items)) (length out)) refl p
           where
-            go : (r : Bool) → room_from start (total_length 6 (length items)) (length out) ≡ r → cond r (Written (length items)) NoRoom ≡ Written n
+            go : (r : Bool) → room_from start (total_length 6 (length items)) (length out) ≡ r
+                → cond {A = Result ℕ (Unwritten Refusal)} r (Ok (length items)) (Err NoRoom) ≡ Ok n
                 → take (start + total_length 6 n) (placed_in out start (framed second_edition (byte_of c) items))
                 ≡ take start out ++ drop (length bytes - total_length 6 n) bytes
             go false room q = let z : ◌≡◌ {A = ℕ} 0 1 = cc in absurd (omega arith)
@@ -130,7 +134,7 @@ module _ (bytes : List ℕ) where
     unfolding magnetic_copied_of
     magnetic-copy-told = by (told_by magnetic_rules bytes)
       where
-        fits : (n : ℕ) (b : Bool) → copy_answer (cond (not b) (Written n) NoRoom) ≡ cond b no_room (given n)
+        fits : (n : ℕ) (b : Bool) → copy_answer (cond (not b) (Ok n) (Err NoRoom)) ≡ cond b no_room (given n)
         fits n true = refl
         fits n false = refl
 

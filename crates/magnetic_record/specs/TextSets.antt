@@ -1,6 +1,6 @@
 -- What is written for a magnetic text: when it is, and when each refusal is given; it is read back; and two texts have one record exactly if their sets of
 -- flagged motions are equal. The idea: a text spells one symbol, and of the symbol's generators it is known.
-use Rattle.std.specs.Prelude.{◌≡◌, ◌⊎◌, ◌↔◌, Bool, not, List, ◌++◌, ℕ, ◌+◌, ◌*◌, ◌≤◌, ltb, length, take}
+use Rattle.std.specs.Prelude.{◌≡◌, ◌⊎◌, ◌↔◌, Bool, not, List, ◌++◌, ℕ, ◌+◌, ◌*◌, ◌≤◌, ltb, length, take, Err, Ok, Result}
 use Rattle.std.proofs.Math.Path.{refl, ap}
 use Rattle.std.proofs.Common.{sym, ◌∙◌, ap₂, subst, arith, ltb-false, le-ltb}
 use Rattle.std.proofs.Math.Bool.{true, false, cond}
@@ -25,13 +25,14 @@ use Rattle.record_writing.specs.Places.{room_from, placed_in, placed_end}
 use Rattle.group_record.specs.Rules.{holds, told_by}
 use Rattle.record_writing.specs.WritingNumbers.{no_room, or_no_room, WantsRoom, no-room-exactly, room_as}
 use Rattle.record_writing.specs.SymbolRecords.{symbol_record_answer}
-use Rattle.record_writing.specs.declared.SymbolRecord.{SymbolRecord}
-use Rattle.record_writing.specs.declared.SymbolRecord.TheVariants.{Written, NoRoom, Refused as NotWritten}
 use Rattle.magnetic_record.specs.Reading.{magnetic_rules}
 use Rattle.magnetic_record.specs.Groups.{FlaggedMotion}
 use Rattle.magnetic_record.specs.Record.{magnetic_form, magnetic_record}
 use Rattle.magnetic_record.specs.SymbolRecords.{record-size, symbol-record-read, symbols-say-sets}
 use Rattle.magnetic_record.specs.TextRecords.{record_by, magnetic_text_record, written_by, magnetic_record_of, placed_by, magnetic_buffer_of}
+use Rattle.record_writing.specs.declared.Unwritten.TheVariants.{NoRoom, Refused as NotWritten}
+use Rattle.record_writing.specs.declared.Unwritten.{Unwritten}
+use Rattle.symbol_group.specs.declared.refusal.Refusal.{Refusal}
 
 -- ---- in numbers
 module _ (text out : List ℕ) (start : ℕ) where
@@ -40,7 +41,7 @@ module _ (text out : List ℕ) (start : ℕ) where
   unfolding magnetic_record_of told
   magnetic-record-told = by (magnetic_outcome text)
     where
-      fits : (n : ℕ) (b : Bool) → symbol_record_answer (cond (not b) (Written n) NoRoom) ≡ cond b no_room (given n)
+      fits : (n : ℕ) (b : Bool) → symbol_record_answer (cond (not b) (Ok n) (Err NoRoom)) ≡ cond b no_room (given n)
       fits n true = refl
       fits n false = refl
 
@@ -57,7 +58,7 @@ module _ (text out : List ℕ) (start : ℕ) where
   magnetic-record-refused number place = rw magnetic-record-told (no-room-exactly 6 (told text) start (length out) number place)
 
   -- A record of n operations is written exactly if the symbol has n and there are 6n + 5 bytes from the start on.
-  pub magnetic-written-exactly : (n : ℕ) → (magnetic_record_of text out start ≡ Written n) ↔ ((told text ≡ given n) × (start + (6 * n + 5) ≤ length out))
+  pub magnetic-written-exactly : (n : ℕ) → (magnetic_record_of text out start ≡ Ok n) ↔ ((told text ≡ given n) × (start + (6 * n + 5) ≤ length out))
   magnetic-written-exactly n = (
     (λ e. by-room (told text) (sym magnetic-record-told ∙ ap symbol_record_answer e)),
     λ (e, h). from-answer (magnetic_record_of text out start) (magnetic-record-told ∙ room (told text) e h),
@@ -75,10 +76,10 @@ module _ (text out : List ℕ) (start : ℕ) where
       room : (a : Answer ℕ Nothing) → a ≡ given n → start + (6 * n + 5) ≤ length out → or_no_room 6 a start (length out) ≡ given n
       room a e h = rw (e, le-ltb (length out) (start + (6 * n + 5)) h)
 
-      from-answer : (r : SymbolRecord) → symbol_record_answer r ≡ given n → r ≡ Written n
-      from-answer (Written m) e = let same : m ≡ n = cc in ap Written same
-      from-answer NoRoom e = let z : ◌≡◌ {A = ℕ} 0 1 = cc in absurd (omega arith)
-      from-answer (NotWritten r) e = let z : ◌≡◌ {A = ℕ} 0 1 = cc in absurd (omega arith)
+      from-answer : (r : Result ℕ (Unwritten Refusal)) → symbol_record_answer r ≡ given n → r ≡ Ok n
+      from-answer (Ok m) e = let same : m ≡ n = cc in ap Ok same
+      from-answer (Err NoRoom) e = let z : ◌≡◌ {A = ℕ} 0 1 = cc in absurd (omega arith)
+      from-answer (Err (NotWritten r)) e = let z : ◌≡◌ {A = ℕ} 0 1 = cc in absurd (omega arith)
 
 -- ---- accepted texts
 -- The text is accepted, and this is answered.
@@ -104,14 +105,14 @@ module _ (text : List ℕ) (A : AcceptedMagnetic text) where
       ∙ symbol-record-read A.letter (with_flags gs fs) A.operations A.steps accepted front
 
 -- Where n operations were written, the buffer up to the record's end is read as the symbol's group.
-pub text-buffer-read : (text out : List ℕ) (start n : ℕ) → magnetic_record_of text out start ≡ Written n
+pub text-buffer-read : (text out : List ℕ) (start n : ℕ) → magnetic_record_of text out start ≡ Ok n
     → (A : AcceptedMagnetic text)
     × (told_by magnetic_rules (take (start + total_length 6 n) (magnetic_buffer_of text out start))
     ≡ holds tt A.letter (magnetic_form A.letter A.operations))
 unfolding magnetic_record_of magnetic_buffer_of
 text-buffer-read text out start n e = by (magnetic_outcome text) refl e
   where
-    by : (o : SymbolOutcome) → magnetic_outcome text ≡ o → written_by o start (length out) ≡ Written n
+    by : (o : SymbolOutcome) → magnetic_outcome text ≡ o → written_by o start (length out) ≡ Ok n
         → (A : AcceptedMagnetic text)
         × (told_by magnetic_rules (take (start + total_length 6 n) (placed_by o out start)) ≡ holds tt A.letter (magnetic_form A.letter A.operations))
     by (made c (refused r)) is p = let z : ◌≡◌ {A = ℕ} 0 1 = cc in absurd (omega arith)
@@ -120,7 +121,8 @@ text-buffer-read text out start n e = by (magnetic_outcome text) refl e
         let A : AcceptedMagnetic text = record { letter = c; operations = operations; steps = steps; outcome = is } in
         (A, go (room_from start (total_length 6 (length operations)) (length out)) refl p)
       where
-        go : (b : Bool) → room_from start (total_length 6 (length operations)) (length out) ≡ b → cond b (Written (length operations)) NoRoom ≡ Written n
+        go : (b : Bool) → room_from start (total_length 6 (length operations)) (length out) ≡ b
+            → cond {A = Result ℕ (Unwritten Refusal)} b (Ok (length operations)) (Err NoRoom) ≡ Ok n
             → told_by magnetic_rules (take (start + total_length 6 n) (placed_in out start (magnetic_record c operations)))
             ≡ holds tt c (magnetic_form c operations)
         go false room q = let z : ◌≡◌ {A = ℕ} 0 1 = cc in absurd (omega arith)

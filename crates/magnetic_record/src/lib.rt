@@ -4,10 +4,3 @@
 
 use centering::Centering;
 use group_record::Refusal;
-
-// What a buffer is read as: the letter of the lattice and how many operations the record at its end holds, or why it holds none.
-#[derive(Clone, Copy)]
-pub enum MagneticReading {
-    Is(Centering, usize),
-    Refused(Refusal),
-}

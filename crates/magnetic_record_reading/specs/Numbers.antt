@@ -1,17 +1,14 @@
 -- The items of a magnetic record as numbers, by which products are made: each number says its item's operation and flag, so what is found of the product of
 -- two numbers is what the test of 35 asks of the two items.
-use Rattle.std.specs.Prelude.{◌≡◌, refl, List, ℕ, ◌+◌, ◌%◌, ◌<◌, ◌≤◌, length, get_or, set}
+use Rattle.std.specs.Prelude.{◌≡◌, refl, List, ℕ, ◌+◌, ◌%◌, ◌<◌, ◌≤◌, length, get_or, set, None, Option, Some}
 use Rattle.std.proofs.Common.{◌∙◌, ap, arith, lt-ltb, get_or-set_same, get_or-set_other}
 use Rattle.std.proofs.Math.Decide.{ℕ_discrete}
 use Rattle.operation.specs.Code.{rotation-digits}
 use Rattle.operation.specs.Meaning.{Digits, rotation≡}
 use Rattle.operation.specs.Product.{product_of}
 use Rattle.operation.specs.declared.Operation.{Operation}
-use Rattle.operation.specs.declared.product.Product.{Product}
-use Rattle.operation.specs.declared.product.Product.TheVariants.{Inside, Outside}
 use Rattle.packed_operation.specs.Number.{said_by, flag_of, packed_of, narrowed, numbered}
 use Rattle.packed_operation.specs.RoundTrip.{number-says, flag-said}
-use Rattle.packed_operation.specs.declared.Numbered.TheVariants as answer
 use Rattle.space_group.specs.NumberGrowth.{narrowed-narrow, narrowed-short}
 use Rattle.centering.specs.Keeps.{keeps_of}
 use Rattle.centering.specs.declared.Centering.{Centering}
@@ -70,10 +67,10 @@ packed-next bytes numbers i number inside before said j h = elim (ℕ_discrete j
 
 -- ---- products
 -- A product without a number is none.
-pub no_number : (p : Product) (flag : ℕ) → numbered p flag ≡ answer.Outside → p ≡ Outside
+pub no_number : (p : Option Operation) (flag : ℕ) → numbered p flag ≡ None → p ≡ None
 unfolding numbered
-no_number (Inside o) flag e = let z : ◌≡◌ {A = ℕ} 0 1 = cc in absurd (omega arith)
-no_number Outside flag e = refl
+no_number (Some o) flag e = let z : ◌≡◌ {A = ℕ} 0 1 = cc in absurd (omega arith)
+no_number None flag e = refl
 
 -- What is asked of a product of numbers is asked of the items,
 pub pair-said : (c : Centering) (items : List MagneticItem) (i j : MagneticItem) (f g : ℕ) → Says i f → Says j g

@@ -16,7 +16,7 @@ use group_record::items::operation_of_item;
 use operation::Operation;
 use operation::code::rotation_code;
 use operation::product::identity;
-use packed_operation::{Numbered, flag, number, product, said};
+use packed_operation::{flag, number, product, said};
 
 // The identity is listed without the flag, every rotation keeps the lattice, and every product is listed with its flag.
 pub(crate) fn is_group(bytes: &[u8], c: Centering, n: usize) -> bool
@@ -36,13 +36,11 @@ fn pack(bytes: &[u8], n: usize, numbers: &mut [u64; 96])
     requires { GoodPlaces n bytes.now × (length numbers.old ≡ 96) }
     ensures { Packed n bytes.now numbers.new }
 {
-    let mut i = 0usize;
-    while i < n {
+    for i in 0..n {
         numbers[i] = number(
             operation_of_item(plain_at(bytes, i)),
             flag_at(bytes, i) as u64,
         );
-        i += 1;
     }
 }
 
@@ -50,12 +48,10 @@ fn all_members(bytes: &[u8], c: Centering, n: usize, numbers: &[u64; 96]) -> boo
     requires { GoodPlaces n bytes.now × Packed n bytes.now numbers.now }
     ensures { result ≡ all (flagged_member c (items_of n bytes.now)) (items_of n bytes.now) }
 {
-    let mut i = 0usize;
-    while i < n {
+    for i in 0..n {
         if !is_member(bytes, c, n, numbers, i) {
             return false;
         }
-        i += 1;
     }
     true
 }
@@ -64,11 +60,7 @@ fn is_member(bytes: &[u8], c: Centering, n: usize, numbers: &[u64; 96], i: usize
     requires { GoodPlaces n bytes.now × Packed n bytes.now numbers.now × (i < n) }
     ensures { result ≡ flagged_member c (items_of n bytes.now) (item_at bytes.now i) }
 {
-    let f = said(numbers[i]);
-    if !c.keeps(f.rotation) {
-        return false;
-    }
-    are_products(bytes, c, n, numbers, i)
+    c.keeps(said(numbers[i]).rotation) && are_products(bytes, c, n, numbers, i)
 }
 
 // Every product with the left factor i is listed.
@@ -76,12 +68,10 @@ fn are_products(bytes: &[u8], c: Centering, n: usize, numbers: &[u64; 96], i: us
     requires { GoodPlaces n bytes.now × Packed n bytes.now numbers.now × (i < n) }
     ensures { result ≡ all (flagged_pair_listed (items_of n bytes.now) c (item_at bytes.now i)) (items_of n bytes.now) }
 {
-    let mut j = 0usize;
-    while j < n {
+    for j in 0..n {
         if !is_product(bytes, c, n, numbers[i], numbers[j]) {
             return false;
         }
-        j += 1;
     }
     true
 }
@@ -91,7 +81,7 @@ fn is_product(bytes: &[u8], c: Centering, n: usize, f: u64, g: u64) -> bool
     requires { GoodPlaces n bytes.now }
     ensures { result ≡ product_listed c (half ((flag_of f + flag_of g) % 2) (items_of n bytes.now)) (product_of (said_by f) (said_by g)) }
 {
-    let Numbered::Inside(h) = product(f, g) else {
+    let Some(h) = product(f, g) else {
         return false;
     };
     is_listed(bytes, c, n, said(h), flag(h))
@@ -104,17 +94,14 @@ fn is_listed(bytes: &[u8], c: Centering, n: usize, f: Operation, flag: u64) -> b
 {
     let key = 2 * rotation_code(f.rotation) as u64 + flag;
     let i = place_of_key(bytes, n, key);
-    if n <= i {
+    if n <= i || key_at(bytes, i) != key {
         return false;
     }
-    if key_at(bytes, i) != key {
-        return false;
-    }
-    let item = plain_at(bytes, i);
-    c.congruent(f.translation, item.translation)
+    c.congruent(f.translation, plain_at(bytes, i).translation)
 }
 
 // How many keys are below a number, found by halving.
+// The library's partition_point goes by the elements of a slice, and an item is six of them, so this halves by hand.
 fn place_of_key(bytes: &[u8], n: usize, key: u64) -> usize
     requires { GoodPlaces n bytes.now }
     ensures { KeyPlace n bytes.now key result }

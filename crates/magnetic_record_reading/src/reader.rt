@@ -12,23 +12,22 @@ ghost use Rattle.magnetic_record_reading.specs.Trailer.{read_counted};
 
 use super::group::is_group;
 use super::items::{flag_at, key_at, plain_at};
-use centering::{Centering, Letter};
+use centering::Centering;
 use group_record::Refusal;
-use magnetic_record::MagneticReading;
 
 // The record of edition 2 that ends where the bytes end.
-pub fn read_record(bytes: &[u8]) -> MagneticReading
+pub fn read_record(bytes: &[u8]) -> Result<(Centering, usize), Refusal>
     ensures { result ≡ reading_of bytes.now }
 {
     let size = bytes.len();
     if size < 10 {
-        return MagneticReading::Refused(Refusal::Short);
+        return Err(Refusal::Short);
     }
     if from_end(bytes, 4) != 2 {
-        return MagneticReading::Refused(Refusal::WrongEdition);
+        return Err(Refusal::WrongEdition);
     }
-    let Letter::Is(c) = Centering::from_byte(from_end(bytes, 5)) else {
-        return MagneticReading::Refused(Refusal::WrongLetter);
+    let Some(c) = Centering::from_byte(from_end(bytes, 5)) else {
+        return Err(Refusal::WrongLetter);
     };
     read_counted(bytes, c)
 }
@@ -41,7 +40,7 @@ fn from_end(bytes: &[u8], k: usize) -> u8
     bytes[bytes.len() - k]
 }
 
-fn read_counted(bytes: &[u8], c: Centering) -> MagneticReading
+fn read_counted(bytes: &[u8], c: Centering) -> Result<(Centering, usize), Refusal>
     requires { 10 ≤ length bytes.now }
     ensures { result ≡ read_counted c bytes.now }
 {
@@ -49,55 +48,43 @@ fn read_counted(bytes: &[u8], c: Centering) -> MagneticReading
     let n = from_end(bytes, 3) as usize;
     let stated = from_end(bytes, 2) as usize * 256 + from_end(bytes, 1) as usize;
     if !length_fits(n, stated, size) {
-        return MagneticReading::Refused(Refusal::WrongLength);
+        return Err(Refusal::WrongLength);
     }
     let start = size - stated;
     if !are_items(&bytes[start..], c, n) {
-        return MagneticReading::Refused(Refusal::WrongItem);
+        return Err(Refusal::WrongItem);
     }
     if !is_group(&bytes[start..], c, n) {
-        return MagneticReading::Refused(Refusal::NotAllowed);
+        return Err(Refusal::NotAllowed);
     }
-    MagneticReading::Is(c, n)
+    Ok((c, n))
 }
 
 // 1 to 96 operations, and the stated length right and within the buffer.
 fn length_fits(n: usize, stated: usize, size: usize) -> bool
     ensures { result ≡ length_fits 6 96 n stated size }
 {
-    if n < 1 {
+    if n < 1 || 96 < n {
         return false;
     }
-    if 96 < n {
-        return false;
-    }
-    let total = 6 * n + 5;
-    if stated != total {
-        return false;
-    }
-    total <= size
+    stated == 6 * n + 5 && stated <= size
 }
 
 fn are_items(bytes: &[u8], c: Centering, n: usize) -> bool
     requires { (1 ≤ n) × (n ≤ 96) × (6 * n ≤ length bytes.now) }
     ensures { result ≡ are_good magnetic_rules tt c (items_of n bytes.now) }
 {
-    if !items_fit(bytes, c, n) {
-        return false;
-    }
-    keys_ascend(bytes, n)
+    items_fit(bytes, c, n) && keys_ascend(bytes, n)
 }
 
 fn items_fit(bytes: &[u8], c: Centering, n: usize) -> bool
     requires { (n ≤ 96) × (6 * n ≤ length bytes.now) }
     ensures { result ≡ all (is_magnetic_item c) (items_of n bytes.now) }
 {
-    let mut i = 0usize;
-    while i < n {
+    for i in 0..n {
         if !is_item(bytes, c, i) {
             return false;
         }
-        i += 1;
     }
     true
 }
@@ -107,22 +94,17 @@ fn is_item(bytes: &[u8], c: Centering, i: usize) -> bool
     requires { 6 * i + 6 ≤ length bytes.now }
     ensures { result ≡ is_magnetic_item c (item_at bytes.now i) }
 {
-    if !group_record::items::is_item(plain_at(bytes, i), c) {
-        return false;
-    }
-    flag_at(bytes, i) <= 1
+    group_record::items::is_item(plain_at(bytes, i), c) && flag_at(bytes, i) <= 1
 }
 
 fn keys_ascend(bytes: &[u8], n: usize) -> bool
     requires { (1 ≤ n) × (n ≤ 96) × (6 * n ≤ length bytes.now) }
     ensures { result ≡ ascending key_before (items_of n bytes.now) }
 {
-    let mut i = 0usize;
-    while i + 1 < n {
+    for i in 0..n - 1 {
         if key_at(bytes, i + 1) <= key_at(bytes, i) {
             return false;
         }
-        i += 1;
     }
     true
 }

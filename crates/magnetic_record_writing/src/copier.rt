@@ -1,27 +1,28 @@
 // What is read from one buffer, written at a stated place of another: the bytes of the record themselves.
-ghost use Rattle.std.specs.Prelude.{◌≡◌, ◌++◌, ◌≤◌, length, drop};
+ghost use Rattle.std.specs.Prelude.{◌≡◌, length};
 ghost use Rattle.record_writing.specs.Places.{room_from, placed_in};
 ghost use Rattle.magnetic_record.specs.Copying.{magnetic_copied_of, magnetic_copy_buffer};
 
-use magnetic_record::MagneticReading;
 use magnetic_record_reading::reader::read_record;
-use record_writing::Copied;
+use record_writing::Unwritten;
 
 // The count of what was read and written; a refusal leaves out as it was.
-pub fn copy_record(bytes: &[u8], out: &mut [u8], start: usize) -> Copied
+pub fn copy_record(
+    bytes: &[u8],
+    out: &mut [u8],
+    start: usize,
+) -> Result<usize, Unwritten<group_record::Refusal>>
     ensures { (result ≡ magnetic_copied_of bytes.now out.old start)
         × (out.new ≡ magnetic_copy_buffer bytes.now out.old start) }
 {
-    let size = bytes.len();
-    let read = read_record(bytes);
-    match read {
-        MagneticReading::Refused(why) => Copied::Refused(why),
-        MagneticReading::Is(_, n) => {
-            let from = size - (6 * n + 5);
+    match read_record(bytes) {
+        Err(why) => Err(Unwritten::Refused(why)),
+        Ok((_, n)) => {
+            let from = bytes.len() - (6 * n + 5);
             if !place_bytes(&bytes[from..], out, start) {
-                return Copied::NoRoom;
+                return Err(Unwritten::NoRoom);
             }
-            Copied::Written(n)
+            Ok(n)
         }
     }
 }
@@ -32,24 +33,9 @@ fn place_bytes(bytes: &[u8], out: &mut [u8], start: usize) -> bool
         × (out.new ≡ placed_in out.old start bytes.now) }
 {
     let size = out.len();
-    if size < start {
+    if size < start || size - start < bytes.len() {
         return false;
     }
-    if size - start < bytes.len() {
-        return false;
-    }
-    copy_bytes(bytes, &mut out[start..]);
+    out[start..start + bytes.len()].copy_from_slice(bytes);
     true
-}
-
-// Bytes at the start of out.
-fn copy_bytes(bytes: &[u8], out: &mut [u8])
-    requires { length bytes.now ≤ length out.old }
-    ensures { out.new ≡ bytes.now ++ drop (length bytes.now) out.old }
-{
-    let mut i = 0usize;
-    while i < bytes.len() {
-        out[i] = bytes[i];
-        i += 1;
-    }
 }

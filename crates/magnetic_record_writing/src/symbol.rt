@@ -4,25 +4,27 @@ ghost use Rattle.magnetic_record.specs.TextRecords.{magnetic_record_of, magnetic
 
 use super::writer::place_group;
 use magnetic_group::{Answer, list};
-use record_writing::SymbolRecord;
+use record_writing::Unwritten;
 
 // The count of what was written; a refusal leaves out as it was.
-pub fn write_record(text: &[u8], out: &mut [u8], start: usize) -> SymbolRecord
+pub fn write_record(
+    text: &[u8],
+    out: &mut [u8],
+    start: usize,
+) -> Result<usize, Unwritten<symbol_group::refusal::Refusal>>
     ensures { (result ≡ magnetic_record_of text.now out.old start)
         × (out.new ≡ magnetic_buffer_of text.now out.old start) }
 {
     let mut numbers = [0u64; 96];
     let group = list(text, &mut numbers);
-    let answer = group.answer;
-    match answer {
-        Answer::Refused(refusal) => SymbolRecord::Refused(refusal),
+    match group.answer {
+        Answer::Refused(refusal) => Err(Unwritten::Refused(refusal)),
         Answer::Group => {
             let n = group.count;
-            let c = group.centering;
-            if !place_group(out, start, c, &numbers[..n]) {
-                return SymbolRecord::NoRoom;
+            if !place_group(out, start, group.centering, &numbers[..n]) {
+                return Err(Unwritten::NoRoom);
             }
-            SymbolRecord::Written(n)
+            Ok(n)
         }
     }
 }

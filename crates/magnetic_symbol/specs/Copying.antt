@@ -80,7 +80,3 @@ long-answer text h l e = rw (e, read-long text l, long-read text l)
 pub short-answer : (text : List ℕ) (h : HallSymbol) (fs gs : List Bool) → h ≡ answer_of (read_symbol (blanked text)) → gs ≡ flag_slots text
     → fs ≡ kept_flags h.answer gs → ◌≡◌ {A = MagneticSymbol} (record { symbol = h; flags = fs }) (magnetic_answer text)
 short-answer text h fs gs e g k = rw (k, g, e)
-
--- A text of at most 80 bytes has room in eighty places.
-pub prefix-room : (n : ℕ) (l : List ℕ) → length l ≡ 80 → n ≤ 80 → n ≤ length l
-prefix-room n l e h = omega arith

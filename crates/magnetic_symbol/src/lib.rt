@@ -29,18 +29,15 @@ impl MagneticSymbol {
     pub fn new(text: &[u8]) -> MagneticSymbol
         ensures { result ≡ magnetic_answer text.now }
     {
-        let n = text.len();
-        if 80 < n {
-            let symbol = HallSymbol::new(text);
-            let flags = [false; 9];
-            return MagneticSymbol { symbol, flags };
+        if 80 < text.len() {
+            return MagneticSymbol {
+                symbol: HallSymbol::new(text),
+                flags: [false; 9],
+            };
         }
         let copy = reversals::blanked(text);
-        let bytes = copy.bytes;
-        let symbol = HallSymbol::new(&bytes[..n]);
-        let answer = symbol.answer;
-        let told = copy.flags;
-        let flags = kept(answer, told);
+        let symbol = HallSymbol::new(&copy.bytes[..text.len()]);
+        let flags = kept(symbol.answer, copy.flags);
         MagneticSymbol { symbol, flags }
     }
 }

@@ -42,27 +42,30 @@ fn marked(byte: u8) -> Mode
     ensures { result ≡ marked byte }
 {
     if byte == b'\'' {
-        return Mode::Marked;
+        Mode::Marked
+    } else {
+        Mode::Unmarked
     }
-    Mode::Unmarked
 }
 
 fn starting(byte: u8) -> Mode
     ensures { result ≡ starting byte }
 {
     if byte == b'(' {
-        return Mode::Rest;
+        Mode::Rest
+    } else {
+        marked(byte)
     }
-    marked(byte)
 }
 
 fn within(byte: u8, mode: Mode) -> Mode
     ensures { result ≡ within byte mode }
 {
     if is_whitespace(byte) {
-        return Mode::Between;
+        Mode::Between
+    } else {
+        mode
     }
-    mode
 }
 
 // Where the byte behind this one stands.
@@ -70,12 +73,8 @@ fn after(mode: Mode, byte: u8) -> Mode
     ensures { result ≡ after mode byte }
 {
     match mode {
-        Mode::Before => {
-            if is_whitespace(byte) {
-                return Mode::Before;
-            }
-            Mode::First
-        }
+        Mode::Before if is_whitespace(byte) => Mode::Before,
+        Mode::Before => Mode::First,
         Mode::First => within(byte, Mode::First),
         Mode::Between => within(byte, starting(byte)),
         Mode::Unmarked => within(byte, marked(byte)),
@@ -84,14 +83,14 @@ fn after(mode: Mode, byte: u8) -> Mode
     }
 }
 
-// Whether no token goes on at a place.
-fn ends(text: &[u8], at: usize) -> bool
-    ensures { result ≡ ends (drop at text.now) }
+// Whether no token goes on in what follows.
+fn ends(following: &[u8]) -> bool
+    ensures { result ≡ ends following.now }
 {
-    if text.len() <= at {
-        return true;
+    match following.first() {
+        Some(byte) => is_whitespace(*byte),
+        None => true,
     }
-    is_whitespace(text[at])
 }
 
 // Whether a byte is a time reversal.
@@ -99,83 +98,45 @@ fn reverses(mode: Mode, byte: u8, last: bool) -> bool
     ensures { result ≡ reverses mode byte last }
 {
     match mode {
-        Mode::Unmarked => {
-            if byte != b'\'' {
-                return false;
-            }
-            last
-        }
-        Mode::Before => false,
-        Mode::First => false,
-        Mode::Between => false,
-        Mode::Marked => false,
-        Mode::Rest => false,
+        Mode::Unmarked => byte == b'\'' && last,
+        _ => false,
     }
 }
 
 fn in_token(mode: Mode) -> bool
     ensures { result ≡ in_token mode }
 {
-    match mode {
-        Mode::Before => false,
-        Mode::First => false,
-        Mode::Between => false,
-        Mode::Unmarked => true,
-        Mode::Marked => true,
-        Mode::Rest => false,
-    }
+    matches!(mode, Mode::Unmarked | Mode::Marked)
 }
 
 fn leads(mode: Mode, byte: u8) -> bool
     ensures { result ≡ leads mode byte }
 {
-    match mode {
-        Mode::Before => byte == b'-',
-        Mode::First => false,
-        Mode::Between => false,
-        Mode::Unmarked => false,
-        Mode::Marked => false,
-        Mode::Rest => false,
-    }
+    matches!(mode, Mode::Before) && byte == b'-'
 }
 
 // Whether a generator's flag is known here: at the `-` of the first token, and at the last byte of an N token.
 fn gives(mode: Mode, byte: u8, last: bool) -> bool
     ensures { result ≡ gives mode byte last }
 {
-    if leads(mode, byte) {
-        return true;
-    }
-    if !last {
-        return false;
-    }
-    in_token(after(mode, byte))
+    leads(mode, byte) || (last && in_token(after(mode, byte)))
 }
 
 fn copied_byte(byte: u8, reversed: bool) -> u8
     ensures { result ≡ copied_byte byte reversed }
 {
-    if reversed {
-        return b' ';
-    }
-    byte
+    if reversed { b' ' } else { byte }
 }
 
 // A flag noted if it is given, and if there is room.
-fn noted(list: Flags, given: bool, flag: bool) -> Flags
+fn noted(mut list: Flags, given: bool, flag: bool) -> Flags
     ensures { result ≡ noted list given flag }
 {
-    if !given {
-        return list;
+    if given && list.count < 9 {
+        list.flags[list.count] = flag;
+        list.count += 1;
     }
-    let at = list.count;
-    if 9 <= at {
-        return list;
-    }
-    let mut longer = list;
-    longer.flags[at] = flag;
-    longer.count = at + 1;
-    longer
+    list
 }
 
 // The copy of a text of at most 80 bytes, in the first places of eighty, and the flags.
@@ -190,16 +151,13 @@ pub(crate) fn blanked(text: &[u8]) -> Copied
         flags: [false; 9],
     };
     let mut mode = Mode::Before;
-    let mut i = 0usize;
-    while i < text.len() {
-        let byte = text[i];
-        let last = ends(text, i + 1);
+    for (i, &byte) in text.iter().enumerate() {
+        let last = ends(&text[i + 1..]);
         let reversed = reverses(mode, byte, last);
         let given = gives(mode, byte, last);
         bytes[i] = copied_byte(byte, reversed);
         list = noted(list, given, reversed);
         mode = after(mode, byte);
-        i += 1;
     }
     let flags = list.flags;
     Copied { bytes, flags }

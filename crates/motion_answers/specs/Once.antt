@@ -1,6 +1,6 @@
 -- Number, place and value determine an answer on the group of a symbol or a record, and its number and place say whether the text, the record or its group is
 -- refused, and why, as they do in the three rooms of these: their numbers are apart.
-use Rattle.std.specs.Prelude.{◌≡◌, ℕ, ◌<◌, ◌≤◌}
+use Rattle.std.specs.Prelude.{◌≡◌, ℕ, ◌<◌, ◌≤◌, Err, Ok, Result}
 use Rattle.std.proofs.Common.{ap, ap₂, arith}
 use Rattle.symbol_group.specs.Refusals as symbol
 use Rattle.symbol_group.specs.Told as symbol-told
@@ -14,8 +14,6 @@ use Rattle.table_check.specs.declared.Refusal as group-refusal
 use Rattle.table_check.specs.declared.Refusal.TheVariants as group-refusals
 use Rattle.table_answers.specs.Once.{number-once}
 use Rattle.motion_tables.specs.Answers.{symbol_refusal, record_refusal, table_refusal, motion_answer}
-use Rattle.motion_tables.specs.declared.Answer.{Answer}
-use Rattle.motion_tables.specs.declared.Answer.TheVariants.{Value, Refused}
 use Rattle.motion_tables.specs.declared.Refusal.{Refusal}
 
 -- the numbers of tables
@@ -68,11 +66,11 @@ told-once (of_group r) (of_group s) e p = ap of_group (number-once r s e)
 pub reason-once : (r s : Reason) → in_numbers r ≡ in_numbers s → r ≡ s
 reason-once r s e = told-once r s (ap (λ (t : Refusal). t.number) e) (ap (λ (t : Refusal). t.place) e)
 
-pub answer-once : (a b : Answer) → motion_answer a ≡ motion_answer b → a ≡ b
-answer-once (Value v) (Value w) e = let same : v ≡ w = cc in ap Value same
-answer-once (Value v) (Refused r) e = let z : ◌≡◌ {A = ℕ} 0 1 = cc in absurd (omega arith)
-answer-once (Refused r) (Value w) e = let z : ◌≡◌ {A = ℕ} 0 1 = cc in absurd (omega arith)
-answer-once (Refused r) (Refused s) e =
+pub answer-once : (a b : Result ℕ Refusal) → motion_answer a ≡ motion_answer b → a ≡ b
+answer-once (Ok v) (Ok w) e = let same : v ≡ w = cc in ap Ok same
+answer-once (Ok v) (Err r) e = let z : ◌≡◌ {A = ℕ} 0 1 = cc in absurd (omega arith)
+answer-once (Err r) (Ok w) e = let z : ◌≡◌ {A = ℕ} 0 1 = cc in absurd (omega arith)
+answer-once (Err r) (Err s) e =
     let number : r.number ≡ s.number = cc in
     let place : r.place ≡ s.place = cc in
-    ap₂ (λ (n p : ℕ). Refused (record { number = n; place = p })) number place
+    ap₂ (λ (n p : ℕ). Err (record { number = n; place = p })) number place

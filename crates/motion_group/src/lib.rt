@@ -2,7 +2,7 @@
 // Ported from subgroup/finite_group.rs of moyo 0.21.0 (`FiniteGroup`), and changed: one call from the text or the record, numbered refusals.
 #![tactic(auto)]
 
-pub use motion_tables::{Answer, Refusal};
+pub use motion_tables::Refusal;
 
 pub mod record;
 pub mod symbol;

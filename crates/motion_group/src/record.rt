@@ -1,12 +1,11 @@
 // The group of a record: order, identity, subgroups, classes, conjugates, normalizers and permutations, or the record's refusal.
 // Ported from subgroup/finite_group.rs of moyo 0.21.0 (`FiniteGroup`), and changed: one call from the record.
-ghost use Rattle.std.specs.Prelude.{◌≡◌, List, ℕ};
+ghost use Rattle.std.specs.Prelude.{◌≡◌, List, ℕ, Ok};
 ghost use Rattle.finite_group.specs.Answers.{identity_answer, subgroups_answer, subgroups_bytes, classes_answer, classes_bytes, conjugate_entry, normalizer_entry, permutation_entry, permutation_list, conjugates_entry, conjugates_list, conjugators_list};
-ghost use Rattle.table_check.specs.declared.Answer.TheVariants.{Value};
 ghost use Rattle.motion_tables.specs.Answers.{on_record, bytes_on_record};
 
-use super::Answer;
 use group_record::Reading;
+use motion_tables::Refusal;
 use motion_tables::record::{in_numbers, table};
 use motion_tables::table::{
     classes_in, conjugate_in, conjugates_in, identity_in, normalizer_in, permutation_in,
@@ -14,18 +13,18 @@ use motion_tables::table::{
 };
 use record_reading::reader::read_record;
 
-pub fn order(bytes: &[u8]) -> Answer
-    ensures { result ≡ on_record bytes.now (λ (n : ℕ) (t : List ℕ). Value n) }
+pub fn order(bytes: &[u8]) -> Result<u64, Refusal>
+    ensures { result ≡ on_record bytes.now (λ (n : ℕ) (t : List ℕ). Ok n) }
 {
     let group = read_record(bytes);
     let answer = group.answer;
     match answer {
-        Reading::Accepted => Answer::Value(group.count as u64),
-        Reading::Refused(why) => Answer::Refused(in_numbers(why)),
+        Reading::Accepted => Ok(group.count as u64),
+        Reading::Refused(why) => Err(in_numbers(why)),
     }
 }
 
-pub fn identity(bytes: &[u8]) -> Answer
+pub fn identity(bytes: &[u8]) -> Result<u64, Refusal>
     ensures { result ≡ on_record bytes.now (λ (n : ℕ) (t : List ℕ). identity_answer n t) }
 {
     let mut cells = [0u8; 2304];
@@ -36,7 +35,7 @@ pub fn identity(bytes: &[u8]) -> Answer
 }
 
 // All subgroups into lent slots of eight bytes, in list order; the answer is their count.
-pub fn enumerate_subgroups(bytes: &[u8], sets: &mut [u8]) -> Answer
+pub fn enumerate_subgroups(bytes: &[u8], sets: &mut [u8]) -> Result<u64, Refusal>
     ensures { (result ≡ on_record bytes.now (λ (n : ℕ) (t : List ℕ). subgroups_answer n t sets.old))
         × (sets.new ≡ bytes_on_record bytes.now sets.old (λ (n : ℕ) (t : List ℕ). subgroups_bytes n t sets.old)) }
 {
@@ -48,7 +47,7 @@ pub fn enumerate_subgroups(bytes: &[u8], sets: &mut [u8]) -> Answer
 }
 
 // The first subgroup of each class into lent slots of eight bytes, in list order; the answer is the count of classes.
-pub fn conjugacy_classes(bytes: &[u8], sets: &mut [u8]) -> Answer
+pub fn conjugacy_classes(bytes: &[u8], sets: &mut [u8]) -> Result<u64, Refusal>
     ensures { (result ≡ on_record bytes.now (λ (n : ℕ) (t : List ℕ). classes_answer n t sets.old))
         × (sets.new ≡ bytes_on_record bytes.now sets.old (λ (n : ℕ) (t : List ℕ). classes_bytes n t sets.old)) }
 {
@@ -60,7 +59,7 @@ pub fn conjugacy_classes(bytes: &[u8], sets: &mut [u8]) -> Answer
 }
 
 // The conjugate g⁻¹ H g of a subgroup.
-pub fn conjugate(bytes: &[u8], set: u64, element: usize) -> Answer
+pub fn conjugate(bytes: &[u8], set: u64, element: usize) -> Result<u64, Refusal>
     ensures { result ≡ on_record bytes.now (λ (n : ℕ) (t : List ℕ). conjugate_entry n t set element) }
 {
     let mut cells = [0u8; 2304];
@@ -71,7 +70,7 @@ pub fn conjugate(bytes: &[u8], set: u64, element: usize) -> Answer
 }
 
 // The elements that conjugate a subgroup to itself, as a set.
-pub fn normalizer(bytes: &[u8], set: u64) -> Answer
+pub fn normalizer(bytes: &[u8], set: u64) -> Result<u64, Refusal>
     ensures { result ≡ on_record bytes.now (λ (n : ℕ) (t : List ℕ). normalizer_entry n t set) }
 {
     let mut cells = [0u8; 2304];
@@ -82,7 +81,12 @@ pub fn normalizer(bytes: &[u8], set: u64) -> Answer
 }
 
 // The permutation of a subgroup's members by an element of its normalizer, into a lent list of bytes; the answer is the count of members.
-pub fn normalizer_action(bytes: &[u8], set: u64, element: usize, positions: &mut [u8]) -> Answer
+pub fn normalizer_action(
+    bytes: &[u8],
+    set: u64,
+    element: usize,
+    positions: &mut [u8],
+) -> Result<u64, Refusal>
     ensures { (result ≡ on_record bytes.now (λ (n : ℕ) (t : List ℕ). permutation_entry n t set element positions.old))
         × (positions.new ≡ bytes_on_record bytes.now positions.old
         (λ (n : ℕ) (t : List ℕ). permutation_list n t set element positions.old)) }
@@ -95,7 +99,12 @@ pub fn normalizer_action(bytes: &[u8], set: u64, element: usize, positions: &mut
 }
 
 // A subgroup's conjugates into lent slots of eight bytes and their conjugators into a lent list of bytes; the answer is their count.
-pub fn conjugates(bytes: &[u8], set: u64, sets: &mut [u8], conjugators: &mut [u8]) -> Answer
+pub fn conjugates(
+    bytes: &[u8],
+    set: u64,
+    sets: &mut [u8],
+    conjugators: &mut [u8],
+) -> Result<u64, Refusal>
     ensures { (result ≡ on_record bytes.now (λ (n : ℕ) (t : List ℕ). conjugates_entry n t set sets.old conjugators.old))
         × (sets.new ≡ bytes_on_record bytes.now sets.old
         (λ (n : ℕ) (t : List ℕ). conjugates_list n t set sets.old conjugators.old))

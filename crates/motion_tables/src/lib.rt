@@ -15,24 +15,10 @@ pub struct Refusal {
     pub number: u8,
 }
 
-// A number, an element, a set or a count; or a refusal.
-#[derive(Clone, Copy)]
-pub enum Answer {
-    Value(u64),
-    Refused(Refusal),
-}
-
-// The order of a group, or the refusal of what it was to come from.
-#[derive(Clone, Copy)]
-pub enum Source {
-    Group(usize),
-    Refused(Refusal),
-}
-
 // What lent cells were filled from, and where in them its table ends: at order², and at 0 on refusal. The end is told here, where the order is known to be
 // at most 48, so that whoever cuts the table off needs no test.
 #[derive(Clone, Copy)]
 pub struct Filled {
-    pub source: Source,
+    pub source: Result<usize, Refusal>,
     pub end: usize,
 }

@@ -4,8 +4,7 @@ ghost use Rattle.std.specs.Prelude.{◌≡◌};
 ghost use Rattle.group_table.specs.Tables.{order_of_record, record_cells, laid};
 ghost use Rattle.motion_tables.specs.Answers.{record_refusal, of_record, filled_from};
 
-use super::{Filled, Refusal, Source};
-use group_table::RecordOrder;
+use super::{Filled, Refusal};
 use group_table::record::fill_cells;
 
 // The table into the cells; they stay as they are on refusal, or if they cannot hold it.
@@ -14,15 +13,15 @@ pub fn table(bytes: &[u8], cells: &mut [u8]) -> Filled
         × (cells.new ≡ laid (record_cells bytes.now) cells.old) }
 {
     match fill_cells(bytes, cells) {
-        RecordOrder::Is(order) => {
+        Ok(order) => {
             let end = order * order;
             Filled {
-                source: Source::Group(order),
+                source: Ok(order),
                 end,
             }
         }
-        RecordOrder::Refused(why) => Filled {
-            source: Source::Refused(in_numbers(why)),
+        Err(why) => Filled {
+            source: Err(in_numbers(why)),
             end: 0,
         },
     }

@@ -5,9 +5,8 @@ ghost use Rattle.symbol_group.specs.Answers.{order_of};
 ghost use Rattle.group_table.specs.Tables.{symbol_cells, laid};
 ghost use Rattle.motion_tables.specs.Answers.{symbol_refusal, of_symbol, filled_from};
 
-use super::{Filled, Refusal, Source};
+use super::{Filled, Refusal};
 use group_table::symbol::fill_cells;
-use symbol_group::SymbolOrder;
 
 // The table into the cells; they stay as they are on refusal, or if they cannot hold it.
 pub fn table(text: &[u8], cells: &mut [u8]) -> Filled
@@ -15,15 +14,15 @@ pub fn table(text: &[u8], cells: &mut [u8]) -> Filled
         × (cells.new ≡ laid (symbol_cells text.now) cells.old) }
 {
     match fill_cells(text, cells) {
-        SymbolOrder::Is(order) => {
+        Ok(order) => {
             let end = order * order;
             Filled {
-                source: Source::Group(order),
+                source: Ok(order),
                 end,
             }
         }
-        SymbolOrder::Refused(refusal) => Filled {
-            source: Source::Refused(in_numbers(refusal)),
+        Err(refusal) => Filled {
+            source: Err(in_numbers(refusal)),
             end: 0,
         },
     }

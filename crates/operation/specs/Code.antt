@@ -1,10 +1,8 @@
 -- The rotation code of R4.1: the sum of (entry+1)·3^(8−i) over the nine entries by rows, i from 0; and the way back.
-use Rattle.std.specs.Prelude.{◌≡◌, cond, ℕ, ◌+◌, ◌*◌, ◌/◌, ◌%◌, ◌^◌, ◌<◌, ltb}
+use Rattle.std.specs.Prelude.{◌≡◌, cond, ℕ, ◌+◌, ◌*◌, ◌/◌, ◌%◌, ◌^◌, ◌<◌, ltb, None, Option, Some}
 use Rattle.std.proofs.Common.{sym, ◌∙◌, ap, arith}
 use Rattle.operation.specs.Meaning.{Digits, rotation≡}
 use Rattle.operation.specs.declared.Rotation.{Rotation}
-use Rattle.operation.specs.declared.code.Decoded.{Decoded}
-use Rattle.operation.specs.declared.code.Decoded.TheVariants.{Inside, Outside}
 
 -- A digit is an entry plus one.
 unfoldable pub code_of : Rotation → ℕ
@@ -27,8 +25,8 @@ rotation_of c =
     }
 
 -- A code is below 3⁹ = 19683.
-abbrev pub decoded_of : ℕ → Decoded
-decoded_of c = cond (ltb c 19683) (Inside (rotation_of c)) Outside
+abbrev pub decoded_of : ℕ → Option Rotation
+decoded_of c = cond (ltb c 19683) (Some (rotation_of c)) None
 
 -- A code is at most 19682.
 pub code_lt : (r : Rotation) → Digits r → code_of r < 19683

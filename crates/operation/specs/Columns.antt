@@ -1,5 +1,5 @@
 -- What the lanes of a raised column say of its entries: 2048, 2049 and 2050 stand for −1, 0 and 1, any other number for an entry that has left −1..1.
-use Rattle.std.specs.Prelude.{◌≡◌, Bool, ◌&&◌, ℕ, ◌+◌, ◌*◌, ◌-◌, ◌/◌, ◌%◌, ◌<◌, ◌≤◌, ltb, ℤ}
+use Rattle.std.specs.Prelude.{◌≡◌, Bool, ◌&&◌, ℕ, ◌+◌, ◌*◌, ◌-◌, ◌/◌, ◌%◌, ◌<◌, ◌≤◌, ltb, ℤ, Some, None}
 use Rattle.std.proofs.Math.Path.{refl}
 use Rattle.std.proofs.Common.{sym, ◌∙◌, ap, arith}
 use Rattle.std.proofs.Math.Bool.{true, false}
@@ -10,7 +10,6 @@ use Rattle.operation.specs.Digits.{dot-outside-below, dot-inside, dot-outside}
 use Rattle.operation.specs.Entries.{inside-digit, three-true}
 use Rattle.operation.specs.Lanes.{lanes_of, raised, fours_of, raised-sum, raised-small, first_byte, second-byte, third-byte, fours-apart, fours-together}
 use Rattle.operation.specs.Product.{column_of}
-use Rattle.operation.specs.declared.product.Column.TheVariants.{Inside, Outside}
 
 -- A lane and the entry that it stands for.
 pub record Lane (e : ℤ) (n : ℕ) : Type 0 where
@@ -66,7 +65,7 @@ module _ (p q s : ℤ) (x y z : ℕ) (first : Lane p x) (second : Lane q y) (thi
         third.stands (ltb-true _ _ (sym (inside-digit s) ∙ hs)),
       )
 
-  refused : (b : Bool) → row_inside p q s ≡ b → (row_inside p q s ≡ true → ⊥) → column_of p q s ≡ Outside
+  refused : (b : Bool) → row_inside p q s ≡ b → (row_inside p q s ≡ true → ⊥) → column_of p q s ≡ None
   unfolding column_of
   refused true e off = absurd (off e)
   refused false e off = rw e refl
@@ -74,20 +73,20 @@ module _ (p q s : ℤ) (x y z : ℕ) (first : Lane p x) (second : Lane q y) (thi
   next : lanes_of x y z + 4398048608257 ≡ lanes_of (x + 1) (y + 1) (z + 1)
   next = omega arith
 
-  pub column-off : (fours_of (lanes_of x y z) ≡ 9007203549710336 → ⊥) → column_of p q s ≡ Outside
+  pub column-off : (fours_of (lanes_of x y z) ≡ 9007203549710336 → ⊥) → column_of p q s ≡ None
   column-off off =
       refused (row_inside p q s) refl (λ h.
       let (hx, hy, hz) = right h in
       off (fours-together x y z (omega arith) (omega arith) (omega arith) (omega arith) (omega arith)))
 
-  pub column-off-next : (fours_of (lanes_of x y z + 4398048608257) ≡ 9007203549710336 → ⊥) → column_of p q s ≡ Outside
+  pub column-off-next : (fours_of (lanes_of x y z + 4398048608257) ≡ 9007203549710336 → ⊥) → column_of p q s ≡ None
   column-off-next off =
       refused (row_inside p q s) refl (λ h.
       let (hx, hy, hz) = right h in
       off (ap fours_of next ∙ fours-together (x + 1) (y + 1) (z + 1) (omega arith) (omega arith) (omega arith) (omega arith) (omega arith)))
 
   pub column-right : fours_of (lanes_of x y z) ≡ 9007203549710336 → fours_of (lanes_of x y z + 4398048608257) ≡ 9007203549710336
-      → Inside (lanes_of x y z % 256) (lanes_of x y z / 2097152 % 256) (lanes_of x y z / 4398046511104 % 256) ≡ column_of p q s
+      → Some (record { x = lanes_of x y z % 256; y = lanes_of x y z / 2097152 % 256; z = lanes_of x y z / 4398046511104 % 256 }) ≡ column_of p q s
   unfolding column_of row_inside
   column-right h k =
       let ix = first.small in

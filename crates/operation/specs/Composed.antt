@@ -1,5 +1,5 @@
 -- What the product's answer says of motions of space: inside, it is the composed motion modulo 12; outside, an entry of the composed rotation has left −1..1.
-use Rattle.std.specs.Prelude.{◌≡◌, refl, ◌↔◌, Bool, true, false, cond, ℕ, ◌<◌}
+use Rattle.std.specs.Prelude.{◌≡◌, refl, ◌↔◌, Bool, true, false, cond, ℕ, ◌<◌, None, Some}
 use Rattle.std.proofs.Common.{sym, ◌∙◌, true≢false, arith}
 use Rattle.std.proofs.Math.IntN.{one}
 use Rattle.laws.specs.Integer.{nought}
@@ -10,7 +10,6 @@ use Rattle.operation.specs.Meaning.{entry_of, matrix_of, vector_of, motion_of, a
 use Rattle.operation.specs.Product.{identity_operation, product_of, operation_of}
 use Rattle.operation.specs.Entries.{Entries, all-entries, digits-stand}
 use Rattle.operation.specs.declared.Operation.{Operation}
-use Rattle.operation.specs.declared.product.Product.TheVariants.{Inside, Outside}
 
 -- The identity operation is the identity.
 pub identity-motion : motion_of identity_operation ≡ identity
@@ -33,16 +32,16 @@ operation-reduces m e =
     }
 
 -- What a choice between the two answers says of the test.
-chosen-inside : (b : Bool) (h k : Operation) → cond b (Inside k) Outside ≡ Inside h → (b ≡ true) × (k ≡ h)
+chosen-inside : (b : Bool) (h k : Operation) → cond b (Some k) None ≡ Some h → (b ≡ true) × (k ≡ h)
 chosen-inside true h k e = (refl, cc)
 chosen-inside false h k e = let z : ◌≡◌ {A = ℕ} 0 1 = cc in absurd (omega arith)
 
-chosen-outside : (b : Bool) (k : Operation) → cond b (Inside k) Outside ≡ Outside → b ≡ false
+chosen-outside : (b : Bool) (k : Operation) → cond b (Some k) None ≡ None → b ≡ false
 chosen-outside true k e = let z : ◌≡◌ {A = ℕ} 0 1 = cc in absurd (omega arith)
 chosen-outside false k e = refl
 
--- Inside: the answer is the composed motion, its translation modulo 12.
-pub product_inside_lem : (f g h : Operation) → product_of f g ≡ Inside h
+-- Some: the answer is the composed motion, its translation modulo 12.
+pub product_inside_lem : (f g h : Operation) → product_of f g ≡ Some h
     → Entries (compose (motion_of f) (motion_of g)).rotation × Reduces (compose (motion_of f) (motion_of g)) h
 unfolding product_of
 product_inside_lem f g h e =
@@ -51,8 +50,8 @@ product_inside_lem f g h e =
     let entries = (all-entries m.rotation).0 t in
     (entries, rw k at (operation-reduces m entries))
 
--- Outside: exactly if an entry of the composed rotation has left −1..1.
-pub product-outside : (f g : Operation) → (product_of f g ≡ Outside) ↔ ¬ Entries (compose (motion_of f) (motion_of g)).rotation
+-- None: exactly if an entry of the composed rotation has left −1..1.
+pub product-outside : (f g : Operation) → (product_of f g ≡ None) ↔ ¬ Entries (compose (motion_of f) (motion_of g)).rotation
 unfolding product_of
 product-outside f g =
     let m = compose (motion_of f) (motion_of g) in (
@@ -61,6 +60,6 @@ product-outside f g =
     )
   where
     from : (b : Bool) → all_inside (compose (motion_of f) (motion_of g)).rotation ≡ b → ¬ Entries (compose (motion_of f) (motion_of g)).rotation
-        → cond b (Inside (operation_of (compose (motion_of f) (motion_of g)))) Outside ≡ Outside
+        → cond b (Some (operation_of (compose (motion_of f) (motion_of g)))) None ≡ None
     from true t n = absurd (n ((all-entries _).0 t))
     from false t n = refl

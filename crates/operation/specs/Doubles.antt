@@ -1,6 +1,6 @@
 -- A translation as three doubles, each the single division k / 12, and the way back, which takes the twelve bit patterns alone.
 -- At the end: the patterns are those of the quotients, and the two ways undo each other.
-use Rattle.std.specs.Prelude.{◌≡◌, refl, ◌↔◌, Bool, true, false, cond, List, [], ◌∷◌, map, ℕ, zero, suc, ◌+◌, ◌<◌, T, eqb, ltb, Float, pos, length, get_or}
+use Rattle.std.specs.Prelude.{◌≡◌, refl, ◌↔◌, Bool, true, false, cond, List, [], ◌∷◌, map, ℕ, zero, suc, ◌+◌, ◌<◌, T, eqb, ltb, Float, pos, length, get_or, Option, Some, None, Err, Ok, Result}
 use Rattle.std.proofs.Common.{sym, ◌∙◌, ap, arith, eqb-true, lt-ltb, ltb-true}
 use Rattle.std.specs.Int.Count.{count_trailing_zeros}
 use Rattle.std.specs.Float.{binary64}
@@ -11,8 +11,7 @@ use Rattle.operation.specs.Answer.{Answer, given, refused}
 use Rattle.operation.specs.Below.{all_below, below}
 use Rattle.operation.specs.declared.Translation.{Translation}
 use Rattle.operation.specs.declared.doubles.Doubles.{Doubles}
-use Rattle.operation.specs.declared.doubles.Grid.{Grid}
-use Rattle.operation.specs.declared.doubles.Grid.TheVariants.{Twelfths, Off}
+use Rattle.operation.specs.declared.doubles.OffGrid.{OffGrid}
 
 -- k / 12 in binary64, rounded once.
 unfoldable pub quotient : ℕ → Float
@@ -52,6 +51,27 @@ twelfths_of v = place_in patterns (to_bits binary64 v)
 abbrev pub is_on_grid : Float → Bool
 is_on_grid v = ltb (twelfths_of v) 12
 
+-- The number of a component that is one of the twelve.
+unfoldable pub grid_number : Float → Option ℕ
+grid_number v = cond (is_on_grid v) (Some (twelfths_of v)) None
+
+-- What it says of the component.
+pub number-on-grid : (v : Float) (k : ℕ) → grid_number v ≡ Some k → (is_on_grid v ≡ true) × (k ≡ twelfths_of v)
+unfolding grid_number
+number-on-grid v k e = go (is_on_grid v) e
+  where
+    go : (b : Bool) → cond b (Some (twelfths_of v)) None ≡ Some k → (b ≡ true) × (k ≡ twelfths_of v)
+    go true h = (refl, cc)
+    go false h = cc
+
+pub number-off-grid : (v : Float) → grid_number v ≡ None → is_on_grid v ≡ false
+unfolding grid_number
+number-off-grid v e = go (is_on_grid v) e
+  where
+    go : (b : Bool) → cond b (Some (twelfths_of v)) None ≡ None → b ≡ false
+    go true h = cc
+    go false h = refl
+
 -- Refusal 16 of R8: the place is the component's index, and the component comes along.
 abbrev pub off_grid : ℕ → Float → Answer Translation Float
 off_grid index v = refused 16 index v
@@ -66,17 +86,18 @@ on_grid d =
     (off_grid 0 d.x)
 
 -- What each answer of the code says in the numbers of R8.
-unfoldable pub grid_answer : Grid → Answer Translation Float
-grid_answer (Twelfths t) = given t
-grid_answer (Off index v) = off_grid index v
+unfoldable pub grid_answer : Result Translation OffGrid → Answer Translation Float
+grid_answer (Ok t) = given t
+grid_answer (Err off) = off_grid off.index off.component
 
 -- Two answers of the code that say the same are the same.
-pub one-grid-answer : (g h : Grid) → grid_answer g ≡ grid_answer h → g ≡ h
+pub one-grid-answer : (g h : Result Translation OffGrid) → grid_answer g ≡ grid_answer h → g ≡ h
 unfolding grid_answer
-one-grid-answer (Twelfths t) (Twelfths u) e = cc
-one-grid-answer (Twelfths t) (Off i v) e = cc
-one-grid-answer (Off i v) (Twelfths u) e = cc
-one-grid-answer (Off i v) (Off j w) e = cc
+one-grid-answer (Ok t) (Ok u) e = cc
+one-grid-answer (Ok t) (Err p) e = cc
+one-grid-answer (Err o) (Ok u) e = cc
+one-grid-answer (Err o) (Err p) e =
+    let a : o.index ≡ p.index = cc in let b : o.component ≡ p.component = cc in ap Err (λ i. record { index = a i; component = b i })
 
 -- ---- the patterns
 -- f i, f (i + 1), .., n values.

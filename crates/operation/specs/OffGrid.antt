@@ -1,14 +1,13 @@
 -- Refusal 16 by R8: the first component that has none of the twelve bit patterns is told, its index as the place, and nothing else is refused.
 -- The rule names the twelve quotients and the three components, and uses nothing of how the way back is defined.
-use Rattle.std.specs.Prelude.{◌≡◌, ◌↔◌, Bool, true, false, cond, ℕ, ◌<◌, Float}
+use Rattle.std.specs.Prelude.{◌≡◌, ◌↔◌, Bool, true, false, cond, ℕ, ◌<◌, Float, Err, Result}
 use Rattle.std.proofs.Math.Path.{refl, ap}
 use Rattle.std.proofs.Common.{sym, ◌∙◌, true≢false, arith}
 use Rattle.operation.specs.Answer.{given, refused}
 use Rattle.operation.specs.Doubles.{quotient, is_on_grid, off_grid, on_grid, grid_answer, one-grid-answer, OnGrid, on-grid}
 use Rattle.operation.specs.declared.Translation.{Translation}
 use Rattle.operation.specs.declared.doubles.Doubles.{Doubles}
-use Rattle.operation.specs.declared.doubles.Grid.{Grid}
-use Rattle.operation.specs.declared.doubles.Grid.TheVariants.{Off}
+use Rattle.operation.specs.declared.doubles.OffGrid.{OffGrid}
 
 -- The first component off the grid, with its index.
 pub data FirstOff (d : Doubles) : ℕ → Float → Type 0 where
@@ -26,7 +25,8 @@ off-grid v = ((λ e on. true≢false (sym ((on-grid v).1 on) ∙ e)), λ n. fail
 
 module _ (d : Doubles) where
   -- By the three tests.
-  told : (a b c : Bool) (t : Translation) (number place : ℕ) (v : Float) → is_on_grid d.x ≡ a → is_on_grid d.y ≡ b → is_on_grid d.z ≡ c → cond a (cond b (cond c (given t) (off_grid 2 d.z)) (off_grid 1 d.y)) (off_grid 0 d.x) ≡ refused number place v → (number ≡ 16) × FirstOff d place v
+  told : (a b c : Bool) (t : Translation) (number place : ℕ) (v : Float) → is_on_grid d.x ≡ a → is_on_grid d.y ≡ b → is_on_grid d.z ≡ c
+      → cond a (cond b (cond c (given t) (off_grid 2 d.z)) (off_grid 1 d.y)) (off_grid 0 d.x) ≡ refused number place v → (number ≡ 16) × FirstOff d place v
   told true true true t number place v x y z e = let h : ◌≡◌ {A = ℕ} 0 1 = cc in absurd (omega arith)
   told true true false t number place v x y z e =
       let index : place ≡ 2 = cc in
@@ -57,11 +57,11 @@ module _ (d : Doubles) where
   )
 
   -- The same of the code's own answer: it holds the index and the component.
-  pub off-exactly : (g : Grid) → grid_answer g ≡ on_grid d → (index : ℕ) (v : Float) → (g ≡ Off index v) ↔ FirstOff d index v
+  pub off-exactly : (g : Result Translation OffGrid) → grid_answer g ≡ on_grid d → (index : ℕ) (v : Float) → (g ≡ Err (record { index = index; component = v })) ↔ FirstOff d index v
   unfolding grid_answer
   off-exactly g e index v = (
     (λ p. ((refused-exactly 16 index v).0 (sym e ∙ ap grid_answer p)).1),
-    λ first. one-grid-answer g (Off index v) (e ∙ first-refused index v first),
+    λ first. one-grid-answer g (Err (record { index = index; component = v })) (e ∙ first-refused index v first),
   )
 
 -- ---- a stranger at each index

@@ -1,6 +1,6 @@
 -- The rotation types by the ten pairs of trace and determinant, and the handedness by the determinant, both of integer matrices
 -- with entries in −1..1. At the end: each contract leaves one answer, and what a handedness says of the matrix.
-use Rattle.std.specs.Prelude.{◌≡◌, refl, Bool, true, false, cond, ◌&&◌, List, [], ◌∷◌, ℕ, ℤ, pos, neg_ℤ}
+use Rattle.std.specs.Prelude.{◌≡◌, refl, Bool, true, false, cond, ◌&&◌, List, [], ◌∷◌, ℕ, ℤ, pos, neg_ℤ, None, Option, Some}
 use Rattle.std.proofs.Math.IntN.{one}
 use Rattle.laws.specs.Matrix.{Matrix, trace, determinant}
 use Rattle.laws.specs.SameMatrix.{same_integer, integer-exact}
@@ -8,8 +8,6 @@ use Rattle.operation.specs.Meaning.{all_inside}
 use Rattle.operation.specs.Answer.{Answer, Nothing, given, refused}
 use Rattle.operation.specs.declared.rotation_type.RotationType.{RotationType}
 use Rattle.operation.specs.declared.rotation_type.RotationType.TheVariants.{Rotation1, Rotation2, Rotation3, Rotation4, Rotation6, RotoInversion1, RotoInversion2, RotoInversion3, RotoInversion4, RotoInversion6}
-use Rattle.operation.specs.declared.rotation_type.Identified.{Identified}
-use Rattle.operation.specs.declared.rotation_type.Identified.TheVariants.{Known, Refused}
 use Rattle.operation.specs.declared.rotation_type.Handedness.{Handedness}
 use Rattle.operation.specs.declared.rotation_type.Handedness.TheVariants.{Proper, Improper, Neither}
 
@@ -66,9 +64,9 @@ unfoldable pub identified : Matrix → Answer RotationType Nothing
 identified A = cond (all_inside A) (type_of (trace A) (determinant A)) unknown
 
 -- What each answer of the code says in the numbers of R8.
-unfoldable pub type_answer : Identified → Answer RotationType Nothing
-type_answer (Known k) = given k
-type_answer Refused = unknown
+unfoldable pub type_answer : Option RotationType → Answer RotationType Nothing
+type_answer (Some k) = given k
+type_answer None = unknown
 
 -- ---- the handedness
 -- 1 keeps the handedness, −1 reverses it.
@@ -125,9 +123,9 @@ determinant-improper A s d = rw (s, d)
 
 -- ---- one answer
 -- Two answers of the code that say the same are the same.
-pub one-type-answer : (r s : Identified) → type_answer r ≡ type_answer s → r ≡ s
+pub one-type-answer : (r s : Option RotationType) → type_answer r ≡ type_answer s → r ≡ s
 unfolding type_answer
-one-type-answer (Known k) (Known l) h = cc
-one-type-answer (Known k) Refused h = cc
-one-type-answer Refused (Known l) h = cc
-one-type-answer Refused Refused h = refl
+one-type-answer (Some k) (Some l) h = cc
+one-type-answer (Some k) None h = cc
+one-type-answer None (Some l) h = cc
+one-type-answer None None h = refl

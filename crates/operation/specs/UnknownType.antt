@@ -1,6 +1,6 @@
 -- Refusal 15 by R8: an entry outside −1..1, or a pair of trace and determinant that is none of the ten. The ten are said as a rule:
 -- trace −1 to 3 with determinant 1, or the negatives of both.
-use Rattle.std.specs.Prelude.{◌≡◌, ◌↔◌, Bool, true, false, cond, ◌&&◌, ℕ, zero, suc, ◌≤◌, ℤ, pos, negsuc, neg_ℤ}
+use Rattle.std.specs.Prelude.{◌≡◌, ◌↔◌, Bool, true, false, cond, ◌&&◌, ℕ, zero, suc, ◌≤◌, ℤ, pos, negsuc, neg_ℤ, None, Option}
 use Rattle.std.proofs.Math.Path.{refl, ap}
 use Rattle.std.proofs.Common.{sym, ◌∙◌, true≢false, arith}
 use Rattle.std.proofs.Math.Bool.{and-eq-true_iff}
@@ -15,8 +15,6 @@ use Rattle.operation.specs.Meaning.{all_inside}
 use Rattle.operation.specs.Entries.{Entries, all-entries}
 use Rattle.operation.specs.RotationType.{Pair, pairs, unknown, lookup, identified, type_answer, one-type-answer}
 use Rattle.operation.specs.declared.rotation_type.RotationType.{RotationType}
-use Rattle.operation.specs.declared.rotation_type.Identified.{Identified}
-use Rattle.operation.specs.declared.rotation_type.Identified.TheVariants.{Refused}
 
 -- The traces and determinants of turns, and of turns with an inversion.
 pub data Known : ℤ → ℤ → Type 0 where
@@ -130,9 +128,9 @@ module _ (A : Matrix) where
           ((cc), (cc), never e)
 
   -- The same of the code's own answer.
-  pub refused-exactly : (r : Identified) → type_answer r ≡ identified A → (r ≡ Refused) ↔ ¬ (Entries A × Known (trace A) (determinant A))
+  pub refused-exactly : (r : Option RotationType) → type_answer r ≡ identified A → (r ≡ None) ↔ ¬ (Entries A × Known (trace A) (determinant A))
   unfolding type_answer
   refused-exactly r e = (
     (λ p. ((unknown-exactly 15 0).0 (sym e ∙ ap type_answer p)).2),
-    λ never. one-type-answer r Refused (e ∙ (unknown-exactly 15 0).1 (refl, refl, never)),
+    λ never. one-type-answer r None (e ∙ (unknown-exactly 15 0).1 (refl, refl, never)),
   )

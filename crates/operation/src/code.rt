@@ -4,13 +4,6 @@ ghost use Rattle.operation.specs.Code.{code_of, decoded_of};
 
 use super::Rotation;
 
-// What a code stands for: a rotation, or nothing where the code is over 19682.
-#[derive(Clone, Copy)]
-pub enum Decoded {
-    Inside(Rotation),
-    Outside,
-}
-
 pub fn rotation_code(r: Rotation) -> u32
     ensures { result ≡ code_of r }
 {
@@ -20,13 +13,13 @@ pub fn rotation_code(r: Rotation) -> u32
     x + y + z
 }
 
-pub fn rotation_of_code(code: u32) -> Decoded
+pub fn rotation_of_code(code: u32) -> Option<Rotation>
     ensures { result ≡ decoded_of code }
 {
     if 19683 <= code {
-        return Decoded::Outside;
+        return None;
     }
-    Decoded::Inside(Rotation {
+    Some(Rotation {
         xx: (code / 6561 % 3) as u8,
         xy: (code / 2187 % 3) as u8,
         xz: (code / 729 % 3) as u8,

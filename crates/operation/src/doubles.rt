@@ -1,7 +1,7 @@
 // Translations as three doubles, for older callers, and the way back. New beside moyo 0.21.0, where a translation is doubles throughout.
 
 ghost use Rattle.std.specs.Prelude.{◌≡◌};
-ghost use Rattle.operation.specs.Doubles.{quotient, doubles_of, twelfths_of, on_grid, grid_answer};
+ghost use Rattle.operation.specs.Doubles.{quotient, doubles_of, grid_number, on_grid, grid_answer};
 
 use crate::Translation;
 
@@ -12,11 +12,11 @@ pub struct Doubles {
     pub z: f64,
 }
 
-// `Off` is refusal 16: its place is the index of the component, 0, 1 or 2, and the component comes as it was given.
+// The first component that is off the grid, as it was given: refusal 16, with the index of the component, 0, 1 or 2, for its place.
 #[derive(Clone, Copy)]
-pub enum Grid {
-    Twelfths(Translation),
-    Off { index: u8, component: f64 },
+pub struct OffGrid {
+    pub index: u8,
+    pub component: f64,
 }
 
 // Each coordinate divided by 12 once, whatever it is.
@@ -31,31 +31,28 @@ pub fn to_doubles(t: Translation) -> Doubles
 }
 
 // The translation with exactly these bits, or the first component that no translation has.
-pub fn from_doubles(d: Doubles) -> Grid
+pub fn from_doubles(d: Doubles) -> Result<Translation, OffGrid>
     ensures { grid_answer result ≡ on_grid d }
 {
-    let x = grid_number(d.x);
-    if 12 <= x {
-        return Grid::Off {
+    let Some(x) = grid_number(d.x) else {
+        return Err(OffGrid {
             index: 0,
             component: d.x,
-        };
-    }
-    let y = grid_number(d.y);
-    if 12 <= y {
-        return Grid::Off {
+        });
+    };
+    let Some(y) = grid_number(d.y) else {
+        return Err(OffGrid {
             index: 1,
             component: d.y,
-        };
-    }
-    let z = grid_number(d.z);
-    if 12 <= z {
-        return Grid::Off {
+        });
+    };
+    let Some(z) = grid_number(d.z) else {
+        return Err(OffGrid {
             index: 2,
             component: d.z,
-        };
-    }
-    Grid::Twelfths(Translation { x, y, z })
+        });
+    };
+    Ok(Translation { x, y, z })
 }
 
 fn over_twelve(k: u8) -> f64
@@ -64,27 +61,26 @@ fn over_twelve(k: u8) -> f64
     k as f64 / 12.0
 }
 
-// The k below 12 whose k / 12 has the bits of the component; 12 where there is none.
-fn grid_number(component: f64) -> u8
-    ensures { result ≡ twelfths_of component }
+// The k below 12 whose k / 12 has the bits of the component.
+fn grid_number(component: f64) -> Option<u8>
+    ensures { result ≡ grid_number component }
 {
-    if component != component {
-        return 12;
+    if component.is_nan() {
+        return None;
     }
-    let bits = f64::to_bits(component);
-    match bits {
-        0 => 0,
-        4590669220166325589 => 1,
-        4595172819793696085 => 2,
-        4598175219545276416 => 3,
-        4599676419421066581 => 4,
-        4601177619296856747 => 5,
-        4602678819172646912 => 6,
-        4603429419110541995 => 7,
-        4604180019048437077 => 8,
-        4604930618986332160 => 9,
-        4605681218924227243 => 10,
-        4606431818862122325 => 11,
-        _ => 12,
+    match component.to_bits() {
+        0 => Some(0),
+        4590669220166325589 => Some(1),
+        4595172819793696085 => Some(2),
+        4598175219545276416 => Some(3),
+        4599676419421066581 => Some(4),
+        4601177619296856747 => Some(5),
+        4602678819172646912 => Some(6),
+        4603429419110541995 => Some(7),
+        4604180019048437077 => Some(8),
+        4604930618986332160 => Some(9),
+        4605681218924227243 => Some(10),
+        4606431818862122325 => Some(11),
+        _ => None,
     }
 }

@@ -4,11 +4,12 @@
 
 pub mod code;
 pub mod doubles;
+pub mod lanes;
 pub mod product;
 pub mod rotation_type;
 
 // A rotation by rows: each field is an entry of the matrix plus one, so 0, 1, 2 for −1, 0, 1.
-#[derive(Clone, Copy)]
+#[derive(Clone, Copy, PartialEq, Eq)]
 pub struct Rotation {
     pub xx: u8,
     pub xy: u8,
@@ -22,14 +23,14 @@ pub struct Rotation {
 }
 
 // A translation in twelfths of the cell edges.
-#[derive(Clone, Copy)]
+#[derive(Clone, Copy, PartialEq, Eq)]
 pub struct Translation {
     pub x: u8,
     pub y: u8,
     pub z: u8,
 }
 
-#[derive(Clone, Copy)]
+#[derive(Clone, Copy, PartialEq, Eq)]
 pub struct Operation {
     pub rotation: Rotation,
     pub translation: Translation,

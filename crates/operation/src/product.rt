@@ -2,23 +2,18 @@
 // Ported from base/operation.rs of moyo 0.21.0 (`identity`, `mul`), and changed: digits and twelfths, and an answer for a product whose entries leave −1..1.
 ghost use Rattle.std.specs.Prelude.{◌≡◌, ◌*◌, ◌≤◌};
 ghost use Rattle.operation.specs.Lanes.{lanes_of, rows_times, raised_column, fours_of};
-ghost use Rattle.operation.specs.Twelves.{bytes_of, reduced_of, SmallLanes};
-ghost use Rattle.operation.specs.Product.{identity_operation, column_times, moved_of, rotated_of, product_of};
+ghost use Rattle.operation.specs.Twelves.{reduced_of, SmallLanes};
+ghost use Rattle.operation.specs.Product.{identity_operation, column_times, rotation_times, moved_of, rotated_of, product_of};
 
-use super::{Operation, Rotation, Translation};
-
-// A product of operations: inside, or an entry of its rotation has left −1..1.
-#[derive(Clone, Copy)]
-pub enum Product {
-    Inside(Operation),
-    Outside,
-}
+use crate::lanes::{EACH, SECOND, THIRD, bytes, lanes};
+use crate::{Operation, Rotation, Translation};
 
 // The digits of one column of a product of rotations.
 #[derive(Clone, Copy)]
-pub enum Column {
-    Inside(u8, u8, u8),
-    Outside,
+struct Column {
+    x: u8,
+    y: u8,
+    z: u8,
 }
 
 pub fn identity() -> Operation
@@ -40,29 +35,10 @@ pub fn identity() -> Operation
     }
 }
 
-// Three numbers in one, each in a lane of 21 bits, so that one product does the work of three: 1 in the second lane, in the third, and in each.
-const SECOND: u64 = 2097152;
-
-const THIRD: u64 = 4398046511104;
-
-const EACH: u64 = 4398048608257;
-
-fn wide(digit: u8) -> u64
-    ensures { result ≡ digit }
-{
-    digit as u64
-}
-
-fn lanes(x: u8, y: u8, z: u8) -> u64
-    ensures { result ≡ lanes_of x y z }
-{
-    wide(x) + wide(y) * SECOND + wide(z) * THIRD
-}
-
 fn lanes_times(x: u8, y: u8, z: u8, a: u8) -> u64
     ensures { (result ≡ lanes_of (x * a) (y * a) (z * a)) × (result ≤ 285983110751911425) }
 {
-    lanes(x, y, z) * wide(a)
+    lanes(x, y, z) * u64::from(a)
 }
 
 // The three rows of digits times a column.
@@ -79,7 +55,7 @@ fn raised_column(r: Rotation, a: u8, b: u8, c: u8) -> u64
     ensures { (result ≡ raised_column r a b c) × (result ≤ 866974127999877639) }
 {
     let base = 2052 * EACH - rows_times(r, 1, 1, 1);
-    rows_times(r, a, b, c) + base - (wide(a) + wide(b) + wide(c)) * EACH
+    rows_times(r, a, b, c) + base - (u64::from(a) + u64::from(b) + u64::from(c)) * EACH
 }
 
 // Each lane's largest multiple of 4.
@@ -90,28 +66,38 @@ fn fours(n: u64) -> u64
 }
 
 // A column of a product of rotations: each lane is 2048, 2049 or 2050 where it and the next number both have the multiple 2048.
-fn column_times(r: Rotation, a: u8, b: u8, c: u8) -> Column
+fn column_times(r: Rotation, a: u8, b: u8, c: u8) -> Option<Column>
     ensures { result ≡ column_times r a b c }
 {
     let raised = raised_column(r, a, b, c);
-    if fours(raised) != 2048 * EACH {
-        return Column::Outside;
+    if fours(raised) != 2048 * EACH || fours(raised + EACH) != 2048 * EACH {
+        return None;
     }
-    if fours(raised + EACH) != 2048 * EACH {
-        return Column::Outside;
-    }
-    Column::Inside(
-        (raised % 256) as u8,
-        (raised / SECOND % 256) as u8,
-        (raised / THIRD % 256) as u8,
-    )
+    Some(Column {
+        x: (raised % 256) as u8,
+        y: (raised / SECOND % 256) as u8,
+        z: (raised / THIRD % 256) as u8,
+    })
 }
 
-// Each lane's lowest byte.
-fn bytes(n: u64) -> u64
-    ensures { (result ≡ bytes_of n) × (result ≤ 1121502395105535) }
+// The product of rotations, if no entry has left −1..1.
+fn rotation_times(r: Rotation, s: Rotation) -> Option<Rotation>
+    ensures { result ≡ rotation_times r s }
 {
-    n % 256 + n / SECOND % 256 * SECOND + n / THIRD % 256 * THIRD
+    let x = column_times(r, s.xx, s.yx, s.zx)?;
+    let y = column_times(r, s.xy, s.yy, s.zy)?;
+    let z = column_times(r, s.xz, s.yz, s.zz)?;
+    Some(Rotation {
+        xx: x.x,
+        xy: y.x,
+        xz: z.x,
+        yx: x.y,
+        yy: y.y,
+        yz: z.y,
+        zx: x.z,
+        zy: y.z,
+        zz: z.z,
+    })
 }
 
 // Each lane modulo 12, and no remainder taken: 1020, which is 85 times 12, goes off as often as 1024 fits, and then 12 as often as it fits, which below 2040 is
@@ -135,7 +121,7 @@ fn moved(r: Rotation, u: Translation, t: Translation) -> Translation
 {
     let sum = rows_times(r, u.x, u.y, u.z)
         + lanes(t.x, t.y, t.z)
-        + (wide(u.x) + wide(u.y) + wide(u.z)) * (11 * EACH);
+        + (u64::from(u.x) + u64::from(u.y) + u64::from(u.z)) * (11 * EACH);
     reduced(sum)
 }
 
@@ -146,33 +132,15 @@ pub fn rotated(r: Rotation, t: Translation) -> Translation
     moved(r, t, Translation { x: 0, y: 0, z: 0 })
 }
 
-pub fn mul(f: Operation, g: Operation) -> Product
+pub fn mul(f: Operation, g: Operation) -> Option<Operation>
     ensures { result ≡ product_of f g }
 {
-    let r = f.rotation;
-    let s = g.rotation;
-    let Column::Inside(xx, yx, zx) = column_times(r, s.xx, s.yx, s.zx) else {
-        return Product::Outside;
+    let Some(rotation) = rotation_times(f.rotation, g.rotation) else {
+        return None;
     };
-    let Column::Inside(xy, yy, zy) = column_times(r, s.xy, s.yy, s.zy) else {
-        return Product::Outside;
-    };
-    let Column::Inside(xz, yz, zz) = column_times(r, s.xz, s.yz, s.zz) else {
-        return Product::Outside;
-    };
-    let translation = moved(r, g.translation, f.translation);
-    Product::Inside(Operation {
-        rotation: Rotation {
-            xx,
-            xy,
-            xz,
-            yx,
-            yy,
-            yz,
-            zx,
-            zy,
-            zz,
-        },
+    let translation = moved(f.rotation, g.translation, f.translation);
+    Some(Operation {
+        rotation,
         translation,
     })
 }

@@ -23,13 +23,6 @@ pub enum RotationType {
     RotoInversion6,
 }
 
-// `Refused` is refusal 15 at place 0.
-#[derive(Clone, Copy)]
-pub enum Identified {
-    Known(RotationType),
-    Refused,
-}
-
 // `Neither` is a determinant other than 1 and −1, or an entry outside −1..1.
 #[derive(Clone, Copy)]
 pub enum Handedness {
@@ -49,7 +42,7 @@ pub fn identify_rotation_type(
     zx: i32,
     zy: i32,
     zz: i32,
-) -> Identified
+) -> Option<RotationType>
     ensures { type_answer result ≡ identified (rows xx xy xz yx yy yz zx zy zz) }
 {
     type_of_digits(Rotation {
@@ -75,7 +68,7 @@ pub fn identify_handedness(r: Rotation) -> Handedness
     handedness_of_raised(raised_determinant(r))
 }
 
-// An entry's digit, or 3 for a number outside −1..1.
+// An entry's digit, or 3 for a number outside −1..1: `in_range` refuses it as any number that is no digit, so nine refusals here would be no plainer.
 fn digit(entry: i32) -> u8
     ensures { result ≡ digit_of entry }
 {
@@ -87,31 +80,31 @@ fn digit(entry: i32) -> u8
     }
 }
 
-fn type_of_digits(r: Rotation) -> Identified
+fn type_of_digits(r: Rotation) -> Option<RotationType>
     ensures { type_answer result ≡ identified (matrix_of r) }
 {
     if !in_range(r) {
-        return Identified::Refused;
+        return None;
     }
     type_of_folded(folded(r))
 }
 
 // A key as `folded` makes it: 65 is trace 3 and determinant 1, 3 is trace −3 and determinant −1.
-fn type_of_folded(key: u8) -> Identified
+fn type_of_folded(key: u8) -> Option<RotationType>
     ensures { type_answer result ≡ type_of (trace_part key) (determinant_part key) }
 {
     match key {
-        65 => Identified::Known(RotationType::Rotation1),
-        25 => Identified::Known(RotationType::Rotation2),
-        35 => Identified::Known(RotationType::Rotation3),
-        45 => Identified::Known(RotationType::Rotation4),
-        55 => Identified::Known(RotationType::Rotation6),
-        3 => Identified::Known(RotationType::RotoInversion1),
-        43 => Identified::Known(RotationType::RotoInversion2),
-        33 => Identified::Known(RotationType::RotoInversion3),
-        23 => Identified::Known(RotationType::RotoInversion4),
-        13 => Identified::Known(RotationType::RotoInversion6),
-        _ => Identified::Refused,
+        65 => Some(RotationType::Rotation1),
+        25 => Some(RotationType::Rotation2),
+        35 => Some(RotationType::Rotation3),
+        45 => Some(RotationType::Rotation4),
+        55 => Some(RotationType::Rotation6),
+        3 => Some(RotationType::RotoInversion1),
+        43 => Some(RotationType::RotoInversion2),
+        33 => Some(RotationType::RotoInversion3),
+        23 => Some(RotationType::RotoInversion4),
+        13 => Some(RotationType::RotoInversion6),
+        _ => None,
     }
 }
 
@@ -128,25 +121,13 @@ fn folded(r: Rotation) -> u8
 fn in_range(r: Rotation) -> bool
     ensures { result ≡ all_inside (matrix_of r) }
 {
-    if !are_digits(r.xx, r.xy, r.xz) {
-        return false;
-    }
-    if !are_digits(r.yx, r.yy, r.yz) {
-        return false;
-    }
-    are_digits(r.zx, r.zy, r.zz)
+    are_digits(r.xx, r.xy, r.xz) && are_digits(r.yx, r.yy, r.yz) && are_digits(r.zx, r.zy, r.zz)
 }
 
 fn are_digits(a: u8, b: u8, c: u8) -> bool
     ensures { result ≡ are_digits a b c }
 {
-    if 2 < a {
-        return false;
-    }
-    if 2 < b {
-        return false;
-    }
-    c <= 2
+    a <= 2 && b <= 2 && c <= 2
 }
 
 // The determinant plus 4: determinants of such matrices run from −4 to 4.

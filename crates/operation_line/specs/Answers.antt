@@ -2,7 +2,7 @@
 -- The reader answers exactly so, and of any text exactly one answer holds.
 use Rattle.std.proofs.Math.Path.{◌≡◌, refl, ap, subst}
 use Rattle.std.proofs.Common.{sym, ◌∙◌, inl, inr, arith, ltb-true, ltb-false, lt-ltb, le-ltb}
-use Rattle.std.specs.Prelude.{Bool, true, false, ◌↔◌, ℕ, ◌<◌, ◌≤◌, ltb}
+use Rattle.std.specs.Prelude.{Bool, true, false, ◌↔◌, ℕ, ◌<◌, ◌≤◌, ltb, Err, Ok, Result}
 use Rattle.std.proofs.Math.Bool.{cond}
 use mathlib.Core.List.{List, [], ◌∷◌}
 use Rattle.std.proofs.Math.ListN.{length}
@@ -15,8 +15,6 @@ use Rattle.operation.specs.RotationType.{handedness_of, proper-determinant, impr
 use Rattle.operation.specs.declared.Operation as operation
 use Rattle.operation.specs.declared.rotation_type.Handedness.{Handedness}
 use Rattle.operation.specs.declared.rotation_type.Handedness.TheVariants.{Proper, Improper, Neither}
-use Rattle.operation_line.specs.declared.ReadLine.{ReadLine}
-use Rattle.operation_line.specs.declared.ReadLine.TheVariants.{Operation, TooLong, Misspelt, Determinant}
 use Rattle.operation_line.specs.declared.reader.Mode.{Mode}
 use Rattle.operation_line.specs.declared.reader.Mode.TheVariants.{Start, Owed, Told, Numerator, Behind, Twelfth}
 use Rattle.operation_line.specs.Spelling.{Term, Line, Spells, Spelt}
@@ -25,28 +23,31 @@ use Rattle.operation_line.specs.Reading.{Reading, Reached, at, stopped, reach, b
 use Rattle.operation_line.specs.SpeltRead.{read, spelt-read, reads-exact}
 use Rattle.operation_line.specs.Offending.{stopped-offending, ended-offending}
 use Rattle.operation_line.specs.Ended.{line-digits}
+use Rattle.operation_line.specs.declared.ReadingRefusal.TheVariants.{Determinant, Misspelt, TooLong}
+use Rattle.operation.specs.declared.Operation.{Operation}
+use Rattle.operation_line.specs.declared.ReadingRefusal.{ReadingRefusal}
 
 -- ---- in numbers
 
 -- Number, place and value of each answer.
-abbrev pub answer_of : ReadLine → Answer operation.Operation Nothing
-answer_of (Operation f) = given f
-answer_of TooLong = refused 40 0 tt
-answer_of (Misspelt k) = refused 41 k tt
-answer_of Determinant = refused 42 0 tt
+abbrev pub answer_of : Result Operation ReadingRefusal → Answer operation.Operation Nothing
+answer_of (Ok f) = given f
+answer_of (Err TooLong) = refused 40 0 tt
+answer_of (Err (Misspelt k)) = refused 41 k tt
+answer_of (Err Determinant) = refused 42 0 tt
 
 -- The number, 0 where an operation is read.
-abbrev pub number_of : ReadLine → ℕ
-number_of (Operation f) = 0
-number_of TooLong = 40
-number_of (Misspelt k) = 41
-number_of Determinant = 42
+abbrev pub number_of : Result Operation ReadingRefusal → ℕ
+number_of (Ok f) = 0
+number_of (Err TooLong) = 40
+number_of (Err (Misspelt k)) = 41
+number_of (Err Determinant) = 42
 
-abbrev pub place_of : ReadLine → ℕ
-place_of (Operation f) = 0
-place_of TooLong = 0
-place_of (Misspelt k) = k
-place_of Determinant = 0
+abbrev pub place_of : Result Operation ReadingRefusal → ℕ
+place_of (Ok f) = 0
+place_of (Err TooLong) = 0
+place_of (Err (Misspelt k)) = k
+place_of (Err Determinant) = 0
 
 -- ---- by the rules
 
@@ -66,11 +67,11 @@ pub record NoMotion (text : List ℕ) : Type 0 where
   pub other : ¬ (Unimodular (matrix_of (operation_of_line line).rotation))
 
 -- What holds of a text where an answer is right.
-abbrev pub Answers : List ℕ → ReadLine → Type 0
-Answers text (Operation f) = IsRead text f
-Answers text TooLong = 64 < length text
-Answers text (Misspelt k) = (length text ≤ 64) × FirstOffending Spelt text k
-Answers text Determinant = NoMotion text
+abbrev pub Answers : List ℕ → Result Operation ReadingRefusal → Type 0
+Answers text (Ok f) = IsRead text f
+Answers text (Err TooLong) = 64 < length text
+Answers text (Err (Misspelt k)) = (length text ≤ 64) × FirstOffending Spelt text k
+Answers text (Err Determinant) = NoMotion text
 
 -- ---- the determinant
 
@@ -101,7 +102,7 @@ module _ (text : List ℕ) where
   pub spelt-answer : (l : Line) → length text ≤ 64 → Spells text l → read_line text ≡ decided (operation_of_line l)
   unfolding read_line answered ended whole_line
   spelt-answer l short spells =
-      ap (λ (t : Bool). cond t TooLong (answered text (reach text begin))) (le-ltb 64 (length text) short) ∙ ap (answered text) (spelt-read text l spells)
+      ap (λ (t : Bool). cond t (Err TooLong) (answered text (reach text begin))) (le-ltb 64 (length text) short) ∙ ap (answered text) (spelt-read text l spells)
 
   -- ---- the reader's answer holds
 
@@ -119,7 +120,7 @@ module _ (text : List ℕ) where
     at-end : (l : Line) → Spells text l → s ≡ read l
     at-end l spells = let e = sym reached ∙ spelt-read text l spells in cc
 
-    breaks-off : ¬ ((s.mode ≡ Told) × (length s.done ≡ 2)) → Answers text (Misspelt (length text))
+    breaks-off : ¬ ((s.mode ≡ Told) × (length s.done ≡ 2)) → Answers text (Err (Misspelt (length text)))
     breaks-off not-whole =
         (short, ended-offending text s reached (λ (l, spells). not-whole (whole l spells)))
       where
@@ -153,45 +154,45 @@ module _ (text : List ℕ) where
       from short (at s) e = ended-holds short s e s.mode refl
       from short stopped e = (short, stopped-offending text e)
 
-      go : (t : Bool) → ltb 64 (length text) ≡ t → Answers text (cond t TooLong (answered text (reach text begin)))
+      go : (t : Bool) → ltb 64 (length text) ≡ t → Answers text (cond t (Err TooLong) (answered text (reach text begin)))
       go true e = ltb-true 64 (length text) e
       go false e = from (ltb-false 64 (length text) e) (reach text begin) refl
 
   -- ---- an answer that holds is the reader's
 
-  kept : (f : operation.Operation) (h : Handedness) → Handed (matrix_of f.rotation) h → Unimodular (matrix_of f.rotation) → turned f h ≡ Operation f
+  kept : (f : operation.Operation) (h : Handedness) → Handed (matrix_of f.rotation) h → Unimodular (matrix_of f.rotation) → turned f h ≡ Ok f
   unfolding turned
   kept f Proper h u = refl
   kept f Improper h u = refl
   kept f Neither h u = absurd (h u)
 
-  dropped : (f : operation.Operation) (h : Handedness) → Handed (matrix_of f.rotation) h → ¬ (Unimodular (matrix_of f.rotation)) → turned f h ≡ Determinant
+  dropped : (f : operation.Operation) (h : Handedness) → Handed (matrix_of f.rotation) h → ¬ (Unimodular (matrix_of f.rotation)) → turned f h ≡ Err Determinant
   unfolding turned
   dropped f Proper h none = absurd (none h)
   dropped f Improper h none = absurd (none h)
   dropped f Neither h none = refl
 
-  misspelt-answer : (k : ℕ) → length text ≤ 64 → FirstOffending Spelt text k → read_line text ≡ Misspelt k
+  misspelt-answer : (k : ℕ) → length text ≤ 64 → FirstOffending Spelt text k → read_line text ≡ Err (Misspelt k)
   misspelt-answer k short w = go (read_line text) refl answer-holds
     where
-      go : (r : ReadLine) → read_line text ≡ r → Answers text r → read_line text ≡ Misspelt k
-      go (Operation f) e h = absurd (offending-misspelt Spelt text k w (h.line, h.spells))
-      go TooLong e h = absurd (omega arith)
-      go (Misspelt j) e h = e ∙ ap Misspelt (first-unique Spelt text j k h.1 w)
-      go Determinant e h = absurd (offending-misspelt Spelt text k w (h.line, h.spells))
+      go : (r : Result Operation ReadingRefusal) → read_line text ≡ r → Answers text r → read_line text ≡ Err (Misspelt k)
+      go (Ok f) e h = absurd (offending-misspelt Spelt text k w (h.line, h.spells))
+      go (Err TooLong) e h = absurd (omega arith)
+      go (Err (Misspelt j)) e h = e ∙ ap (λ x. Err (Misspelt x)) (first-unique Spelt text j k h.1 w)
+      go (Err Determinant) e h = absurd (offending-misspelt Spelt text k w (h.line, h.spells))
 
-  holds-answer : (r : ReadLine) → Answers text r → read_line text ≡ r
+  holds-answer : (r : Result Operation ReadingRefusal) → Answers text r → read_line text ≡ r
   unfolding read_line
-  holds-answer (Operation f) h =
+  holds-answer (Ok f) h =
       let l = h.line in
       let g = operation_of_line l in
       let turn = handedness_of (matrix_of g.rotation) in
       let u : Unimodular (matrix_of g.rotation) = subst (λ (g : operation.Operation). Unimodular (matrix_of g.rotation)) h.is h.unimodular in
       spelt-answer l h.short h.spells ∙ kept g turn (line-handed l turn refl) u
-      ∙ ap Operation (sym h.is)
-  holds-answer TooLong h = ap (λ (t : Bool). cond t TooLong (answered text (reach text begin))) (lt-ltb 64 (length text) h)
-  holds-answer (Misspelt k) h = misspelt-answer k h.0 h.1
-  holds-answer Determinant h =
+      ∙ ap Ok (sym h.is)
+  holds-answer (Err TooLong) h = ap (λ (t : Bool). cond t (Err TooLong) (answered text (reach text begin))) (lt-ltb 64 (length text) h)
+  holds-answer (Err (Misspelt k)) h = misspelt-answer k h.0 h.1
+  holds-answer (Err Determinant) h =
       let l = h.line in
       let g = operation_of_line l in
       let turn = handedness_of (matrix_of g.rotation) in
@@ -200,14 +201,14 @@ module _ (text : List ℕ) where
   -- ---- the two are one
 
   -- The reader gives an answer exactly if it holds of the text.
-  pub answers-exact : (r : ReadLine) → (read_line text ≡ r) ↔ Answers text r
+  pub answers-exact : (r : Result Operation ReadingRefusal) → (read_line text ≡ r) ↔ Answers text r
   answers-exact r = ((λ e. subst (Answers text) e answer-holds), holds-answer r)
 
   -- Of any text one answer holds, and no other.
-  pub one_answer : (r : ReadLine) × Answers text r
+  pub one_answer : (r : Result Operation ReadingRefusal) × Answers text r
   one_answer = (read_line text, answer-holds)
 
-  pub no-other-answer : (r s : ReadLine) → Answers text r → Answers text s → r ≡ s
+  pub no-other-answer : (r s : Result Operation ReadingRefusal) → Answers text r → Answers text s → r ≡ s
   no-other-answer r s h k = sym (holds-answer r h) ∙ holds-answer s k
 
 -- ---- number, place and value
@@ -221,81 +222,81 @@ said_place (given f) = 0
 said_place (refused n k c) = k
 
 -- They determine the answer.
-pub one-said : (r s : ReadLine) → answer_of r ≡ answer_of s → r ≡ s
-one-said (Operation f) (Operation g) e = cc
-one-said (Operation f) TooLong e = absurd (omega (arith, ap said_number e))
-one-said (Operation f) (Misspelt j) e = absurd (omega (arith, ap said_number e))
-one-said (Operation f) Determinant e = absurd (omega (arith, ap said_number e))
-one-said TooLong (Operation g) e = absurd (omega (arith, ap said_number e))
-one-said TooLong TooLong e = refl
-one-said TooLong (Misspelt j) e = absurd (omega (arith, ap said_number e))
-one-said TooLong Determinant e = absurd (omega (arith, ap said_number e))
-one-said (Misspelt k) (Operation g) e = absurd (omega (arith, ap said_number e))
-one-said (Misspelt k) TooLong e = absurd (omega (arith, ap said_number e))
-one-said (Misspelt k) (Misspelt j) e = cc
-one-said (Misspelt k) Determinant e = absurd (omega (arith, ap said_number e))
-one-said Determinant (Operation g) e = absurd (omega (arith, ap said_number e))
-one-said Determinant TooLong e = absurd (omega (arith, ap said_number e))
-one-said Determinant (Misspelt j) e = absurd (omega (arith, ap said_number e))
-one-said Determinant Determinant e = refl
+pub one-said : (r s : Result Operation ReadingRefusal) → answer_of r ≡ answer_of s → r ≡ s
+one-said (Ok f) (Ok g) e = cc
+one-said (Ok f) (Err TooLong) e = absurd (omega (arith, ap said_number e))
+one-said (Ok f) (Err (Misspelt j)) e = absurd (omega (arith, ap said_number e))
+one-said (Ok f) (Err Determinant) e = absurd (omega (arith, ap said_number e))
+one-said (Err TooLong) (Ok g) e = absurd (omega (arith, ap said_number e))
+one-said (Err TooLong) (Err TooLong) e = refl
+one-said (Err TooLong) (Err (Misspelt j)) e = absurd (omega (arith, ap said_number e))
+one-said (Err TooLong) (Err Determinant) e = absurd (omega (arith, ap said_number e))
+one-said (Err (Misspelt k)) (Ok g) e = absurd (omega (arith, ap said_number e))
+one-said (Err (Misspelt k)) (Err TooLong) e = absurd (omega (arith, ap said_number e))
+one-said (Err (Misspelt k)) (Err (Misspelt j)) e = cc
+one-said (Err (Misspelt k)) (Err Determinant) e = absurd (omega (arith, ap said_number e))
+one-said (Err Determinant) (Ok g) e = absurd (omega (arith, ap said_number e))
+one-said (Err Determinant) (Err TooLong) e = absurd (omega (arith, ap said_number e))
+one-said (Err Determinant) (Err (Misspelt j)) e = absurd (omega (arith, ap said_number e))
+one-said (Err Determinant) (Err Determinant) e = refl
 
 -- Which answer a number tells, and at which place.
-said-forty : (r : ReadLine) (k : ℕ) → answer_of r ≡ refused 40 k tt → (k ≡ 0) × (r ≡ TooLong)
-said-forty (Operation f) k e = absurd (omega (arith, ap said_number e))
-said-forty TooLong k e = (sym (ap said_place e), refl)
-said-forty (Misspelt j) k e = absurd (omega (arith, ap said_number e))
-said-forty Determinant k e = absurd (omega (arith, ap said_number e))
+said-forty : (r : Result Operation ReadingRefusal) (k : ℕ) → answer_of r ≡ refused 40 k tt → (k ≡ 0) × (r ≡ Err TooLong)
+said-forty (Ok f) k e = absurd (omega (arith, ap said_number e))
+said-forty (Err TooLong) k e = (sym (ap said_place e), refl)
+said-forty (Err (Misspelt j)) k e = absurd (omega (arith, ap said_number e))
+said-forty (Err Determinant) k e = absurd (omega (arith, ap said_number e))
 
-said-misspelt : (r : ReadLine) (k : ℕ) → answer_of r ≡ refused 41 k tt → r ≡ Misspelt k
-said-misspelt (Operation f) k e = absurd (omega (arith, ap said_number e))
-said-misspelt TooLong k e = absurd (omega (arith, ap said_number e))
-said-misspelt (Misspelt j) k e = ap Misspelt (ap said_place e)
-said-misspelt Determinant k e = absurd (omega (arith, ap said_number e))
+said-misspelt : (r : Result Operation ReadingRefusal) (k : ℕ) → answer_of r ≡ refused 41 k tt → r ≡ Err (Misspelt k)
+said-misspelt (Ok f) k e = absurd (omega (arith, ap said_number e))
+said-misspelt (Err TooLong) k e = absurd (omega (arith, ap said_number e))
+said-misspelt (Err (Misspelt j)) k e = ap (λ x. Err (Misspelt x)) (ap said_place e)
+said-misspelt (Err Determinant) k e = absurd (omega (arith, ap said_number e))
 
-said-determinant : (r : ReadLine) (k : ℕ) → answer_of r ≡ refused 42 k tt → (k ≡ 0) × (r ≡ Determinant)
-said-determinant (Operation f) k e = absurd (omega (arith, ap said_number e))
-said-determinant TooLong k e = absurd (omega (arith, ap said_number e))
-said-determinant (Misspelt j) k e = absurd (omega (arith, ap said_number e))
-said-determinant Determinant k e = (sym (ap said_place e), refl)
+said-determinant : (r : Result Operation ReadingRefusal) (k : ℕ) → answer_of r ≡ refused 42 k tt → (k ≡ 0) × (r ≡ Err Determinant)
+said-determinant (Ok f) k e = absurd (omega (arith, ap said_number e))
+said-determinant (Err TooLong) k e = absurd (omega (arith, ap said_number e))
+said-determinant (Err (Misspelt j)) k e = absurd (omega (arith, ap said_number e))
+said-determinant (Err Determinant) k e = (sym (ap said_place e), refl)
 
 -- The parts that the code tells one by one are these.
-pub number-said : (r : ReadLine) → said_number (answer_of r) ≡ number_of r
-number-said (Operation f) = refl
-number-said TooLong = refl
-number-said (Misspelt k) = refl
-number-said Determinant = refl
+pub number-said : (r : Result Operation ReadingRefusal) → said_number (answer_of r) ≡ number_of r
+number-said (Ok f) = refl
+number-said (Err TooLong) = refl
+number-said (Err (Misspelt k)) = refl
+number-said (Err Determinant) = refl
 
-pub place-said : (r : ReadLine) → said_place (answer_of r) ≡ place_of r
-place-said (Operation f) = refl
-place-said TooLong = refl
-place-said (Misspelt k) = refl
-place-said Determinant = refl
+pub place-said : (r : Result Operation ReadingRefusal) → said_place (answer_of r) ≡ place_of r
+place-said (Ok f) = refl
+place-said (Err TooLong) = refl
+place-said (Err (Misspelt k)) = refl
+place-said (Err Determinant) = refl
 
 module _ (text : List ℕ) where
   -- Read: at most 64 bytes, spelt by the rules, and the terms' matrix has determinant 1 or −1.
   pub reads-exactly : (f : operation.Operation) → (answer_of (read_line text) ≡ given f) ↔ IsRead text f
   reads-exactly f = (
-    (λ e. (answers-exact text (Operation f)).0 (one-said (read_line text) (Operation f) e)),
-    λ h. ap answer_of ((answers-exact text (Operation f)).1 h),
+    (λ e. (answers-exact text (Ok f)).0 (one-said (read_line text) (Ok f) e)),
+    λ h. ap answer_of ((answers-exact text (Ok f)).1 h),
   )
 
   -- 40 at 0: over 64 bytes.
   pub forty-exactly : (k : ℕ) → (answer_of (read_line text) ≡ refused 40 k tt) ↔ ((k ≡ 0) × (64 < length text))
   forty-exactly k = (
-    (λ e. let t = said-forty (read_line text) k e in (t.0, (answers-exact text TooLong).0 t.1)),
-    λ (none, h). ap answer_of ((answers-exact text TooLong).1 h) ∙ ap (λ (j : ℕ). refused 40 j tt) (sym none),
+    (λ e. let t = said-forty (read_line text) k e in (t.0, (answers-exact text (Err TooLong)).0 t.1)),
+    λ (none, h). ap answer_of ((answers-exact text (Err TooLong)).1 h) ∙ ap (λ (j : ℕ). refused 40 j tt) (sym none),
   )
 
   -- 41: the first byte that no line so spelt, of any length, has after the bytes before it, or the length where the line breaks off.
   pub misspelt-exactly : (k : ℕ) → (answer_of (read_line text) ≡ refused 41 k tt) ↔ ((length text ≤ 64) × FirstOffending Spelt text k)
   misspelt-exactly k = (
-    (λ e. (answers-exact text (Misspelt k)).0 (said-misspelt (read_line text) k e)),
-    λ h. ap answer_of ((answers-exact text (Misspelt k)).1 h),
+    (λ e. (answers-exact text (Err (Misspelt k))).0 (said-misspelt (read_line text) k e)),
+    λ h. ap answer_of ((answers-exact text (Err (Misspelt k))).1 h),
   )
 
   -- 42 at 0: spelt by the rules, with another determinant.
   pub determinant-exactly : (k : ℕ) → (answer_of (read_line text) ≡ refused 42 k tt) ↔ ((k ≡ 0) × NoMotion text)
   determinant-exactly k = (
-    (λ e. let t = said-determinant (read_line text) k e in (t.0, (answers-exact text Determinant).0 t.1)),
-    λ (none, h). ap answer_of ((answers-exact text Determinant).1 h) ∙ ap (λ (j : ℕ). refused 42 j tt) (sym none),
+    (λ e. let t = said-determinant (read_line text) k e in (t.0, (answers-exact text (Err Determinant)).0 t.1)),
+    λ (none, h). ap answer_of ((answers-exact text (Err Determinant)).1 h) ∙ ap (λ (j : ℕ). refused 42 j tt) (sym none),
   )

@@ -1,6 +1,6 @@
 -- What the code answers: at the end of a line the operation of the numbers it holds, which is that of the line's terms; and at each byte before, where it
 -- goes on and where it stops.
-use Rattle.std.specs.Prelude.{◌≡◌, Bool, ℕ, suc, ◌+◌, ◌*◌, ◌/◌, ◌%◌, ◌<◌, ◌≤◌, length, get_or}
+use Rattle.std.specs.Prelude.{◌≡◌, Bool, ℕ, suc, ◌+◌, ◌*◌, ◌/◌, ◌%◌, ◌<◌, ◌≤◌, length, get_or, Err, Option}
 use Rattle.std.proofs.Math.Path.{refl, sym, ap}
 use Rattle.std.proofs.Common.{◌∙◌, subst, add-one, take-suc, length-take-le, lt-ltb, le-ltb}
 use Rattle.std.proofs.Math.Bool.{cond}
@@ -10,14 +10,11 @@ use Rattle.std.proofs.Math.ListN.{take, drop}
 use Rattle.std.proofs.Math.Seq.{take-length, split_at}
 use Rattle.operation.specs.Meaning.{Digits}
 use Rattle.operation.specs.Code.{code_of, rotation_of, decoded_of, code_lt, rotation-code}
-use Rattle.operation.specs.declared.code.Decoded.{Decoded}
-use Rattle.operation.specs.declared.code.Decoded.TheVariants.{Inside, Outside}
 use Rattle.operation_line.specs.declared.Letter.TheVariants.{X, Y, Z}
-use Rattle.operation_line.specs.declared.ReadLine.TheVariants.{TooLong, Misspelt}
 use Rattle.operation_line.specs.declared.reader.Mode.{Mode}
 use Rattle.operation_line.specs.declared.reader.Mode.TheVariants.{Start, Owed, Told, Numerator, Behind, Twelfth}
 use Rattle.operation_line.specs.declared.reader.State.{State}
-use Rattle.operation_line.specs.declared.reader.Next.TheVariants.{On, Stop}
+use Rattle.std.specs.Prelude.{Some, None}
 use Rattle.operation_line.specs.Spelling.{Term, Line}
 use Rattle.operation_line.specs.Denoted.{digit_in, twelfths_in, rotation_of_line, translation_of_line, operation_of_line}
 use Rattle.operation_line.specs.Reading.{Reading, Reached, at, stopped, step, onwards, reach, passed, readable, begin, decided, line_of, whole_line, ended, answered, read_line}
@@ -25,6 +22,8 @@ use Rattle.operation_line.specs.Numbers.{numbered, decoded_then, decoded_line, w
 use Rattle.operation_line.specs.Beginnings.{Done, nothing, more, Ends, Begun, reached-begun}
 use Rattle.operation_line.specs.SpeltRead.{reach-append}
 use Rattle.operation_line.specs.Held.{row_code, rows_code, ranks, numbers_of, numbers_next, digit-small, twelfths-small, terms-proper, begun-within, step-held}
+use Rattle.operation_line.specs.declared.ReadingRefusal.TheVariants.{Misspelt, TooLong}
+use Rattle.operation.specs.declared.Rotation.{Rotation}
 
 -- ---- the end
 
@@ -49,12 +48,12 @@ module _ (x y z : List Term) where
   unfolding rows_code code_of rotation_of_line
   line_code = omega arith
 
-  line-decoded : decoded_of (rows_code (y ∷ (x ∷ [])) * 27 + row_code z) ≡ Inside (rotation_of_line (line_of x y z))
+  line-decoded : decoded_of (rows_code (y ∷ (x ∷ [])) * 27 + row_code z) ≡ Some (rotation_of_line (line_of x y z))
   line-decoded =
       let r = rotation_of_line (line_of x y z) in
       let d = line-digits (line_of x y z) in
       ap decoded_of line_code
-      ∙ ap (λ (t : Bool). cond t (Inside (rotation_of (code_of r))) Outside) (lt-ltb (code_of r) 19683 (code_lt r d)) ∙ ap Inside (rotation-code r d)
+      ∙ ap (λ (t : Bool). cond t (Some (rotation_of (code_of r))) None) (lt-ltb (code_of r) 19683 (code_lt r d)) ∙ ap Some (rotation-code r d)
 
   module _ (x-small : twelfths_in x < 12) (y-small : twelfths_in y < 12) (z-small : twelfths_in z < 12) where
     abbrev twelfths : ℕ
@@ -75,7 +74,7 @@ module _ (x y z : List Term) where
 
     whole-held : decoded_line (rows_code (y ∷ (x ∷ [])) * 27 + row_code z) twelfths ≡ decided (operation_of_line (line_of x y z))
     unfolding decoded_then
-    whole-held = ap (λ (d : Decoded). decoded_then d twelfths) line-decoded ∙ ap decided line-numbered
+    whole-held = ap (λ (d : Option Rotation). decoded_then d twelfths) line-decoded ∙ ap decided line-numbered
 
 -- Behind a term.
 told-held : (size : ℕ) (front q : List ℕ) (done : List (List Term)) (ts : List Term) → Done front done → length done ≤ 2 → Ends q ts Told
@@ -150,7 +149,7 @@ module _ (line : List ℕ) (i : ℕ) (state : State) (h : Holds line i state) wh
   holds-end last short =
       ap (ended_numbers i) h.numbers ∙ ended_held i (take i line) h.reading begun ∙ ap (λ (n : ℕ). ended n h.reading h.reading.mode) last
       ∙ ap (answered line) (sym (ap (λ (l : List ℕ). reach l begin) (sym (take-length line) ∙ ap (λ (n : ℕ). take n line) (sym last)) ∙ h.reached))
-      ∙ sym (ap (λ (t : Bool). cond t TooLong (answered line (reach line begin))) (le-ltb 64 (length line) short))
+      ∙ sym (ap (λ (t : Bool). cond t (Err TooLong) (answered line (reach line begin))) (le-ltb 64 (length line) short))
 
   module _ (more : i < length line) where
     abbrev byte : ℕ
@@ -160,10 +159,10 @@ module _ (line : List ℕ) (i : ℕ) (state : State) (h : Holds line i state) wh
     next = ap (λ (t : State). step_numbers t byte) h.numbers ∙ step-held (take i line) h.reading byte begun
 
     -- Where the code goes on.
-    pub holds_on : (on : State) → step_numbers state byte ≡ On on → Holds line (i + 1) on
+    pub holds_on : (on : State) → step_numbers state byte ≡ Some on → Holds line (i + 1) on
     holds_on on e = go (step h.reading byte) refl (sym next ∙ e)
       where
-        go : (w : Reached) → step h.reading byte ≡ w → numbers_next w ≡ On on → Holds line (i + 1) on
+        go : (w : Reached) → step h.reading byte ≡ w → numbers_next w ≡ Some on → Holds line (i + 1) on
         go (at s) is same =
             record {
               within = omega arith;
@@ -176,14 +175,14 @@ module _ (line : List ℕ) (i : ℕ) (state : State) (h : Holds line i state) wh
         go stopped is same = let z : ◌≡◌ {A = ℕ} 0 1 = cc in absurd (omega arith)
 
     -- Where it stops.
-    pub holds-stop : step_numbers state byte ≡ Stop → length line ≤ 64 → Misspelt i ≡ read_line line
+    pub holds-stop : step_numbers state byte ≡ None → length line ≤ 64 → Err (Misspelt i) ≡ read_line line
     unfolding read_line answered
     holds-stop e short = go (step h.reading byte) refl (sym next ∙ e)
       where
         split : line ≡ take i line ++ (byte ∷ drop (suc i) line)
         split = split_at line i 0 more
 
-        go : (w : Reached) → step h.reading byte ≡ w → numbers_next w ≡ Stop → Misspelt i ≡ read_line line
+        go : (w : Reached) → step h.reading byte ≡ w → numbers_next w ≡ None → Err (Misspelt i) ≡ read_line line
         go (at s) is same = let z : ◌≡◌ {A = ℕ} 0 1 = cc in absurd (omega arith)
         go stopped is same =
             let place : readable line begin ≡ i =
@@ -194,5 +193,5 @@ module _ (line : List ℕ) (i : ℕ) (state : State) (h : Holds line i state) wh
             ap (λ (l : List ℕ). reach l begin) split
             ∙ reach-append (take i line) (byte ∷ drop (suc i) line) begin h.reading h.reached
             ∙ reach-stop byte (drop (suc i) line) h.reading is in
-            ap Misspelt (sym place) ∙ ap (answered line) (sym ends)
-            ∙ sym (ap (λ (t : Bool). cond t TooLong (answered line (reach line begin))) (le-ltb 64 (length line) short))
+            ap (λ x. Err (Misspelt x)) (sym place) ∙ ap (answered line) (sym ends)
+            ∙ sym (ap (λ (t : Bool). cond t (Err TooLong) (answered line (reach line begin))) (le-ltb 64 (length line) short))

@@ -17,8 +17,7 @@ use Rattle.operation_line.specs.declared.reader.Symbol.TheVariants.{Space, Sign,
 use Rattle.operation_line.specs.declared.reader.Mode.{Mode}
 use Rattle.operation_line.specs.declared.reader.Mode.TheVariants.{Start, Owed, Told, Numerator, Behind, Twelfth}
 use Rattle.operation_line.specs.declared.reader.State.{State}
-use Rattle.operation_line.specs.declared.reader.Next.{Next}
-use Rattle.operation_line.specs.declared.reader.Next.TheVariants.{On, Stop}
+use Rattle.std.specs.Prelude.{Option, Some, None}
 use Rattle.operation_line.specs.Spelling.{Body, letter, fraction, Term, signed, same_letter, Proper, clash, used, none, Terms, blank, unsigned, then, Part}
 use Rattle.operation_line.specs.Denoted.{sign_digit, digit_then, digit_in, fraction_twelfths, twelfths_then, twelfths_in}
 use Rattle.operation_line.specs.Reading.{symbol_of, Reading, Reached, at, stopped, ending, told, with_letter, with_fraction, with_numerator, begun, at_start, full, next_part, after_term, after_numerator, one_digit, over_digit, after_slash, after_one, step_by, step}
@@ -49,9 +48,9 @@ numbers_of s =
       rank = ranks s.done * 12 + twelfths_in s.terms;
     }
 
-abbrev pub numbers_next : Reached → Next
-numbers_next (at s) = On (numbers_of s)
-numbers_next stopped = Stop
+abbrev pub numbers_next : Reached → Option State
+numbers_next (at s) = Some (numbers_of s)
+numbers_next stopped = None
 
 -- ---- digits
 
@@ -240,7 +239,7 @@ module _ (s : Reading) (proper : Propers s.terms) where
   letter-held n l = rw (column-digit l, used-letter l s.terms) (go (eqb (digit_in l s.terms) 1) refl)
     where
       go : (t : Bool) → eqb (digit_in l s.terms) 1 ≡ t
-          → cond t (told_numbers held (cond n (held.code - weight_of l) (held.code + weight_of l)) held.rank) Stop
+          → cond t (told_numbers held (cond n (held.code - weight_of l) (held.code + weight_of l)) held.rank) None
           ≡ numbers_next (cond (not t) stopped (told s n (letter l)))
       go true e = ap (λ (c : ℕ). told_numbers held c held.rank) (letter-code n l (eqb-true (digit_in l s.terms) 1 e))
       go false e = refl
@@ -249,7 +248,7 @@ module _ (s : Reading) (proper : Propers s.terms) where
   unfolding numerator_numbers with_numerator
   numerator-held n m = rw (last-twelfths, used-twelfths m 12 s.terms proper) (go (eqb m 0) (eqb (twelfths_in s.terms) 0))
     where
-      go : (t w : Bool) → cond t Stop (cond w (ending_numbers held (Numerator n m)) Stop)
+      go : (t w : Bool) → cond t None (cond w (ending_numbers held (Numerator n m)) None)
           ≡ numbers_next (cond t stopped (cond (not w) stopped (ending s (Numerator n m))))
       go true w = refl
       go false true = refl
@@ -306,9 +305,9 @@ module _ (s : Reading) (proper : Propers s.terms) where
       twelfths : held.rank * 12 ≡ held.rank * 12 + 0
       twelfths = omega arith
 
-      go : (t : Bool) → cond t (On (record { part = length s.done + 1; mode = Start; code = held.code * 27 + 13; rank = held.rank * 12 })) Stop
+      go : (t : Bool) → cond t (Some (record { part = length s.done + 1; mode = Start; code = held.code * 27 + 13; rank = held.rank * 12 })) None
           ≡ numbers_next (cond t (next_part s) stopped)
-      go true = λ i. On (record { part = parts i; mode = Start; code = held.code * 27 + 13; rank = twelfths i })
+      go true = λ i. Some (record { part = parts i; mode = Start; code = held.code * 27 + 13; rank = twelfths i })
       go false = refl
 
   term-held : (y : Symbol) → term_numbers held y ≡ numbers_next (after_term s y)
@@ -316,7 +315,7 @@ module _ (s : Reading) (proper : Propers s.terms) where
   term-held Space = refl
   term-held (Sign n) = rw full-held (go (full s.terms))
     where
-      go : (t : Bool) → cond t Stop (ending_numbers held (Owed n)) ≡ numbers_next (cond t stopped (ending s (Owed n)))
+      go : (t : Bool) → cond t None (ending_numbers held (Owed n)) ≡ numbers_next (cond t stopped (ending s (Owed n)))
       go true = refl
       go false = refl
   term-held (Named l) = refl
@@ -332,7 +331,7 @@ module _ (s : Reading) (proper : Propers s.terms) where
   numerator-on n m (Named l) = refl
   numerator-on n m (Digit d) = go (eqb m 1) (ltb d 2)
     where
-      go : (t w : Bool) → cond t (cond w (ending_numbers held (Numerator n (10 + d))) Stop) Stop
+      go : (t w : Bool) → cond t (cond w (ending_numbers held (Numerator n (10 + d))) None) None
           ≡ numbers_next (cond (t && w) (ending s (Numerator n (10 + d))) stopped)
       go true true = refl
       go true false = refl
@@ -358,12 +357,12 @@ module _ (s : Reading) (proper : Propers s.terms) where
     over-held d = go (eqb d 1) (one_digit d) refl
       where
         less : (w : Bool) → 12 * m / d ≡ m * unit_of d
-            → cond w (fraction_numbers held n (m * unit_of d)) Stop ≡ numbers_next (cond w (told s n (fraction m d)) stopped)
+            → cond w (fraction_numbers held n (m * unit_of d)) None ≡ numbers_next (cond w (told s n (fraction m d)) stopped)
         less true e = fraction-held d (m * unit_of d) e
         less false e = refl
 
         go : (t w : Bool) → one_digit d ≡ w
-            → cond t (ending_numbers held (Twelfth n m)) (cond (eqb (unit_of d) 0) Stop (cond (ltb m d) (fraction_numbers held n (m * unit_of d)) Stop))
+            → cond t (ending_numbers held (Twelfth n m)) (cond (eqb (unit_of d) 0) None (cond (ltb m d) (fraction_numbers held n (m * unit_of d)) None))
             ≡ numbers_next (cond t (ending s (Twelfth n m)) (cond w (cond (ltb m d) (told s n (fraction m d)) stopped) stopped))
         go true w e = refl
         go false true e =
@@ -385,7 +384,7 @@ module _ (s : Reading) (proper : Propers s.terms) where
     unfolding twelve_numbers with_fraction
     twelve-held d = go (eqb d 2) (ltb m 12)
       where
-        go : (t w : Bool) → cond t (cond w (fraction_numbers held n m) Stop) Stop ≡ numbers_next (cond t (cond w (told s n (fraction m 12)) stopped) stopped)
+        go : (t w : Bool) → cond t (cond w (fraction_numbers held n m) None) None ≡ numbers_next (cond t (cond w (told s n (fraction m 12)) stopped) stopped)
         go true true = fraction-held 12 m (omega arith)
         go true false = refl
         go false w = refl

@@ -8,7 +8,7 @@ use mathlib.Core.List.Memᴰ.{tail as there}
 use mathlib.Core.List.{List, [], ◌∷◌, Memᴰ as Mem}
 use Rattle.operation.specs.Below.{all_below, below}
 use Rattle.operation_line.specs.Spelling.{fraction, signed, denominators, Proper}
-use Rattle.operation_line.specs.Writing.{numerators, divisors, twelfths, fraction_term}
+use Rattle.operation_line.specs.Writing.{numerators, divisors, fraction_term}
 
 -- No number from 2 on divides both.
 pub record Lowest (p q : ℕ) : Type 0 where

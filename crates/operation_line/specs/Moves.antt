@@ -1,6 +1,6 @@
 -- What a line's operation does: at every integer vector, in twelfths, the three parts take the values of the motion, modulo 12.
 -- Letters are coordinates, so letters, signs and rows are tied to motions and to no convention of the code.
-use Rattle.std.specs.Prelude.{◌≡◌, refl, Bool, true, false, ℕ, ◌+◌, ◌*◌, ◌-◌, ◌/◌, ◌%◌, eqb, pos, neg_ℤ, ◌+ℤ◌, ◌*ℤ◌}
+use Rattle.std.specs.Prelude.{◌≡◌, refl, Bool, true, false, ℕ, ◌+◌, ◌*◌, ◌-◌, ◌/◌, ◌%◌, eqb, pos, neg_ℤ, ◌+ℤ◌, ◌*ℤ◌, Ok}
 use Rattle.std.proofs.Math.Path.{sym, ap}
 use Rattle.std.proofs.Common.{◌∙◌, arith, eqb-true}
 use mathlib.Core.List.{List, [], ◌∷◌}
@@ -14,7 +14,6 @@ use Rattle.operation.specs.Meaning.{entry_of, matrix_of, vector_of, motion_of}
 use Rattle.operation.specs.declared.Operation as operation
 use Rattle.operation_line.specs.declared.Letter.{Letter}
 use Rattle.operation_line.specs.declared.Letter.TheVariants.{X, Y, Z}
-use Rattle.operation_line.specs.declared.ReadLine.TheVariants.{Operation}
 use Rattle.operation_line.specs.Spelling.{Body, letter, fraction, Term, signed, Proper, used, Terms, blank, unsigned, then, Line, Spells}
 use Rattle.operation_line.specs.Denoted.{sign_digit, digit_then, digit_in, fraction_twelfths, twelfths_then, twelfths_in, rotation_of_line, translation_of_line, operation_of_line, coordinate, body_value, signed_value, value_at}
 use Rattle.operation_line.specs.Reading.{read_line}
@@ -149,8 +148,8 @@ line-moves text l h v =
     (part-moves v l.z (terms-once h.of-z.spelt))
 
 -- So does the operation that is read.
-pub read-moves : (text : List ℕ) (f : operation.Operation) → read_line text ≡ Operation f
+pub read-moves : (text : List ℕ) (f : operation.Operation) → read_line text ≡ Ok f
     → (l : Line) × Spells text l × ((v : Vector) → reduced (values_at v l) ≡ reduced (moved_by (motion_of f) v))
 read-moves text f e =
-    let h = (answers-exact text (Operation f)).0 e in
+    let h = (answers-exact text (Ok f)).0 e in
     (h.line, h.spells, λ v. line-moves text h.line h.spells v ∙ ap (λ (g : operation.Operation). reduced (moved_by (motion_of g) v)) (sym h.is))

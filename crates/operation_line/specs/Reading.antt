@@ -1,6 +1,6 @@
 -- How a line is read, byte by byte: the finished parts, the terms of the part that is read, and what stands at the end of the bytes read.
 -- Any byte that cannot go on there stops the reader.
-use Rattle.std.specs.Prelude.{Bool, true, false, cond, ◌&&◌, ◌||◌, List, [], ◌∷◌, ℕ, suc, ◌+◌, ◌-◌, eqb, ltb, length}
+use Rattle.std.specs.Prelude.{Bool, true, false, cond, ◌&&◌, ◌||◌, List, [], ◌∷◌, ℕ, suc, ◌+◌, ◌-◌, eqb, ltb, length, Err, Ok, Result}
 use Rattle.operation.specs.Meaning.{matrix_of}
 use Rattle.operation.specs.RotationType.{handedness_of}
 use Rattle.operation.specs.declared.Operation as operation
@@ -8,14 +8,15 @@ use Rattle.operation.specs.declared.rotation_type.Handedness.{Handedness}
 use Rattle.operation.specs.declared.rotation_type.Handedness.TheVariants as handed
 use Rattle.operation_line.specs.declared.Letter.{Letter}
 use Rattle.operation_line.specs.declared.Letter.TheVariants.{X, Y, Z}
-use Rattle.operation_line.specs.declared.ReadLine.{ReadLine}
-use Rattle.operation_line.specs.declared.ReadLine.TheVariants.{Operation, TooLong, Misspelt, Determinant}
 use Rattle.operation_line.specs.declared.reader.Symbol.{Symbol}
 use Rattle.operation_line.specs.declared.reader.Symbol.TheVariants.{Space, Sign, Named, Digit, Slash, Comma, Foreign}
 use Rattle.operation_line.specs.declared.reader.Mode.{Mode}
 use Rattle.operation_line.specs.declared.reader.Mode.TheVariants.{Start, Owed, Told, Numerator, Behind, Twelfth}
 use Rattle.operation_line.specs.Spelling.{Body, letter, fraction, Term, signed, used, Line}
 use Rattle.operation_line.specs.Denoted.{operation_of_line}
+use Rattle.operation_line.specs.declared.ReadingRefusal.TheVariants.{Determinant, Misspelt, TooLong}
+use Rattle.operation.specs.declared.Operation.{Operation}
+use Rattle.operation_line.specs.declared.ReadingRefusal.{ReadingRefusal}
 
 -- ---- bytes
 
@@ -190,38 +191,38 @@ begin = record { done = []; terms = []; mode = Start }
 -- ---- the answer
 
 -- An operation's determinant must be 1 or −1.
-unfoldable pub turned : operation.Operation → Handedness → ReadLine
-turned f handed.Proper = Operation f
-turned f handed.Improper = Operation f
-turned f handed.Neither = Determinant
+unfoldable pub turned : operation.Operation → Handedness → Result Operation ReadingRefusal
+turned f handed.Proper = Ok f
+turned f handed.Improper = Ok f
+turned f handed.Neither = Err Determinant
 
-abbrev pub decided : operation.Operation → ReadLine
+abbrev pub decided : operation.Operation → Result Operation ReadingRefusal
 decided f = turned f (handedness_of (matrix_of f.rotation))
 
 abbrev pub line_of : List Term → List Term → List Term → Line
 line_of x y z = record { x = x; y = y; z = z }
 
 -- The parts behind the first: the line is whole if this is its third.
-unfoldable pub whole_line : ℕ → List (List Term) → List Term → ReadLine
-whole_line size [] z = Misspelt size
-whole_line size (y ∷ []) z = Misspelt size
+unfoldable pub whole_line : ℕ → List (List Term) → List Term → Result Operation ReadingRefusal
+whole_line size [] z = Err (Misspelt size)
+whole_line size (y ∷ []) z = Err (Misspelt size)
 whole_line size (y ∷ (x ∷ [])) z = decided (operation_of_line (line_of x y z))
-whole_line size (y ∷ (x ∷ (w ∷ ps))) z = Misspelt size
+whole_line size (y ∷ (x ∷ (w ∷ ps))) z = Err (Misspelt size)
 
 -- A line ends behind a term.
-unfoldable pub ended : ℕ → Reading → Mode → ReadLine
-ended size s Start = Misspelt size
-ended size s (Owed n) = Misspelt size
+unfoldable pub ended : ℕ → Reading → Mode → Result Operation ReadingRefusal
+ended size s Start = Err (Misspelt size)
+ended size s (Owed n) = Err (Misspelt size)
 ended size s Told = whole_line size s.done s.terms
-ended size s (Numerator n m) = Misspelt size
-ended size s (Behind n m) = Misspelt size
-ended size s (Twelfth n m) = Misspelt size
+ended size s (Numerator n m) = Err (Misspelt size)
+ended size s (Behind n m) = Err (Misspelt size)
+ended size s (Twelfth n m) = Err (Misspelt size)
 
 -- 41 is told where the reader stops, or of the text's length if the line breaks off.
-unfoldable pub answered : List ℕ → Reached → ReadLine
+unfoldable pub answered : List ℕ → Reached → Result Operation ReadingRefusal
 answered text (at s) = ended (length text) s s.mode
-answered text stopped = Misspelt (readable text begin)
+answered text stopped = Err (Misspelt (readable text begin))
 
 -- 40, 41, 42, in this order.
-unfoldable pub read_line : List ℕ → ReadLine
-read_line text = cond (ltb 64 (length text)) TooLong (answered text (reach text begin))
+unfoldable pub read_line : List ℕ → Result Operation ReadingRefusal
+read_line text = cond (ltb 64 (length text)) (Err TooLong) (answered text (reach text begin))

@@ -1,18 +1,16 @@
 -- How an operation is written as a line, by R10: in each part the letters ascend, no plus leads, a fraction in lowest terms comes last
 -- if the translation is not 0; no spaces.
-use Rattle.std.specs.Prelude.{Bool, true, false, cond, List, [], ◌∷◌, ◌++◌, ℕ, zero, suc, ltb, length, get_or, drop}
+use Rattle.std.specs.Prelude.{Bool, true, false, cond, List, [], ◌∷◌, ◌++◌, ℕ, zero, suc, ltb, length, get_or, drop, Err, None, Ok, Option, Result, Some}
 use Rattle.operation.specs.Answer.{Answer, given, refused, Nothing}
 use Rattle.operation.specs.Meaning.{matrix_of}
 use Rattle.operation.specs.RotationType.{handedness_of, is_turn}
 use Rattle.operation.specs.declared.Operation.{Operation}
 use Rattle.five_bytes.specs.FiveBytes.{five_bytes_of}
-use Rattle.five_bytes.specs.declared.FiveBytes.{FiveBytes}
-use Rattle.five_bytes.specs.declared.FiveBytes.TheVariants.{Is, Wrong}
 use Rattle.operation_line.specs.declared.Letter.{Letter}
 use Rattle.operation_line.specs.declared.Letter.TheVariants.{X, Y, Z}
 use Rattle.operation_line.specs.Spelling.{Body, letter, fraction, Term, signed, body_bytes, Line}
-use Rattle.operation_line.specs.declared.WrittenLine.{WrittenLine}
-use Rattle.operation_line.specs.declared.WrittenLine.TheVariants.{Length, NoOperation, Determinant, NoRoom}
+use Rattle.operation_line.specs.declared.WritingRefusal.TheVariants.{Determinant, NoOperation, NoRoom}
+use Rattle.operation_line.specs.declared.WritingRefusal.{WritingRefusal}
 
 -- ---- the terms, the last of a part first, as the spelling rules list them
 
@@ -80,15 +78,15 @@ written_line f = plain_line (line_of f)
 -- ---- the answer, and the lent buffer
 
 -- Number, place and value of each case.
-abbrev pub written_answer : WrittenLine → Answer ℕ Nothing
-written_answer (Length n) = given n
-written_answer NoOperation = refused 34 0 tt
-written_answer Determinant = refused 42 0 tt
-written_answer NoRoom = refused 20 0 tt
+abbrev pub written_answer : Result ℕ WritingRefusal → Answer ℕ Nothing
+written_answer (Ok n) = given n
+written_answer (Err NoOperation) = refused 34 0 tt
+written_answer (Err Determinant) = refused 42 0 tt
+written_answer (Err NoRoom) = refused 20 0 tt
 
 -- A line that fits is written at the start; what stands behind it stays, and so does all if it does not fit.
-abbrev pub fitted_answer : List ℕ → ℕ → WrittenLine
-fitted_answer line room = cond (ltb room (length line)) NoRoom (Length (length line))
+abbrev pub fitted_answer : List ℕ → ℕ → Result ℕ WritingRefusal
+fitted_answer line room = cond (ltb room (length line)) (Err NoRoom) (Ok (length line))
 
 abbrev pub fitted : List ℕ → List ℕ → List ℕ
 fitted line out = cond (ltb (length out) (length line)) out (line ++ drop (length line) out)
@@ -97,15 +95,15 @@ unfoldable pub writable : Operation → Bool
 writable f = is_turn (handedness_of (matrix_of f.rotation))
 
 -- 34, then 42, then 20.
-abbrev pub written_by : FiveBytes → ℕ → WrittenLine
-written_by (Is f) room = cond (writable f) (fitted_answer (written_line f) room) Determinant
-written_by Wrong room = NoOperation
+abbrev pub written_by : Option Operation → ℕ → Result ℕ WritingRefusal
+written_by (Some f) room = cond (writable f) (fitted_answer (written_line f) room) (Err Determinant)
+written_by None room = Err NoOperation
 
-abbrev pub buffer_by : FiveBytes → List ℕ → List ℕ
-buffer_by (Is f) out = cond (writable f) (fitted (written_line f) out) out
-buffer_by Wrong out = out
+abbrev pub buffer_by : Option Operation → List ℕ → List ℕ
+buffer_by (Some f) out = cond (writable f) (fitted (written_line f) out) out
+buffer_by None out = out
 
-unfoldable pub write_of : List ℕ → ℕ → WrittenLine
+unfoldable pub write_of : List ℕ → ℕ → Result ℕ WritingRefusal
 write_of bytes room = written_by (five_bytes_of bytes) room
 
 unfoldable pub buffer_of : List ℕ → List ℕ → List ℕ

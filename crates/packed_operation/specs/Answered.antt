@@ -1,5 +1,5 @@
 -- What the number that a product answers says: the product itself, with the flag.
-use Rattle.std.specs.Prelude.{◌≡◌, Bool, true, false, cond, ℕ, zero, suc, ◌≤◌, ℤ, pos, negsuc, ◌+ℤ◌}
+use Rattle.std.specs.Prelude.{◌≡◌, Bool, true, false, cond, ℕ, zero, suc, ◌≤◌, ℤ, pos, negsuc, ◌+ℤ◌, None, Some}
 use Rattle.std.proofs.Common.{sym, ◌∙◌, ap, arith}
 use Rattle.std.proofs.Math.IntN.{one}
 use Rattle.laws.specs.Motion.{SpaceMotion, compose}
@@ -7,12 +7,10 @@ use Rattle.laws.specs.Residue.{residue, residue-lt}
 use Rattle.operation.specs.Meaning.{digit_of, digit_above, motion_of, all_inside}
 use Rattle.operation.specs.Product.{product_of, operation_of}
 use Rattle.operation.specs.declared.Operation.{Operation}
-use Rattle.operation.specs.declared.product.Product.TheVariants.{Inside, Outside}
 use Rattle.packed_operation.specs.Number.{said_by, flag_of, packed_of, numbered}
 use Rattle.packed_operation.specs.Rows.{Narrow}
 use Rattle.packed_operation.specs.Moved.{Short}
 use Rattle.packed_operation.specs.RoundTrip.{number-says, flag-said}
-use Rattle.packed_operation.specs.declared.Numbered.TheVariants as answer
 
 digit-above : (e : ℤ) → digit_above e ≤ 3
 unfolding digit_above
@@ -50,16 +48,16 @@ unfolding operation_of
 motion-short m = record { x = residue-short _; y = residue-short _; z = residue-short _ }
 
 told : (b : Bool) (o : Operation) (flag n : ℕ) → Narrow o.rotation → Short o.translation → flag ≤ 1
-    → numbered (cond b (Inside o) Outside) flag ≡ answer.Inside n
-    → (cond b (Inside o) Outside ≡ Inside (said_by n)) × (flag_of n ≡ flag)
+    → numbered (cond b (Some o) None) flag ≡ Some n
+    → (cond b (Some o) None ≡ Some (said_by n)) × (flag_of n ≡ flag)
 unfolding numbered
 told true o flag n narrow short small p =
     let e : packed_of o flag ≡ n = cc in
-    (ap Inside (sym (number-says o flag narrow short) ∙ ap said_by e), sym (ap flag_of e) ∙ flag-said o flag narrow short small)
+    (ap Some (sym (number-says o flag narrow short) ∙ ap said_by e), sym (ap flag_of e) ∙ flag-said o flag narrow short small)
 told false o flag n narrow short small p = let h : ◌≡◌ {A = ℕ} 0 1 = cc in absurd (omega arith)
 
-pub inside-says : (f g : Operation) (flag n : ℕ) → flag ≤ 1 → numbered (product_of f g) flag ≡ answer.Inside n
-    → (product_of f g ≡ Inside (said_by n)) × (flag_of n ≡ flag)
+pub inside-says : (f g : Operation) (flag n : ℕ) → flag ≤ 1 → numbered (product_of f g) flag ≡ Some n
+    → (product_of f g ≡ Some (said_by n)) × (flag_of n ≡ flag)
 unfolding product_of
 inside-says f g flag n small p =
     let m = compose (motion_of f) (motion_of g) in

@@ -1,14 +1,10 @@
 -- An operation as one number: the fields, what any number says, the number of an operation, and the answer of a product.
-use Rattle.std.specs.Prelude.{◌≡◌, refl, ℕ, ◌+◌, ◌*◌, ◌/◌, ◌%◌}
+use Rattle.std.specs.Prelude.{◌≡◌, refl, ℕ, ◌+◌, ◌*◌, ◌/◌, ◌%◌, None, Option, Some}
 use Rattle.std.proofs.Common.{arith}
 use Rattle.operation.specs.Lanes.{lanes_of}
 use Rattle.operation.specs.declared.Rotation.{Rotation}
 use Rattle.operation.specs.declared.Translation.{Translation}
 use Rattle.operation.specs.declared.Operation.{Operation}
-use Rattle.operation.specs.declared.product.Product.{Product}
-use Rattle.operation.specs.declared.product.Product.TheVariants.{Inside, Outside}
-use Rattle.packed_operation.specs.declared.Numbered.{Numbered}
-use Rattle.packed_operation.specs.declared.Numbered.TheVariants as answer
 
 -- A row in its lane: digits of two bits at 1, 32 and 1024, four bits of twelfths at 32768.
 abbrev pub row_of : ℕ → ℕ → ℕ → ℕ
@@ -89,9 +85,9 @@ narrowed o =
     }
 
 -- A product's answer as a number with a flag.
-unfoldable pub numbered : Product → ℕ → Numbered
-numbered (Inside o) flag = answer.Inside (packed_of o flag)
-numbered Outside flag = answer.Outside
+unfoldable pub numbered : Option Operation → ℕ → Option ℕ
+numbered (Some o) flag = Some (packed_of o flag)
+numbered None flag = None
 
 -- Digits can be found by the row first or by the place in the row first.
 pub said-second : (n : ℕ) → row_digits (n / 2097152) ≡ row_of (rotation_said n).yx (rotation_said n).yy (rotation_said n).yz

@@ -1,5 +1,5 @@
 -- The product of what two numbers say: when the two tests of the nine fields pass, and that the answer is then the number of the product.
-use Rattle.std.specs.Prelude.{◌≡◌, Bool, true, false, cond, ℕ, ◌+◌, ◌*◌, ◌≤◌, ℤ}
+use Rattle.std.specs.Prelude.{◌≡◌, Bool, true, false, cond, ℕ, ◌+◌, ◌*◌, ◌≤◌, ℤ, None, Some}
 use Rattle.std.proofs.Math.Path.{refl, sym, ap}
 use Rattle.std.proofs.Common.{◌∙◌, arith}
 use Rattle.std.proofs.lemmas.Bool.{false≢true}
@@ -12,11 +12,9 @@ use Rattle.operation.specs.Meaning.{entry_of, digit_of, matrix_of, vector_of, mo
 use Rattle.operation.specs.Product.{product_of, operation_of}
 use Rattle.operation.specs.declared.Rotation.{Rotation}
 use Rattle.operation.specs.declared.Operation.{Operation}
-use Rattle.operation.specs.declared.product.Product.TheVariants.{Inside, Outside}
 use Rattle.packed_operation.specs.Number.{row_of, key_of, packed_of, numbered}
 use Rattle.packed_operation.specs.Rows.{field, row_times, raised_rows, eights_of, Field, the_field, Narrow}
 use Rattle.packed_operation.specs.Fields.{key-fields, eights-apart, eights-together, fields-small, fields-small-next, row-stands, row-digits}
-use Rattle.packed_operation.specs.declared.Numbered.TheVariants as answer
 
 -- ---- the nine entries
 module _ (r s : Rotation) (left : Narrow r) (right : Narrow s) where
@@ -143,30 +141,30 @@ moved_lanes f g =
     lanes_of (residue v.x) (residue v.y) (residue v.z)
 
 -- What comes of a choice that is settled.
-settled : (b : Bool) (o : Operation) (flag : ℕ) → b ≡ true → numbered (cond b (Inside o) Outside) flag ≡ answer.Inside (packed_of o flag)
+settled : (b : Bool) (o : Operation) (flag : ℕ) → b ≡ true → numbered (cond b (Some o) None) flag ≡ Some (packed_of o flag)
 unfolding numbered
 settled true o flag h = refl
 settled false o flag h = absurd (false≢true h)
 
-refused : (b : Bool) (o : Operation) (flag : ℕ) → (b ≡ true → ⊥) → numbered (cond b (Inside o) Outside) flag ≡ answer.Outside
+refused : (b : Bool) (o : Operation) (flag : ℕ) → (b ≡ true → ⊥) → numbered (cond b (Some o) None) flag ≡ None
 unfolding numbered
 refused true o flag h = absurd (h refl)
 refused false o flag h = refl
 
 module _ (f g : Operation) (flag : ℕ) (left : Narrow f.rotation) (right : Narrow g.rotation) where
-  pub product-outside : (eights_of (raised_rows f.rotation g.rotation) ≡ 37189899031421192 → ⊥) → answer.Outside ≡ numbered (product_of f g) flag
+  pub product-outside : (eights_of (raised_rows f.rotation g.rotation) ≡ 37189899031421192 → ⊥) → None ≡ numbered (product_of f g) flag
   unfolding product_of product motion_of
   product-outside off = sym (refused _ _ flag (λ h. off (passes f.rotation g.rotation left right h)))
 
   pub product-outside-next : (eights_of (raised_rows f.rotation g.rotation + 4648737378927649) ≡ 37189899031421192 → ⊥)
-      → answer.Outside ≡ numbered (product_of f g) flag
+      → None ≡ numbered (product_of f g) flag
   unfolding product_of product motion_of
   product-outside-next off = sym (refused _ _ flag (λ h. off (passes-next f.rotation g.rotation left right h)))
 
   pub product_inside : eights_of (raised_rows f.rotation g.rotation) ≡ 37189899031421192
       → eights_of (raised_rows f.rotation g.rotation + 4648737378927649) ≡ 37189899031421192
-      → answer.Inside (key_of (raised_rows f.rotation g.rotation) + moved_lanes f g * 32768 + flag * 9223372036854775808) ≡ numbered (product_of f g) flag
+      → Some (key_of (raised_rows f.rotation g.rotation) + moved_lanes f g * 32768 + flag * 9223372036854775808) ≡ numbered (product_of f g) flag
   unfolding product_of product motion_of operation_of moved_lanes times matrix_of
   product_inside h k =
       let (inside, key) = passed f.rotation g.rotation left right h k in
-      ap (λ n. answer.Inside (n + moved_lanes f g * 32768 + flag * 9223372036854775808)) key ∙ sym (settled _ _ flag inside)
+      ap (λ n. Some (n + moved_lanes f g * 32768 + flag * 9223372036854775808)) key ∙ sym (settled _ _ flag inside)

@@ -1,39 +1,25 @@
 // An operation as one number of 64 bits, and the product of two numbers. A row of the rotation and its coordinate stand in a lane of 21 bits: three digits of
-// two
-// bits, five bits apart, then four bits of twelfths; the highest bit is a flag. Fields are narrow, so no sum leaves its lane, and nothing is required of a
-// number.
+// two bits, five bits apart, then four bits of twelfths; the highest bit is a flag. Fields are narrow, so no sum leaves its lane, and nothing is required of
+// a number.
 #![tactic(auto)]
 
 ghost use Rattle.std.specs.Prelude.{◌≡◌, ◌+◌, ◌*◌, ◌/◌, ◌%◌, ◌≤◌};
 ghost use Rattle.operation.specs.Lanes.{lanes_of, rows_times};
-ghost use Rattle.operation.specs.Twelves.{bytes_of};
 ghost use Rattle.packed_operation.specs.Number.{digit_lanes, twelfth_lanes, row_digits, row_of, key_of, rotation_said, said_by, flag_of, packed_of, narrowed, numbered};
 ghost use Rattle.operation.specs.Product.{product_of};
 ghost use Rattle.packed_operation.specs.Rows.{raised_rows, eights_of};
 ghost use Rattle.packed_operation.specs.Times.{moved_lanes};
 
+use operation::lanes::{EACH, SECOND, THIRD, bytes, lanes};
 use operation::{Operation, Rotation, Translation};
-
-// The number of a product, or an entry of its rotation has left −1..1.
-#[derive(Clone, Copy)]
-pub enum Numbered {
-    Inside(u64),
-    Outside,
-}
-
-// 1 in the second lane, in the third, and in each.
-const SECOND: u64 = 2097152;
-
-const THIRD: u64 = 4398046511104;
-
-const EACH: u64 = 4398048608257;
 
 // 1 in each of the nine fields of digits: 1 + 32 + 1024 in each lane.
 const ONES: u64 = 4648737378927649;
 
-const FLAG: u64 = 9223372036854775808;
+const FLAG: u64 = 1 << 63;
 
-// The digits at the start of each lane.
+// The digits at the start of each lane. `twelfths` and `operation::lanes::bytes` take more bits of each in the same way: a width as a parameter would have to
+// be asked to be small, so one function of three widths is no plainer.
 fn digits(n: u64) -> u64
     ensures { (result ≡ digit_lanes n) × (result ≤ 13194145824771) }
 {
@@ -66,22 +52,16 @@ pub fn flag(n: u64) -> u64
     n / FLAG % 2
 }
 
-fn wide(byte: u8) -> u64
-    ensures { result ≡ byte }
-{
-    byte as u64
-}
-
 fn packed_row(a: u8, b: u8, c: u8) -> u64
     ensures { (result ≡ row_of (a % 4) (b % 4) (c % 4)) × (result ≤ 3171) }
 {
-    wide(a % 4) + wide(b % 4) * 32 + wide(c % 4) * 1024
+    u64::from(a % 4) + u64::from(b % 4) * 32 + u64::from(c % 4) * 1024
 }
 
 fn packed_twelfths(t: Translation) -> u64
     ensures { (result ≡ lanes_of (t.x % 16) (t.y % 16) (t.z % 16)) × (result ≤ 65970729123855) }
 {
-    wide(t.x % 16) + wide(t.y % 16) * SECOND + wide(t.z % 16) * THIRD
+    lanes(t.x % 16, t.y % 16, t.z % 16)
 }
 
 // The number of an operation, each digit cut down to two bits and each coordinate to four, with the lowest bit of a number as its flag.
@@ -121,13 +101,6 @@ pub fn said(n: u64) -> Operation
     }
 }
 
-// Each lane's lowest byte.
-fn bytes(n: u64) -> u64
-    ensures { (result ≡ bytes_of n) × (result ≤ 1121502395105535) }
-{
-    n % 256 + n / SECOND % 256 * SECOND + n / THIRD % 256 * THIRD
-}
-
 // A column of digits, one in each lane, times a number.
 fn scaled(n: u64, a: u64) -> u64
     requires { a ≤ 3171 }
@@ -151,8 +124,7 @@ fn row_sums(f: u64) -> u64
 }
 
 // The nine sums of a product of rotations, each in its field: Σ(a−1)(x−1) + 9 is Σax + 12 less Σ(a+x). A row of the right factor is three digits in one number,
-// so
-// three multiplications make them all.
+// so three multiplications make them all.
 fn rotations(f: u64, g: u64) -> u64
     ensures { (result ≡ raised_rows (rotation_said f) (rotation_said g)) × (result ≤ 139462121367829470) }
 {
@@ -183,15 +155,12 @@ fn moved(f: u64, g: u64) -> u64
 
 // The number of the product of what two numbers say; its flag is the exclusive or of theirs. A field is 8, 9 or 10 where it and the next number both have the
 // multiple 8.
-pub fn product(f: u64, g: u64) -> Numbered
+pub fn product(f: u64, g: u64) -> Option<u64>
     ensures { result ≡ numbered (product_of (said_by f) (said_by g)) ((flag_of f + flag_of g) % 2) }
 {
     let raised = rotations(f, g);
-    if eights(raised) != 8 * ONES {
-        return Numbered::Outside;
+    if eights(raised) != 8 * ONES || eights(raised + ONES) != 8 * ONES {
+        return None;
     }
-    if eights(raised + ONES) != 8 * ONES {
-        return Numbered::Outside;
-    }
-    Numbered::Inside(key(raised) + moved(f, g) * 32768 + (flag(f) + flag(g)) % 2 * FLAG)
+    Some(key(raised) + moved(f, g) * 32768 + (flag(f) + flag(g)) % 2 * FLAG)
 }

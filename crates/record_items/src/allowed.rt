@@ -1,5 +1,5 @@
 // Which operations a record may hold (refusal 35), decided with few products: every product is listed if it is so with right factors from which all come.
-ghost use Rattle.std.specs.Prelude.{◌≡◌, ◌+◌, ◌*◌, ◌≤◌, ◌<◌, length};
+ghost use Rattle.std.specs.Prelude.{◌≡◌, ◌+◌, ◌*◌, ◌≤◌, ◌<◌, length, unwrap_or, IfSome};
 ghost use Rattle.laws.specs.Growth.{place};
 ghost use Rattle.laws.specs.Truth.{all};
 ghost use Rattle.operation.specs.Product.{product_of};
@@ -15,7 +15,7 @@ use super::items::{item_at, operation_at};
 use centering::Centering;
 use group_record::Edition;
 use operation::code::rotation_code;
-use operation::product::{Product, identity, mul};
+use operation::product::{identity, mul};
 use operation::{Operation, Translation};
 
 // Every rotation keeps the lattice, the identity is listed, and so is every product.
@@ -26,10 +26,9 @@ pub(crate) fn is_allowed(bytes: &[u8], edition: Edition, c: Centering, n: usize)
     if !all_keep(bytes, edition, c, n) {
         return false;
     }
-    let e = product_at(bytes, edition, c, n, identity(), identity());
-    if n <= e {
+    let Some(e) = product_at(bytes, edition, c, n, identity(), identity()) else {
         return false;
-    }
+    };
     every_product(bytes, edition, c, n, e)
 }
 
@@ -37,13 +36,10 @@ fn all_keep(bytes: &[u8], edition: Edition, c: Centering, n: usize) -> bool
     requires { (n ≤ 48) × (width_in edition * n ≤ length bytes.now) }
     ensures { result ≡ all (keeps_item c) (items_of edition n bytes.now) }
 {
-    let mut i = 0usize;
-    while i < n {
-        let f = operation_at(bytes, edition, i);
-        if !c.keeps(f.rotation) {
+    for i in 0..n {
+        if !c.keeps(operation_at(bytes, edition, i).rotation) {
             return false;
         }
-        i += 1;
     }
     true
 }
@@ -62,32 +58,20 @@ fn every_product(bytes: &[u8], edition: Edition, c: Centering, n: usize, e: usiz
     let mut members = [0u8; 48];
     members[0] = e as u8;
     let mut count = 1usize;
-    let mut j = 0usize;
-    while j < n {
+    for j in 0..n {
         if known[j] == 1 {
-            j += 1;
             continue;
         }
-        let slot = next_slot(stored);
+        // A right factor that was not reached at least doubles what is reached of a group, so five columns are all that 48 operations take;
+        // a sixth of something else takes the place of the fifth.
+        let slot = stored.min(4);
         if !make_column(bytes, edition, c, n, j, &mut columns, 48 * slot) {
             return false;
         }
         stored = slot + 1;
         count = widen(&mut known, &mut members, count, &columns, stored);
-        j += 1;
     }
     true
-}
-
-// A right factor that was not reached at least doubles what is reached of a group, so five columns are all that 48 operations take; a sixth of something
-// else takes the place of the fifth.
-fn next_slot(stored: usize) -> usize
-    ensures { (result ≤ stored) × (result ≤ 4) }
-{
-    if stored < 5 {
-        return stored;
-    }
-    4
 }
 
 // The indices of the products with the right factor j, from a place on; not so where one of them is not listed.
@@ -106,14 +90,11 @@ fn make_column(
         columns.old columns.new result }
 {
     let g = operation_at(bytes, edition, j);
-    let mut i = 0usize;
-    while i < n {
-        let k = product_at(bytes, edition, c, n, operation_at(bytes, edition, i), g);
-        if n <= k {
+    for i in 0..n {
+        let Some(k) = product_at(bytes, edition, c, n, operation_at(bytes, edition, i), g) else {
             return false;
-        }
+        };
         columns[at + i] = k as u8;
-        i += 1;
     }
     true
 }
@@ -131,31 +112,28 @@ fn widen(
     ensures { WidenedTo known.old members.old count columns.now stored known.new members.new result }
 {
     let mut reached = count;
-    let mut i = 0usize;
-    let mut j = 0usize;
-    while i < reached {
-        if stored <= j {
-            i += 1;
-            j = 0;
-            continue;
-        }
-        let p = members[i] as usize;
-        let q = columns[48 * j + p] as usize;
-        j += 1;
-        if known[q] == 1 {
-            continue;
-        }
-        if 48 <= reached {
+    for i in 0..48 {
+        if reached <= i {
             break;
         }
-        known[q] = 1;
-        members[reached] = q as u8;
-        reached += 1;
+        let p = members[i] as usize;
+        for j in 0..stored {
+            let q = columns[48 * j + p] as usize;
+            if known[q] == 1 {
+                continue;
+            }
+            if 48 <= reached {
+                return reached;
+            }
+            known[q] = 1;
+            members[reached] = q as u8;
+            reached += 1;
+        }
     }
     reached
 }
 
-// The index of the listed operation that is f times g modulo the lattice, or n.
+// The index of the listed operation that is f times g modulo the lattice.
 fn product_at(
     bytes: &[u8],
     edition: Edition,
@@ -163,30 +141,28 @@ fn product_at(
     n: usize,
     f: Operation,
     g: Operation,
-) -> usize
+) -> Option<usize>
     requires { (n ≤ 48) × (width_in edition * n ≤ length bytes.now) }
-    ensures { result ≡ product_at c (items_of edition n bytes.now) (product_of f g) }
+    ensures { (unwrap_or result n ≡ product_at c (items_of edition n bytes.now) (product_of f g)) × IfSome result (λ k. k < n) }
 {
-    let Product::Inside(h) = mul(f, g) else {
-        return n;
+    let Some(h) = mul(f, g) else {
+        return None;
     };
     listed_at(bytes, edition, c, n, h)
 }
 
-// The index of the first listed operation that is f modulo the lattice, or n.
-fn listed_at(bytes: &[u8], edition: Edition, c: Centering, n: usize, f: Operation) -> usize
+// The index of the first listed operation that is f modulo the lattice.
+fn listed_at(bytes: &[u8], edition: Edition, c: Centering, n: usize, f: Operation) -> Option<usize>
     requires { (n ≤ 48) × (width_in edition * n ≤ length bytes.now) }
-    ensures { result ≡ place (alike_items c) (item_of f) (items_of edition n bytes.now) }
+    ensures { (unwrap_or result n ≡ place (alike_items c) (item_of f) (items_of edition n bytes.now)) × IfSome result (λ k. k < n) }
 {
     let code = rotation_code(f.rotation);
-    let mut i = 0usize;
-    while i < n {
+    for i in 0..n {
         if alike(bytes, edition, c, i, code, f.translation) {
-            return i;
+            return Some(i);
         }
-        i += 1;
     }
-    n
+    None
 }
 
 fn alike(bytes: &[u8], edition: Edition, c: Centering, i: usize, code: u32, t: Translation) -> bool
@@ -194,8 +170,5 @@ fn alike(bytes: &[u8], edition: Edition, c: Centering, i: usize, code: u32, t: T
     ensures { result ≡ alike_items c (record { code = code; translation = t }) (item_at edition bytes.now i) }
 {
     let item = item_at(bytes, edition, i);
-    if code != item.code {
-        return false;
-    }
-    c.congruent(t, item.translation)
+    code == item.code && c.congruent(t, item.translation)
 }

@@ -33,35 +33,24 @@ pub fn items_answer(bytes: &[u8], edition: Edition, c: Centering, n: usize) -> R
 fn are_there(bytes: &[u8], edition: Edition, n: usize) -> bool
     ensures { result ≡ items_there edition n bytes.now }
 {
-    if n < 1 {
-        return false;
-    }
-    if 48 < n {
-        return false;
-    }
-    items_length(edition, n as u8) <= bytes.len()
+    1 <= n && n <= 48 && items_length(edition, n as u8) <= bytes.len()
 }
 
 fn are_items(bytes: &[u8], edition: Edition, c: Centering, n: usize) -> bool
     requires { (1 ≤ n) × (n ≤ 48) × (width_in edition * n ≤ length bytes.now) }
     ensures { result ≡ are_items c (items_of edition n bytes.now) }
 {
-    if !items_fit(bytes, edition, c, n) {
-        return false;
-    }
-    codes_ascend(bytes, edition, n)
+    items_fit(bytes, edition, c, n) && codes_ascend(bytes, edition, n)
 }
 
 fn items_fit(bytes: &[u8], edition: Edition, c: Centering, n: usize) -> bool
     requires { (n ≤ 48) × (width_in edition * n ≤ length bytes.now) }
     ensures { result ≡ all (is_item c) (items_of edition n bytes.now) }
 {
-    let mut i = 0usize;
-    while i < n {
+    for i in 0..n {
         if !is_item(item_at(bytes, edition, i), c) {
             return false;
         }
-        i += 1;
     }
     true
 }
@@ -70,14 +59,12 @@ fn codes_ascend(bytes: &[u8], edition: Edition, n: usize) -> bool
     requires { (1 ≤ n) × (n ≤ 48) × (width_in edition * n ≤ length bytes.now) }
     ensures { result ≡ ascending item_before (items_of edition n bytes.now) }
 {
-    let mut i = 0usize;
-    while i + 1 < n {
+    for i in 0..n - 1 {
         let item = item_at(bytes, edition, i);
         let next = item_at(bytes, edition, i + 1);
         if next.code <= item.code {
             return false;
         }
-        i += 1;
     }
     true
 }

@@ -1,5 +1,5 @@
 -- What is answered on two records can be packed: a report has at most 864 bytes, and refusals are 30 to 35, 60 to 65 and 20, at 0.
-use Rattle.std.specs.Prelude.{◌≡◌, Bool, true, false, cond, List, ℕ, ltb, length}
+use Rattle.std.specs.Prelude.{◌≡◌, Bool, true, false, cond, List, ℕ, ltb, length, Err, Ok, Result}
 use Rattle.std.proofs.Math.Path.{refl}
 use Rattle.std.proofs.Common.{arith}
 use Rattle.group_record.specs.Items.{Bytes}
@@ -10,19 +10,19 @@ use Rattle.record_report.specs.Compared.{compared_answer, compared_by, compared_
 use Rattle.record_report.specs.Report.{report_of}
 use Rattle.record_report.specs.Sheets.{reading_of, sheet_of}
 use Rattle.record_report.specs.Yields.{report-short}
-use Rattle.record_report.specs.declared.Compared.{Compared}
-use Rattle.record_report.specs.declared.Compared.TheVariants.{Reported, NoRoom}
 use Rattle.answer_numbers.specs.Packing.{near, packed, Within, Low, packed-once}
+use Rattle.record_report.specs.declared.Incomparable.TheVariants.{NoRoom}
+use Rattle.record_report.specs.declared.Incomparable.{Incomparable}
 
 -- An answer that can be packed.
-abbrev pub Tellable : Compared → Type 0
+abbrev pub Tellable : Result ℕ Incomparable → Type 0
 Tellable a = Within Low (compared_answer a)
 
 module _ (first second : List ℕ) (room : ℕ) (b : Bytes first) (d : Bytes second) where
   abbrev report : List ℕ
   report = report_of (sheet_of first) (sheet_of second)
 
-  fits : reading_of first ≡ Accepted → reading_of second ≡ Accepted → (t : Bool) → Tellable (cond t NoRoom (Reported (length report)))
+  fits : reading_of first ≡ Accepted → reading_of second ≡ Accepted → (t : Bool) → Tellable (cond t (Err NoRoom) (Ok (length report)))
   fits e k true = near (omega arith) (omega arith) (omega arith)
   fits e k false = let short = report-short first second (record { small = b; accepted = e }) (record { small = d; accepted = k }) in omega arith
 

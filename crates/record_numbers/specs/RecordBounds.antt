@@ -1,5 +1,5 @@
 -- What is answered for a record can be packed: it lists at most 48 operations, and its refusals are at 0.
-use Rattle.std.specs.Prelude.{◌≡◌, Bool, true, false, cond, List, ℕ, ◌≤◌, length}
+use Rattle.std.specs.Prelude.{◌≡◌, Bool, true, false, cond, List, ℕ, ◌≤◌, length, Err, Ok}
 use Rattle.std.proofs.Math.Path.{refl}
 use Rattle.std.proofs.Common.{arith}
 use Rattle.centering.specs.declared.Centering.{Centering}
@@ -10,7 +10,6 @@ use Rattle.group_record.specs.BothEditions.{edition_of}
 use Rattle.record_writing.specs.Copying.{room_by, chosen_edition, copy_answer, copied_by, written_as}
 use Rattle.group_record.specs.Reading.{refusal_number, order_by, record_order, record_letter, record_edition, read_of}
 use Rattle.record_writing.specs.RoundTrips.{read-writable}
-use Rattle.record_writing.specs.declared.Copied.TheVariants.{Written, NoRoom}
 use Rattle.group_record.specs.declared.Edition.{Edition}
 use Rattle.group_record.specs.declared.Edition.TheVariants.{First, Third}
 use Rattle.group_record.specs.declared.Reading.{Reading}
@@ -19,6 +18,7 @@ use Rattle.group_record.specs.declared.RecordGroup.{RecordGroup}
 use Rattle.group_record.specs.declared.Refusal.{Refusal}
 use Rattle.group_record.specs.declared.Refusal.TheVariants.{Short, WrongEdition, WrongLetter, WrongLength, WrongItem, NotAllowed}
 use Rattle.answer_numbers.specs.Packing.{Told, near, Within, Low}
+use Rattle.record_writing.specs.declared.Unwritten.TheVariants.{NoRoom}
 
 -- 30 to 35, at 0;
 pub record-told : (r : Refusal) → Told (refusal_number r) 0
@@ -52,7 +52,7 @@ module _ (bytes : List ℕ) (b : Bytes bytes) where
       → Within Low (copy_answer (copied_by a edition (read_of bytes).count start size))
   copy-by Accepted edition start size e = by-room (room_by edition start (read_of bytes).count size)
     where
-      by-room : (r : Bool) → Within Low (copy_answer (cond r (Written (read_of bytes).count) NoRoom))
+      by-room : (r : Bool) → Within Low (copy_answer (cond r (Ok (read_of bytes).count) (Err NoRoom)))
       by-room true = let few = record-count bytes b e in omega arith
       by-room false = room-told
   copy-by (Refused r) edition start size e = record-told r

@@ -7,7 +7,7 @@ ghost use Rattle.answer_numbers.specs.Packing.{top_byte, packed};
 use answer_numbers::refused;
 use group_record::{Reading, Refusal, letter_byte};
 use record_reading::reader::read_record;
-use record_writing::Copied;
+use record_writing::Unwritten;
 
 pub fn order(bytes: &[u8]) -> u64
     ensures { result ≡ packed (record_order (read_of bytes.now)) }
@@ -41,13 +41,13 @@ pub fn copy_record(bytes: &[u8], out: &mut [u8], start: u64) -> u64
 }
 
 // What was read and written, or why not.
-pub fn copied(answer: Copied) -> u64
+pub fn copied(answer: Result<usize, Unwritten<group_record::Refusal>>) -> u64
     ensures { result ≡ packed (copy_answer answer) }
 {
     match answer {
-        Copied::Written(n) => n as u64,
-        Copied::NoRoom => refused(20, 0),
-        Copied::Refused(why) => refused_record(why),
+        Ok(n) => n as u64,
+        Err(Unwritten::NoRoom) => refused(20, 0),
+        Err(Unwritten::Refused(why)) => refused_record(why),
     }
 }
 

@@ -1,14 +1,13 @@
 -- What the bytes before a buffer's end decide, in the order in which the reader looks at them: edition, letter, count and length.
-use Rattle.std.specs.Prelude.{◌≡◌, Bool, cond, ℕ, ◌+◌, ◌*◌, ◌-◌, ◌<◌, ◌≤◌, length, drop}
+use Rattle.std.specs.Prelude.{◌≡◌, Bool, cond, ℕ, ◌+◌, ◌*◌, ◌-◌, ◌<◌, ◌≤◌, length, drop, None, Some}
 use Rattle.std.proofs.Math.Path.{refl}
-use Rattle.std.proofs.Common.{sym, ◌∙◌, ap}
+use Rattle.std.proofs.Common.{sym, ap}
 use Rattle.std.proofs.Math.Bool.{true, false}
 use mathlib.Core.List.{List}
 use borrow.Author.Tests.{lt-ltb, le-ltb, eq-eqb, ne_eqb}
 use Rattle.centering.specs.Letters.{letter_of}
 use Rattle.centering.specs.declared.Centering.{Centering}
 use Rattle.std.proofs.Math.Option.{Option, none, some}
-use Rattle.centering.specs.declared.Letter.TheVariants.{Is, None}
 use Rattle.group_record.specs.Editions.{from_end}
 use Rattle.group_record.specs.declared.items.Item.{Item}
 use Rattle.group_record.specs.BothEditions.{width_in}
@@ -47,7 +46,7 @@ module _ (edition : Known) (b : ℕ) (bytes : List ℕ) where
   lettered-c p e = rw (ne_eqb b 112 p, eq-eqb b 99 e)
 
   module _ (p : ¬ (b ≡ 112)) (q : ¬ (b ≡ 99)) where
-    pub lettered-plain : (c : Centering) → letter_of b ≡ Is c → read_lettered edition b bytes ≡ read_counted edition (Plain c) (from_end bytes 3) bytes
+    pub lettered-plain : (c : Centering) → letter_of b ≡ Some c → read_lettered edition b bytes ≡ read_counted edition (Plain c) (from_end bytes 3) bytes
     unfolding lettered_told sign_of
     lettered-plain c e = rw (ne_eqb b 112 p, ne_eqb b 99 q, e)
 

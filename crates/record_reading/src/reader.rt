@@ -11,7 +11,7 @@ ghost use Rattle.record_items.specs.Items.{items_of};
 ghost use Rattle.record_reading.specs.Trailer.{read_counted, read_lettered};
 ghost use Rattle.record_reading.specs.Found.{nothing_found, laid_out, Stands};
 
-use centering::{Centering, Letter};
+use centering::Centering;
 use group_record::sign::Sign;
 use group_record::{Edition, Reading, RecordGroup, Refusal};
 use layer_group::is_layer;
@@ -58,25 +58,20 @@ fn lay_found(bytes: &[u8], found: Found) -> RecordGroup
 fn find(bytes: &[u8]) -> Found
     ensures { Stands bytes.now result (read_of bytes.now) }
 {
-    let size = bytes.len();
-    if size < 9 {
+    if bytes.len() < 9 {
         return nothing(Refusal::Short);
     }
-    let number = from_end(bytes, 4);
-    if number == 1 {
-        return find_lettered(bytes, Edition::First);
+    match from_end(bytes, 4) {
+        1 => find_lettered(bytes, Edition::First),
+        3 => find_lettered(bytes, Edition::Third),
+        _ => nothing(Refusal::WrongEdition),
     }
-    if number == 3 {
-        return find_lettered(bytes, Edition::Third);
-    }
-    nothing(Refusal::WrongEdition)
 }
 
 fn find_first(bytes: &[u8]) -> Found
     ensures { Stands bytes.now result (read_first_of bytes.now) }
 {
-    let size = bytes.len();
-    if size < 10 {
+    if bytes.len() < 10 {
         return nothing(Refusal::Short);
     }
     if from_end(bytes, 4) != 1 {
@@ -116,7 +111,7 @@ fn find_lettered(bytes: &[u8], edition: Edition) -> Found
     if letter == b'c' {
         return find_counted(bytes, edition, Sign::SmallC);
     }
-    let Letter::Is(c) = Centering::from_byte(letter) else {
+    let Some(c) = Centering::from_byte(letter) else {
         return nothing(Refusal::WrongLetter);
     };
     find_counted(bytes, edition, Sign::Plain(c))
@@ -154,17 +149,11 @@ fn find_counted(bytes: &[u8], edition: Edition, sign: Sign) -> Found
 fn length_fits(edition: Edition, n: usize, stated: usize, size: usize) -> bool
     ensures { result ≡ length_fits (width_in edition) 48 n stated size }
 {
-    if n < 1 {
-        return false;
-    }
-    if 48 < n {
+    if n < 1 || 48 < n {
         return false;
     }
     let total = items_length(edition, n as u8) + 5;
-    if stated != total {
-        return false;
-    }
-    total <= size
+    stated == total && total <= size
 }
 
 // Under a small letter every operation is one of a layer.
@@ -172,22 +161,17 @@ fn are_layers(bytes: &[u8], edition: Edition, small: bool, n: usize) -> bool
     requires { (n ≤ 48) × (width_in edition * n ≤ length bytes.now) }
     ensures { result ≡ layers_if small (map operation_of_item (items_of edition n bytes.now)) }
 {
-    if !small {
-        return true;
-    }
-    all_layers(bytes, edition, n)
+    !small || all_layers(bytes, edition, n)
 }
 
 fn all_layers(bytes: &[u8], edition: Edition, n: usize) -> bool
     requires { (n ≤ 48) × (width_in edition * n ≤ length bytes.now) }
     ensures { result ≡ all (λ i. is_layer (operation_of_item i)) (items_of edition n bytes.now) }
 {
-    let mut i = 0usize;
-    while i < n {
+    for i in 0..n {
         if !is_layer(operation_in(bytes, edition, i as u8)) {
             return false;
         }
-        i += 1;
     }
     true
 }
@@ -197,10 +181,8 @@ fn laid_out(bytes: &[u8], answer: Reading, edition: Edition, sign: Sign, n: usiz
     ensures { result ≡ laid_out answer edition sign n bytes.now }
 {
     let mut operations = [identity(); 48];
-    let mut i = 0usize;
-    while i < n {
+    for i in 0..n {
         operations[i] = operation_in(bytes, edition, i as u8);
-        i += 1;
     }
     RecordGroup {
         answer,

@@ -2,7 +2,7 @@
 -- report. Number, place and value determine the answer.
 use Rattle.std.proofs.Math.Path.{◌≡◌, refl, sym, ap}
 use Rattle.std.proofs.Common.{◌∙◌, arith}
-use Rattle.std.specs.Prelude.{Bool, true, false, cond, List, ◌++◌, ℕ, ◌+◌, ◌<◌, ◌≤◌, ltb, length, drop}
+use Rattle.std.specs.Prelude.{Bool, true, false, cond, List, ◌++◌, ℕ, ◌+◌, ◌<◌, ◌≤◌, ltb, length, drop, Err, Ok, Result}
 use borrow.Author.Tests.{ltb-true, ltb-false, lt-ltb, le-ltb}
 use Rattle.operation.specs.Answer.{Answer, given, refused, Nothing}
 use Rattle.group_record.specs.Acceptance.{first_meaning}
@@ -20,8 +20,8 @@ use Rattle.record_report.specs.Sheets.{reading_of, sheet_of}
 use Rattle.record_report.specs.Report.{report_of}
 use Rattle.record_report.specs.Compared.{compared_answer, compared_by, buffer_by, compared_of, buffer_of}
 use Rattle.record_report.specs.Lent.{Read}
-use Rattle.record_report.specs.declared.Compared.{Compared}
-use Rattle.record_report.specs.declared.Compared.TheVariants.{Reported, First, Second, NoRoom}
+use Rattle.record_report.specs.declared.Incomparable.TheVariants.{First, NoRoom, Second}
+use Rattle.record_report.specs.declared.Incomparable.{Incomparable}
 
 -- ---- one record
 -- By which number a record is refused here.
@@ -79,7 +79,7 @@ module _ (first second out : List ℕ) where
 
   module _ (b : Bytes first) (d : Bytes second) where
     -- The definition is one of these,
-    fits : Read first → Read second → (t : Bool) → ltb (length out) (length report) ≡ t → Outcome (compared_answer (cond t NoRoom (Reported (length report))))
+    fits : Read first → Read second → (t : Bool) → ltb (length out) (length report) ≡ t → Outcome (compared_answer (cond t (Err NoRoom) (Ok (length report))))
         (cond t out (report ++ drop (length report) out))
     fits R S true e = no_room R S (ltb-true (length out) (length report) e)
     fits R S false e = reported R S (ltb-false (length out) (length report) e)
@@ -110,17 +110,17 @@ module _ (first second out : List ℕ) where
 
 -- ---- number, place and value determine the answer
 -- An answer that is given: a refusal of a record is 30 to 35.
-abbrev pub Given : Compared → Type 0
-Given (Reported size) = Unit {0}
-Given (First r) = (30 ≤ refusal_number r) × (refusal_number r ≤ 35)
-Given (Second r) = (30 ≤ refusal_number r) × (refusal_number r ≤ 35)
-Given NoRoom = Unit {0}
+abbrev pub Given : Result ℕ Incomparable → Type 0
+Given (Ok size) = Unit {0}
+Given (Err (First r)) = (30 ≤ refusal_number r) × (refusal_number r ≤ 35)
+Given (Err (Second r)) = (30 ≤ refusal_number r) × (refusal_number r ≤ 35)
+Given (Err NoRoom) = Unit {0}
 
 pub compared-given : (first second : List ℕ) (room : ℕ) → Bytes first → Bytes second → Given (compared_of first second room)
 unfolding compared_of
 compared-given first second room b d = by (reading_of first) (reading_of second) refl refl
   where
-    fits : (t : Bool) → Given (cond t NoRoom (Reported (length (report_of (sheet_of first) (sheet_of second)))))
+    fits : (t : Bool) → Given (cond t (Err NoRoom) (Ok (length (report_of (sheet_of first) (sheet_of second)))))
     fits true = tt
     fits false = tt
 
@@ -129,23 +129,23 @@ compared-given first second room b d = by (reading_of first) (reading_of second)
     by Accepted (Refused r) e k = refused-range (refused-by second d r k)
     by Accepted Accepted e k = fits (ltb room (length (report_of (sheet_of first) (sheet_of second))))
 
-pub compared-once : (a b : Compared) → Given a → Given b → compared_answer a ≡ compared_answer b → a ≡ b
-compared-once (Reported n) (Reported m) h k e = cc
-compared-once (Reported n) (First s) h k e = let z : ◌≡◌ {A = ℕ} 0 1 = cc in absurd (omega arith)
-compared-once (Reported n) (Second s) h k e = let z : ◌≡◌ {A = ℕ} 0 1 = cc in absurd (omega arith)
-compared-once (Reported n) NoRoom h k e = let z : ◌≡◌ {A = ℕ} 0 1 = cc in absurd (omega arith)
-compared-once (First r) (Reported m) h k e = let z : ◌≡◌ {A = ℕ} 0 1 = cc in absurd (omega arith)
-compared-once (First r) (First s) h k e = let q : refusal_number r ≡ refusal_number s = cc in ap First (one-refusal r s q)
-compared-once (First r) (Second s) h k e = let q : refusal_number r ≡ refusal_number s + 30 = cc in absurd (omega arith)
-compared-once (First r) NoRoom h k e = let q : refusal_number r ≡ 20 = cc in absurd (omega arith)
-compared-once (Second r) (Reported m) h k e = let z : ◌≡◌ {A = ℕ} 0 1 = cc in absurd (omega arith)
-compared-once (Second r) (First s) h k e = let q : refusal_number r + 30 ≡ refusal_number s = cc in absurd (omega arith)
-compared-once (Second r) (Second s) h k e =
+pub compared-once : (a b : Result ℕ Incomparable) → Given a → Given b → compared_answer a ≡ compared_answer b → a ≡ b
+compared-once (Ok n) (Ok m) h k e = cc
+compared-once (Ok n) (Err (First s)) h k e = let z : ◌≡◌ {A = ℕ} 0 1 = cc in absurd (omega arith)
+compared-once (Ok n) (Err (Second s)) h k e = let z : ◌≡◌ {A = ℕ} 0 1 = cc in absurd (omega arith)
+compared-once (Ok n) (Err NoRoom) h k e = let z : ◌≡◌ {A = ℕ} 0 1 = cc in absurd (omega arith)
+compared-once (Err (First r)) (Ok m) h k e = let z : ◌≡◌ {A = ℕ} 0 1 = cc in absurd (omega arith)
+compared-once (Err (First r)) (Err (First s)) h k e = let q : refusal_number r ≡ refusal_number s = cc in ap (λ x. Err (First x)) (one-refusal r s q)
+compared-once (Err (First r)) (Err (Second s)) h k e = let q : refusal_number r ≡ refusal_number s + 30 = cc in absurd (omega arith)
+compared-once (Err (First r)) (Err NoRoom) h k e = let q : refusal_number r ≡ 20 = cc in absurd (omega arith)
+compared-once (Err (Second r)) (Ok m) h k e = let z : ◌≡◌ {A = ℕ} 0 1 = cc in absurd (omega arith)
+compared-once (Err (Second r)) (Err (First s)) h k e = let q : refusal_number r + 30 ≡ refusal_number s = cc in absurd (omega arith)
+compared-once (Err (Second r)) (Err (Second s)) h k e =
     let q : refusal_number r + 30 ≡ refusal_number s + 30 = cc in
     let p : refusal_number r ≡ refusal_number s = omega arith in
-    ap Second (one-refusal r s p)
-compared-once (Second r) NoRoom h k e = let q : refusal_number r + 30 ≡ 20 = cc in absurd (omega arith)
-compared-once NoRoom (Reported m) h k e = let z : ◌≡◌ {A = ℕ} 0 1 = cc in absurd (omega arith)
-compared-once NoRoom (First s) h k e = let q : 20 ≡ refusal_number s = cc in absurd (omega arith)
-compared-once NoRoom (Second s) h k e = let q : 20 ≡ refusal_number s + 30 = cc in absurd (omega arith)
-compared-once NoRoom NoRoom h k e = refl
+    ap (λ x. Err (Second x)) (one-refusal r s p)
+compared-once (Err (Second r)) (Err NoRoom) h k e = let q : refusal_number r + 30 ≡ 20 = cc in absurd (omega arith)
+compared-once (Err NoRoom) (Ok m) h k e = let z : ◌≡◌ {A = ℕ} 0 1 = cc in absurd (omega arith)
+compared-once (Err NoRoom) (Err (First s)) h k e = let q : 20 ≡ refusal_number s = cc in absurd (omega arith)
+compared-once (Err NoRoom) (Err (Second s)) h k e = let q : 20 ≡ refusal_number s + 30 = cc in absurd (omega arith)
+compared-once (Err NoRoom) (Err NoRoom) h k e = refl

@@ -1,6 +1,6 @@
 -- How the code goes through two records' items with a cursor in each: what the step at two cursors finds, the bytes that it writes, and that what is left of
 -- the report is this and what is left behind it.
-use Rattle.std.specs.Prelude.{◌≡◌, refl, Bool, cond, ℕ, ◌+◌, ◌*◌, ◌<◌, ◌≤◌, ltb, eqb, length, get_or}
+use Rattle.std.specs.Prelude.{◌≡◌, refl, Bool, cond, Option, Some, None, ℕ, ◌+◌, ◌*◌, ◌<◌, ◌≤◌, ltb, eqb, length, get_or}
 use Rattle.std.proofs.Common.{sym, ◌∙◌, ap, arith, add-one, get_or-drop}
 use Rattle.std.proofs.Math.Path.{ap₂}
 use Rattle.std.proofs.Math.Bool.{true, false}
@@ -16,6 +16,8 @@ use Rattle.group_record.specs.Items.{Bytes, items_in, bytes_of, items-length, it
 use Rattle.group_record.specs.FirstEdition.{item_in}
 use Rattle.group_record.specs.declared.items.Item.{Item}
 use Rattle.record_report.specs.Report.{Entry, absent, entry_bytes, of_pair, against, differences}
+use Rattle.record_report.specs.declared.cursors.Difference.{Difference}
+use Rattle.record_report.specs.declared.cursors.Difference.TheVariants.{First, Second, Both}
 
 -- ---- items in bytes
 -- The first n items, five bytes each, and the item at a place.
@@ -70,6 +72,16 @@ kind_of same f [] = 1
 kind_of same [] (j ∷ s) = 2
 kind_of same (i ∷ f) (j ∷ s) =
     cond (ltb i.code j.code) 1 (cond (ltb j.code i.code) 2 (cond (same i.translation j.translation) 0 3))
+
+-- The kind of what the code finds.
+abbrev pub number_of : Difference → ℕ
+number_of First = 1
+number_of Second = 2
+number_of Both = 3
+
+abbrev pub kind_of_difference : Option Difference → ℕ
+kind_of_difference None = 0
+kind_of_difference (Some d) = number_of d
 
 -- The entry of a kind, from the items at the heads.
 abbrev pub entry_code : ℕ → Item → Item → ℕ

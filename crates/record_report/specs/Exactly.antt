@@ -1,6 +1,6 @@
 -- What is reported of two records under one letter, said of the motions of their groups: each rotation that only one of them has, and each that both have with
 -- translations that differ by no vector of the lattice; and only one list of entries says so in the order of codes.
-use Rattle.std.specs.Prelude.{◌≡◌, refl, ◌↔◌, true, false, ℕ}
+use Rattle.std.specs.Prelude.{◌≡◌, refl, ◌↔◌, false, ℕ}
 use Rattle.std.proofs.Common.{sym, ◌∙◌, subst, true≢false}
 use Rattle.std.proofs.Math.Path.{ap}
 use mathlib.Core.List.Memᴰ.{map as mem-map}

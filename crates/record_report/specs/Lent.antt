@@ -2,7 +2,7 @@
 -- triples that are the smallest of their classes modulo one lattice are in one class exactly if they are equal.
 use Rattle.std.proofs.Math.Path.{◌≡◌, refl, sym, ap}
 use Rattle.std.proofs.Common.{◌∙◌, ap₂, subst, arith, eq-eqb, ne_eqb, length-append, length-drop, take_at}
-use Rattle.std.specs.Prelude.{◌↔◌, Bool, true, ℕ, ◌+◌, ◌*◌, ◌-◌, ◌≤◌, T, get_or, take, replicate}
+use Rattle.std.specs.Prelude.{◌↔◌, Bool, true, ℕ, ◌+◌, ◌*◌, ◌-◌, ◌≤◌, T, get_or, take, replicate, Err, Result}
 use Rattle.std.proofs.Math.Option.{some}
 use mathlib.Core.List.Memᴰ.{head as here}
 use mathlib.Core.List.Memᴰ.{tail as there}
@@ -39,8 +39,8 @@ use Rattle.record_report.specs.Report.{Entry, entry_bytes, of_pair, against, dif
 use Rattle.record_report.specs.Compared.{fitted_answer, fitted, compared_of, buffer_of}
 use Rattle.record_report.specs.Cursors.{items_of, same_translation, same_bytes}
 use Rattle.record_report.specs.Taking.{record_bytes}
-use Rattle.record_report.specs.declared.Compared.{Compared}
-use Rattle.record_report.specs.declared.Compared.TheVariants.{First, Second}
+use Rattle.record_report.specs.declared.Incomparable.TheVariants.{First, Second}
+use Rattle.record_report.specs.declared.Incomparable.{Incomparable}
 
 -- Bytes that are read as a record.
 pub record Read (bytes : List ℕ) : Type 0 where
@@ -278,16 +278,18 @@ module _ (first second : List ℕ) (R : Read first) (S : Read second) where
 
 -- ---- what is answered
 module _ (first second out : List ℕ) where
-  pub first-refused : (r : Refusal) → reading_of first ≡ Refused r → (First r ≡ compared_of first second (length out)) × (out ≡ buffer_of first second out)
+  pub first-refused : (r : Refusal) → reading_of first ≡ Refused r
+      → (Err (First r) ≡ compared_of first second (length out)) × (out ≡ buffer_of first second out)
   unfolding compared_of buffer_of
   first-refused r e = rw e (refl, refl)
 
   module _ (a : reading_of first ≡ Accepted) where
-    pub second-refused : (r : Refusal) → reading_of second ≡ Refused r → (Second r ≡ compared_of first second (length out)) × (out ≡ buffer_of first second out)
+    pub second-refused : (r : Refusal) → reading_of second ≡ Refused r
+        → (Err (Second r) ≡ compared_of first second (length out)) × (out ≡ buffer_of first second out)
     unfolding compared_of buffer_of
     second-refused r e = rw (a, e) (refl, refl)
 
-    pub both_read : reading_of second ≡ Accepted → (answer : Compared) (after : List ℕ)
+    pub both_read : reading_of second ≡ Accepted → (answer : Result ℕ Incomparable) (after : List ℕ)
         → (answer ≡ fitted_answer (report_of (sheet_of first) (sheet_of second)) (length out))
         × (after ≡ fitted (report_of (sheet_of first) (sheet_of second)) out)
         → (answer ≡ compared_of first second (length out)) × (after ≡ buffer_of first second out)

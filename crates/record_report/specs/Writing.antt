@@ -1,5 +1,5 @@
 -- How the report comes about step by step: how long it is so far, and what the lent buffer holds; behind the last step it is the whole report.
-use Rattle.std.specs.Prelude.{◌≡◌, refl, Bool, true, false, cond, List, [], ◌∷◌, ◌++◌, ℕ, ◌+◌, ◌*◌, ◌-◌, ◌<◌, ◌≤◌, eqb, length, take, drop, set}
+use Rattle.std.specs.Prelude.{◌≡◌, refl, Bool, true, false, cond, List, [], ◌∷◌, ◌++◌, ℕ, ◌+◌, ◌*◌, ◌-◌, ◌<◌, ◌≤◌, eqb, length, take, drop, set, Err, Ok}
 use Rattle.std.proofs.Common.{sym, ◌∙◌, ap, ap₂, append_assoc, append-nil, arith, lt-ltb, le-ltb, length-append, take-append-drop, take_at, drop_at, drop-drop, length-take-le}
 use borrow.Rule.Slice.PartMut.{put_mid}
 use Rattle.laws.specs.LentParts.{put-at}
@@ -8,7 +8,7 @@ use Rattle.group_record.specs.declared.items.Item.{Item}
 use Rattle.record_report.specs.Report.{entry_bytes}
 use Rattle.record_report.specs.Compared.{fitted_answer, fitted}
 use Rattle.record_report.specs.Cursors.{items_of, item_at, same_translation, kind_of, bytes_at, same_bytes, on_unless, entry_code, triple_unless, entry_at, step, step-within, step-length, all_left, some_at, nine-bytes}
-use Rattle.record_report.specs.declared.Compared.TheVariants.{Reported, NoRoom}
+use Rattle.record_report.specs.declared.Incomparable.TheVariants.{NoRoom}
 
 -- Nine more, where there is a difference.
 abbrev pub with_entry : ℕ → ℕ → ℕ
@@ -127,6 +127,10 @@ module _ (first second : List ℕ) (n m : ℕ) where
       let end = counted-end at i j S.counted h in
       sym (take-append-drop at out) ∙ ap₂ ◌++◌ all-written (S.behind ∙ ap (λ (k : ℕ). drop k before) end)
 
+-- Where there is an entry, its nine bytes have room.
+pub entry-room : (kind : ℕ) (a b : Item) (out : List ℕ) → ¬ (kind ≡ 0) → length (bytes_at kind a b) ≤ length out → 9 ≤ length out
+entry-room kind a b out some h = omega (arith, ap length (some_at kind a b some) ∙ nine-bytes (entry_at kind a b))
+
 -- The entry that the code writes, part by part.
 pub put-found : (kind : ℕ) (a b : Item) (code : ℕ) (from to : Translation) (out after : List ℕ) → ¬ (kind ≡ 0) → code ≡ entry_code kind a b
     → from ≡ triple_unless (eqb kind 2) a → to ≡ triple_unless (eqb kind 1) b
@@ -140,12 +144,12 @@ put-found kind a b code from to out after some p q r e =
 -- ---- the answer
 -- A report that does not fit, and one that does.
 module _ (report out : List ℕ) (size : ℕ) (e : size ≡ length report) where
-  pub no_room : length out < size → (NoRoom ≡ fitted_answer report (length out)) × (out ≡ fitted report out)
+  pub no_room : length out < size → (Err NoRoom ≡ fitted_answer report (length out)) × (out ≡ fitted report out)
   no_room h = rw (lt-ltb (length out) (length report) (omega arith)) (refl, refl)
 
   pub with-room : (after : List ℕ) → size ≤ length out → after ≡ report ++ drop (length report) out
-      → (Reported size ≡ fitted_answer report (length out)) × (after ≡ fitted report out)
-  with-room after h p = rw (le-ltb (length out) (length report) (omega arith)) (ap Reported e, p)
+      → (Ok size ≡ fitted_answer report (length out)) × (after ≡ fitted report out)
+  with-room after h p = rw (le-ltb (length out) (length report) (omega arith)) (ap Ok e, p)
 
 -- ---- stores at the front
 pub put_two : (xs : List ℕ) (p q : ℕ) → 2 ≤ length xs → set (set xs 0 p) 1 q ≡ p ∷ q ∷ drop 2 xs

@@ -1,6 +1,6 @@
 // Two cursors over the items of two records, each ascending by code: what differs where they stand, and where they go from there.
-ghost use Rattle.std.specs.Prelude.{◌≡◌, cond, ◌+◌, ◌*◌, ◌≤◌, ◌<◌, eqb, length, drop};
-ghost use Rattle.record_report.specs.Cursors.{items_of, item_at, same_translation, kind_of};
+ghost use Rattle.std.specs.Prelude.{◌≡◌, ◌+◌, ◌*◌, ◌≤◌, ◌<◌, length, drop};
+ghost use Rattle.record_report.specs.Cursors.{items_of, item_at, same_translation, kind_of, kind_of_difference, on_unless};
 
 use operation::Translation;
 
@@ -24,51 +24,54 @@ pub(crate) fn item_translation(bytes: &[u8], i: usize) -> Translation
     }
 }
 
-fn same(s: Translation, t: Translation) -> bool
-    ensures { result ≡ same_translation s t }
-{
-    if s.x != t.x {
-        return false;
-    }
-    if s.y != t.y {
-        return false;
-    }
-    s.z == t.z
+// What differs where two cursors stand: an item that only the first has, or only the second, or a rotation of both with two triples.
+#[derive(Clone, Copy)]
+pub(crate) enum Difference {
+    First,
+    Second,
+    Both,
 }
 
-// 1 where the first's item is only in the first, 2 where the second's is only in the second, 3 where both have the rotation and the triples differ, and else 0.
 // Triples of a record are the smallest of their classes, so they differ where their classes do.
-pub(crate) fn kind_at(first: &[u8], i: usize, n: usize, second: &[u8], j: usize, m: usize) -> u8
+pub(crate) fn difference_at(
+    first: &[u8],
+    i: usize,
+    n: usize,
+    second: &[u8],
+    j: usize,
+    m: usize,
+) -> Option<Difference>
     requires { (i ≤ n) × (j ≤ m) × (i + j < n + m) × (5 * n + 5 ≤ length first.now) × (5 * m + 5 ≤ length second.now) }
-    ensures { result ≡ kind_of same_translation (drop i (items_of n first.now)) (drop j (items_of m second.now)) }
+    ensures { kind_of_difference result ≡ kind_of same_translation (drop i (items_of n first.now)) (drop j (items_of m second.now)) }
 {
     if m <= j {
-        return 1;
+        return Some(Difference::First);
     }
     if n <= i {
-        return 2;
+        return Some(Difference::Second);
     }
     let code = item_code(first, i);
     let other = item_code(second, j);
     if code < other {
-        return 1;
+        return Some(Difference::First);
     }
     if other < code {
-        return 2;
+        return Some(Difference::Second);
     }
-    if same(item_translation(first, i), item_translation(second, j)) {
-        return 0;
+    if item_translation(first, i) == item_translation(second, j) {
+        return None;
     }
-    3
+    Some(Difference::Both)
 }
 
 // A cursor goes on unless the difference is only in the other record.
-pub(crate) fn past(i: usize, kind: u8, stays: u8) -> usize
-    requires { i < 4096 }
-    ensures { result ≡ cond (eqb kind stays) i (i + 1) }
+pub(crate) fn past(i: usize, j: usize, difference: Option<Difference>) -> (usize, usize)
+    requires { (i < 4096) × (j < 4096) }
+    ensures { (result.0 ≡ on_unless i (kind_of_difference difference) 2) × (result.1 ≡ on_unless j (kind_of_difference difference) 1) }
 {
-    if kind == stays {
-        return i;
+    match difference {
+        Some(Difference::First) => (i + 1, j),
+        Some(Difference::Second) => (i, j + 1),
+        Some(Difference::Both) | None => (i + 1, j + 1),
     }
-    i + 1
 }

@@ -14,25 +14,24 @@ use entries::report_entries;
 use group_record::{Reading, Refusal};
 use record_reading::reader::read_first_record;
 
-// How many bytes the report has; or why the first record is not read, why the second is not, or that the report does not fit.
+// Why there is no report: the first record is not read, or the second is not, or the report does not fit.
 #[derive(Clone, Copy)]
-pub enum Compared {
-    Reported(usize),
+pub enum Incomparable {
     First(Refusal),
     Second(Refusal),
     NoRoom,
 }
 
 // The report stands from the start of out, and what is behind it stays; a refusal leaves out as it was.
-pub fn compare_records(first: &[u8], second: &[u8], out: &mut [u8]) -> Compared
+pub fn compare_records(first: &[u8], second: &[u8], out: &mut [u8]) -> Result<usize, Incomparable>
     ensures { (result ≡ compared_of first.now second.now (length out.old))
         × (out.new ≡ buffer_of first.now second.now out.old) }
 {
     if let Reading::Refused(why) = read(first) {
-        return Compared::First(why);
+        return Err(Incomparable::First(why));
     }
     if let Reading::Refused(why) = read(second) {
-        return Compared::Second(why);
+        return Err(Incomparable::Second(why));
     }
     report(first, second, out)
 }
@@ -45,7 +44,7 @@ fn read(bytes: &[u8]) -> Reading
     group.answer
 }
 
-fn report(first: &[u8], second: &[u8], out: &mut [u8]) -> Compared
+fn report(first: &[u8], second: &[u8], out: &mut [u8]) -> Result<usize, Incomparable>
     requires { Read first.now × Read second.now }
     ensures { (result ≡ fitted_answer (report_in first.now second.now) (length out.old))
         × (out.new ≡ fitted (report_in first.now second.now) out.old) }
@@ -62,14 +61,14 @@ fn report(first: &[u8], second: &[u8], out: &mut [u8]) -> Compared
     report_entries(&first[start..], n, &second[begin..], m, out)
 }
 
-fn report_letters(letter: u8, other: u8, out: &mut [u8]) -> Compared
+fn report_letters(letter: u8, other: u8, out: &mut [u8]) -> Result<usize, Incomparable>
     ensures { (result ≡ fitted_answer (letters_report letter other) (length out.old))
         × (out.new ≡ fitted (letters_report letter other) out.old) }
 {
     if out.len() < 2 {
-        return Compared::NoRoom;
+        return Err(Incomparable::NoRoom);
     }
     out[0] = letter;
     out[1] = other;
-    Compared::Reported(2)
+    Ok(2)
 }

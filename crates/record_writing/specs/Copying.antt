@@ -1,5 +1,5 @@
 -- A record from a stated place of a lent buffer, by R5.6 and refusal 20; and what was read, written there: a copy in its own edition, or moved to the other.
-use Rattle.std.specs.Prelude.{◌≡◌, Bool, true, false, cond, List, ℕ, length, take}
+use Rattle.std.specs.Prelude.{◌≡◌, Bool, true, false, cond, List, ℕ, length, take, Err, Ok, Result}
 use Rattle.std.proofs.Common.{sym, ◌∙◌}
 use Rattle.std.proofs.Math.Path.{ap}
 use Rattle.operation.specs.Answer.{Answer, given, refused, Nothing}
@@ -12,8 +12,9 @@ use Rattle.group_record.specs.declared.Edition.{Edition as Known}
 use Rattle.group_record.specs.declared.Reading.{Reading}
 use Rattle.group_record.specs.declared.Reading.TheVariants.{Accepted, Refused}
 use Rattle.group_record.specs.declared.RecordGroup.{RecordGroup}
-use Rattle.record_writing.specs.declared.Copied.{Copied}
-use Rattle.record_writing.specs.declared.Copied.TheVariants.{Written, NoRoom, Refused as NotCopied}
+use Rattle.record_writing.specs.declared.Unwritten.TheVariants.{NoRoom, Refused as NotCopied}
+use Rattle.record_writing.specs.declared.Unwritten.{Unwritten}
+use Rattle.group_record.specs.declared.Refusal.{Refusal}
 
 -- Refusal 20 is given unless there is room for a record of so many operations, by its edition;
 abbrev pub room_by : Known → ℕ → ℕ → ℕ → Bool
@@ -30,25 +31,25 @@ chosen_edition false edition = edition
 
 -- ---- the answer
 -- What a copy answers: the count, or a refusal.
-abbrev pub copy_answer : Copied → Answer ℕ Nothing
-copy_answer (Written n) = given n
-copy_answer NoRoom = refused 20 0 tt
-copy_answer (NotCopied r) = refused (refusal_number r) 0 tt
+abbrev pub copy_answer : Result ℕ (Unwritten Refusal) → Answer ℕ Nothing
+copy_answer (Ok n) = given n
+copy_answer (Err NoRoom) = refused 20 0 tt
+copy_answer (Err (NotCopied r)) = refused (refusal_number r) 0 tt
 
 -- By what was read, and by the edition that is written.
-abbrev pub copied_by : Reading → Known → ℕ → ℕ → ℕ → Copied
-copied_by Accepted edition n start size = cond (room_by edition start n size) (Written n) NoRoom
-copied_by (Refused r) edition n start size = NotCopied r
+abbrev pub copied_by : Reading → Known → ℕ → ℕ → ℕ → Result ℕ (Unwritten Refusal)
+copied_by Accepted edition n start size = cond (room_by edition start n size) (Ok n) (Err NoRoom)
+copied_by (Refused r) edition n start size = Err (NotCopied r)
 
 -- What the bytes hold, written in the edition that is chosen.
-unfoldable pub written_as : Bool → List ℕ → List ℕ → ℕ → Copied
+unfoldable pub written_as : Bool → List ℕ → List ℕ → ℕ → Result ℕ (Unwritten Refusal)
 written_as moved bytes out start = let g = read_of bytes in copied_by g.answer (chosen_edition moved g.edition) g.count start (length out)
 
 -- The copy, and the move.
-abbrev pub copied_of : List ℕ → List ℕ → ℕ → Copied
+abbrev pub copied_of : List ℕ → List ℕ → ℕ → Result ℕ (Unwritten Refusal)
 copied_of bytes out start = written_as false bytes out start
 
-abbrev pub moved_of : List ℕ → List ℕ → ℕ → Copied
+abbrev pub moved_of : List ℕ → List ℕ → ℕ → Result ℕ (Unwritten Refusal)
 moved_of bytes out start = written_as true bytes out start
 
 -- ---- the buffer

@@ -1,6 +1,6 @@
 -- A layer symbol's record is read as the layer symbol's group, with its small letter; and old software, which knows capital letters alone, answers 32.
 -- The idea: listed motions of a layer stay such in the listed form, so nothing bars the record.
-use Rattle.std.specs.Prelude.{◌≡◌, ◌↔◌, true, false, List, ◌++◌, map, ℕ, ◌+◌, ◌-◌, ◌≤◌, replicate}
+use Rattle.std.specs.Prelude.{◌≡◌, ◌↔◌, true, List, ◌++◌, map, ℕ, ◌+◌, ◌-◌, ◌≤◌, replicate}
 use Rattle.std.proofs.Math.Path.{refl, sym}
 use Rattle.std.proofs.Common.{◌∙◌, ap, ap₂, subst, inl, inr, true≢false, append_assoc, arith, length-append}
 use Rattle.std.proofs.Math.ListN.{length, take}

@@ -2,7 +2,7 @@
 -- they are equal exactly when the sets of motions are, and no layer symbol has the record of a plain one.
 use Rattle.std.proofs.Math.Path.{◌≡◌, refl}
 use Rattle.std.proofs.Common.{sym, ◌∙◌, ap, ap₂, arith}
-use Rattle.std.specs.Prelude.{◌↔◌, Bool, List, map, ℕ, ◌≤◌, length, take}
+use Rattle.std.specs.Prelude.{◌↔◌, Bool, List, map, ℕ, ◌≤◌, length, take, Err, Ok, Result}
 use Rattle.std.proofs.Math.Bool.{cond}
 use Rattle.laws.specs.Motion.{SpaceMotion}
 use Rattle.operation.specs.Answer as answer
@@ -24,7 +24,6 @@ use Rattle.layer_group.specs.Refusals.{number_of, place_of}
 use Rattle.layer_group.specs.declared.Answer.{Answer}
 use Rattle.layer_group.specs.declared.Answer.TheVariants.{Group, Refused}
 use Rattle.layer_group.specs.declared.LayerGroup.{LayerGroup}
-use Rattle.layer_group.specs.declared.LayerOrder.TheVariants.{Is, Refused as OrderRefused}
 use Rattle.layer_group.specs.declared.refusal.Refusal.{Refusal}
 use Rattle.group_record.specs.Editions.{from_end, framed-letter}
 use Rattle.group_record.specs.FirstEdition.{first_edition}
@@ -36,8 +35,8 @@ use Rattle.group_record.specs.OneRecord.{one-record-in, written-items}
 use Rattle.record_writing.specs.SymbolRecords.{text_record}
 use Rattle.record_writing.specs.AcceptedSymbols.{symbol-writable, accepted-listing, accepted-identity}
 use Rattle.record_writing.specs.SymbolSets.{InSetOf, set-of-list}
-use Rattle.record_writing.specs.declared.LayerRecord.{LayerRecord}
-use Rattle.record_writing.specs.declared.LayerRecord.TheVariants.{Written, NoRoom, Refused as NotWritten}
+use Rattle.record_writing.specs.declared.Unwritten.TheVariants.{NoRoom, Refused as NotWritten}
+use Rattle.record_writing.specs.declared.Unwritten.{Unwritten}
 
 -- The record of operations under the small letter.
 unfoldable pub small_record : Centering → List Operation → List ℕ
@@ -52,18 +51,18 @@ layer_text_record text = layer_group_record (layer_answer text)
 
 -- ---- what is answered
 -- The layer symbol's refusal goes first; then there is room, or 20.
-abbrev pub layer_written_by : Answer → ℕ → ℕ → ℕ → LayerRecord
-layer_written_by Group n start size = cond (room_for start n size) (Written n) NoRoom
-layer_written_by (Refused r) n start size = NotWritten r
+abbrev pub layer_written_by : Answer → ℕ → ℕ → ℕ → Result ℕ (Unwritten Refusal)
+layer_written_by Group n start size = cond (room_for start n size) (Ok n) (Err NoRoom)
+layer_written_by (Refused r) n start size = Err (NotWritten r)
 
-unfoldable pub layer_record_of : List ℕ → List ℕ → ℕ → LayerRecord
+unfoldable pub layer_record_of : List ℕ → List ℕ → ℕ → Result ℕ (Unwritten Refusal)
 layer_record_of text out start = layer_written_by (layer_answer text).answer (layer_answer text).count start (length out)
 
 -- Each answer in numbers: the count, or the refusal's number and place.
-abbrev pub layer_record_answer : LayerRecord → answer.Answer ℕ answer.Nothing
-layer_record_answer (Written n) = answer.given n
-layer_record_answer NoRoom = answer.refused 20 0 tt
-layer_record_answer (NotWritten r) = answer.refused (number_of r) (place_of r) tt
+abbrev pub layer_record_answer : Result ℕ (Unwritten Refusal) → answer.Answer ℕ answer.Nothing
+layer_record_answer (Ok n) = answer.given n
+layer_record_answer (Err NoRoom) = answer.refused 20 0 tt
+layer_record_answer (Err (NotWritten r)) = answer.refused (number_of r) (place_of r) tt
 
 -- What the lent buffer holds afterwards: a refusal touches nothing.
 abbrev pub layer_placed_by : Answer → List ℕ → ℕ → List ℕ → List ℕ
@@ -75,28 +74,28 @@ layer_buffer_of text out start = layer_placed_by (layer_answer text).answer out 
 
 -- ---- by what the symbol's order says
 module _ (text : List ℕ) where
-  order-given : (n : ℕ) → order_of text ≡ Is n → ((layer_answer text).answer ≡ Group) × ((layer_answer text).count ≡ n)
+  order-given : (n : ℕ) → order_of text ≡ Ok n → ((layer_answer text).answer ≡ Group) × ((layer_answer text).count ≡ n)
   unfolding order_of
   order-given n e = by (layer_answer text).answer refl e
     where
-      by : (a : Answer) → (layer_answer text).answer ≡ a → order_by a (layer_answer text).count ≡ Is n
+      by : (a : Answer) → (layer_answer text).answer ≡ a → order_by a (layer_answer text).count ≡ Ok n
           → ((layer_answer text).answer ≡ Group) × ((layer_answer text).count ≡ n)
       by Group p q = (p, cc)
       by (Refused r) p q = let z : ◌≡◌ {A = ℕ} 0 1 = cc in absurd (omega arith)
 
   -- A refused symbol is not written.
-  pub record-refused : (out : List ℕ) (start : ℕ) (r : Refusal) → order_of text ≡ OrderRefused r
-      → (NotWritten r ≡ layer_record_of text out start) × (out ≡ layer_buffer_of text out start)
+  pub record-refused : (out : List ℕ) (start : ℕ) (r : Refusal) → order_of text ≡ Err r
+      → (Err (NotWritten r) ≡ layer_record_of text out start) × (out ≡ layer_buffer_of text out start)
   unfolding order_of layer_record_of layer_buffer_of
   record-refused out start r e = by (layer_answer text).answer refl e
     where
-      by : (a : Answer) → (layer_answer text).answer ≡ a → order_by a (layer_answer text).count ≡ OrderRefused r
-          → (NotWritten r ≡ layer_written_by (layer_answer text).answer (layer_answer text).count start (length out))
+      by : (a : Answer) → (layer_answer text).answer ≡ a → order_by a (layer_answer text).count ≡ Err r
+          → (Err (NotWritten r) ≡ layer_written_by (layer_answer text).answer (layer_answer text).count start (length out))
           × (out ≡ layer_placed_by (layer_answer text).answer out start (layer_text_record text))
       by Group p q = let z : ◌≡◌ {A = ℕ} 0 1 = cc in absurd (omega arith)
-      by (Refused t) p q = let same : t ≡ r = cc in (rw p (ap NotWritten (sym same)), rw p refl)
+      by (Refused t) p q = let same : t ≡ r = cc in (rw p (ap (λ x. Err (NotWritten x)) (sym same)), rw p refl)
 
-  module _ (n : ℕ) (order : order_of text ≡ Is n) (g : SymbolGroup) (e : g ≡ symbol_answer (capitalised text)) where
+  module _ (n : ℕ) (order : order_of text ≡ Ok n) (g : SymbolGroup) (e : g ≡ symbol_answer (capitalised text)) where
     -- The list of the text with the capital letter may be written,
     pub layer-writable : (n ≤ 48) × (n ≤ length g.operations) × Listing (take n g.operations)
     layer-writable =
@@ -108,12 +107,12 @@ module _ (text : List ℕ) where
     -- and is what is written under the small letter, if there is room.
     pub record-written : (out : List ℕ) (start : ℕ) (b : Bool) → b ≡ room_for start n (length out)
         → (left : List ℕ) → left ≡ placed_in out start (record_in first_edition (small_of g.centering) g.centering (take n g.operations))
-        → (cond b (Written n) NoRoom ≡ layer_record_of text out start) × (left ≡ layer_buffer_of text out start)
+        → (cond b (Ok n) (Err NoRoom) ≡ layer_record_of text out start) × (left ≡ layer_buffer_of text out start)
     unfolding layer_record_of layer_buffer_of layer_text_record small_record
     record-written out start b room left placed =
         let (a, count) = order-given n order in
         let (_, letters, _, lists) = layer-table text a in
-        (rw (a, count) (ap (λ (x : Bool). cond x (Written n) NoRoom) room), rw (a, letters, count, lists, ← e) placed)
+        (rw (a, count) (ap (λ (x : Bool). cond x (Ok n) (Err NoRoom)) room), rw (a, letters, count, lists, ← e) placed)
 
 -- ---- what it says
 -- The set of motions of a layer text: it spells a layer symbol, and the motion is a finite product of the symbol's generators and translations by L.

@@ -1,6 +1,6 @@
 -- Records moved from one edition to the other: what is moved holds the same group, and moved twice it has the same bytes, from either side.
 -- The idea: what was read is in the listed form and allowed, so every edition's record of it reads back.
-use Rattle.std.specs.Prelude.{◌≡◌, ◌↔◌, Bool, true, false, cond, List, ◌++◌, map, ℕ, ◌+◌, ◌-◌, length, take, drop, replicate}
+use Rattle.std.specs.Prelude.{◌≡◌, ◌↔◌, Bool, true, false, cond, List, ◌++◌, map, ℕ, ◌+◌, ◌-◌, length, take, drop, replicate, Err, Ok, Result}
 use Rattle.std.proofs.Math.Path.{refl, ap}
 use Rattle.std.proofs.Common.{sym, ◌∙◌, subst, arith, take_at}
 use Rattle.std.proofs.Math.Seq.{length-take-le}
@@ -32,7 +32,6 @@ use Rattle.record_writing.specs.Copying.{room_by, chosen_edition, copy_answer, c
 use Rattle.record_writing.specs.AcceptedSymbols.{accepted-listing, accepted-allowed}
 use Rattle.record_writing.specs.SymbolSets.{InSetOf, text_record_in, record-of-list, record-of-list-in, third-records-say-sets}
 use Rattle.record_writing.specs.SymbolRecords.{text_record}
-use Rattle.record_writing.specs.declared.Copied.TheVariants.{Written, NoRoom}
 use Rattle.group_record.specs.declared.Edition.{Edition as Known}
 use Rattle.group_record.specs.declared.Edition.TheVariants.{First, Third}
 use Rattle.group_record.specs.declared.Reading.{Reading}
@@ -40,6 +39,9 @@ use Rattle.group_record.specs.declared.Reading.TheVariants.{Accepted, Refused}
 use Rattle.group_record.specs.declared.RecordGroup.{RecordGroup}
 use Rattle.group_record.specs.declared.sign.Sign.{Sign}
 use Rattle.group_record.specs.declared.sign.Sign.TheVariants.{Plain}
+use Rattle.record_writing.specs.declared.Unwritten.{Unwritten}
+use Rattle.record_writing.specs.declared.Unwritten.TheVariants.{NoRoom}
+use Rattle.group_record.specs.declared.Refusal.{Refusal}
 
 -- The operations that a reading holds.
 abbrev pub held_operations : RecordGroup → List Operation
@@ -119,7 +121,7 @@ module _ (bytes : List ℕ) (b : Bytes bytes) (accepted : (read_of bytes).answer
       record-in-length (edition_of (other_edition g.edition)) _ _ (held_operations g) ∙ ap (total_length (width_in (other_edition g.edition))) count
 
   -- Where n operations were written, the buffer up to the record's end is read as what was moved.
-  pub moved-buffer-read : (out : List ℕ) (start n : ℕ) → moved_of bytes out start ≡ Written n
+  pub moved-buffer-read : (out : List ℕ) (start n : ℕ) → moved_of bytes out start ≡ Ok n
       → read_of (take (start + total_length (width_in (other_edition (read_of bytes).edition)) n) (moved_buffer_of bytes out start))
       ≡ in_edition (other_edition (read_of bytes).edition) (read_of bytes)
   unfolding written_as buffer_as moved_bytes
@@ -128,7 +130,8 @@ module _ (bytes : List ℕ) (b : Bytes bytes) (accepted : (read_of bytes).answer
       other : Known
       other = other_edition (read_of bytes).edition
 
-      by-room : (r : Bool) → room_by other start (read_of bytes).count (length out) ≡ r → cond r (Written (read_of bytes).count) NoRoom ≡ Written n
+      by-room : (r : Bool) → room_by other start (read_of bytes).count (length out) ≡ r
+          → cond {A = Result ℕ (Unwritten Refusal)} r (Ok (read_of bytes).count) (Err NoRoom) ≡ Ok n
           → read_of (take (start + total_length (width_in other) n) (placed_in out start (group_bytes other (read_of bytes))))
           ≡ in_edition other (read_of bytes)
       by-room true room w =
@@ -137,7 +140,7 @@ module _ (bytes : List ℕ) (b : Bytes bytes) (accepted : (read_of bytes).answer
           (record-reads-in other (take start out))
       by-room false room w = let z : ◌≡◌ {A = ℕ} 0 1 = cc in absurd (omega arith)
 
-      by : (a : Reading) → a ≡ Accepted → copied_by a other (read_of bytes).count start (length out) ≡ Written n
+      by : (a : Reading) → a ≡ Accepted → copied_by a other (read_of bytes).count start (length out) ≡ Ok n
           → read_of (take (start + total_length (width_in other) n) (buffer_by a out start (group_bytes other (read_of bytes))))
           ≡ in_edition other (read_of bytes)
       by Accepted p w = by-room (room_by other start (read_of bytes).count (length out)) refl w
@@ -161,7 +164,7 @@ refused-untouched moved bytes out start number place b e = by (read_of bytes).an
         ∙ ap (total_length (width_in chosen)) (length-take-le g.count g.operations (read-writable bytes g b refl accepted).there)
 
     by-room : g.answer ≡ Accepted → (r : Bool) → room_by chosen start g.count (length out) ≡ r
-        → copy_answer (cond r (Written g.count) NoRoom) ≡ refused number place tt
+        → copy_answer (cond r (Ok g.count) (Err NoRoom)) ≡ refused number place tt
         → placed_in out start (group_bytes chosen g) ≡ out
     by-room a true room w = let z : ◌≡◌ {A = ℕ} 0 1 = cc in absurd (omega arith)
     by-room a false room w = nothing_placed out start (total_length (width_in chosen) g.count) (group_bytes chosen g) (size a) room

@@ -1,5 +1,5 @@
 -- Every accepted symbol's record is read, as the symbol's group: whatever stands before it, and as the entry left it in the lent buffer.
-use Rattle.std.specs.Prelude.{◌≡◌, ◌↔◌, Bool, true, false, cond, List, ◌++◌, map, ℕ, ◌+◌, ◌-◌, take, replicate}
+use Rattle.std.specs.Prelude.{◌≡◌, ◌↔◌, Bool, true, false, cond, List, ◌++◌, map, ℕ, ◌+◌, ◌-◌, take, replicate, Err, Ok, Result}
 use Rattle.std.proofs.Math.Path.{refl, sym, ap₂}
 use Rattle.std.proofs.Common.{◌∙◌, ap, subst, arith}
 use Rattle.std.proofs.Math.ListN.{length}
@@ -27,7 +27,9 @@ use Rattle.group_record.specs.declared.Edition.TheVariants.{First}
 use Rattle.group_record.specs.declared.Reading.TheVariants.{Accepted}
 use Rattle.group_record.specs.declared.RecordGroup.{RecordGroup}
 use Rattle.group_record.specs.declared.sign.Sign.TheVariants.{Plain}
-use Rattle.record_writing.specs.declared.SymbolRecord.TheVariants.{Written, NoRoom}
+use Rattle.record_writing.specs.declared.Unwritten.{Unwritten}
+use Rattle.record_writing.specs.declared.Unwritten.TheVariants.{NoRoom}
+use Rattle.symbol_group.specs.declared.refusal.Refusal.{Refusal}
 
 -- What was read is the symbol's group: its letter, its count, its operations in the listed form, its set of motions.
 pub record ReadsAs (text : List ℕ) (g : RecordGroup) : Type 0 where
@@ -87,7 +89,7 @@ module _ (text out : List ℕ) (start n : ℕ) where
 
   -- An accepted text is written where there is room,
   by-room : (symbol_answer text).answer ≡ Group → (b : Bool) → room_for start (symbol_answer text).count (length out) ≡ b
-      → cond b (Written (symbol_answer text).count) NoRoom ≡ Written n
+      → cond {A = Result ℕ (Unwritten Refusal)} b (Ok (symbol_answer text).count) (Err NoRoom) ≡ Ok n
       → ReadsAs text (read_of (take (start + total_length item_width n) (placed_in out start (text_record text))))
   by-room a true room e =
       let count : (symbol_answer text).count ≡ n = cc in
@@ -96,13 +98,13 @@ module _ (text out : List ℕ) (start n : ℕ) where
   by-room a false room e = let z : ◌≡◌ {A = ℕ} 0 1 = cc in absurd (omega arith)
 
   -- and a refused one nowhere.
-  by_answer : (a : Answer) → (symbol_answer text).answer ≡ a → written_by a (symbol_answer text).count start (length out) ≡ Written n
+  by_answer : (a : Answer) → (symbol_answer text).answer ≡ a → written_by a (symbol_answer text).count start (length out) ≡ Ok n
       → ReadsAs text (read_of (take (start + total_length item_width n) (placed_by a out start (text_record text))))
   by_answer Group a e = by-room a (room_for start (symbol_answer text).count (length out)) refl e
   by_answer (Refused r) a e = let z : ◌≡◌ {A = ℕ} 0 1 = cc in absurd (omega arith)
 
   -- Where n operations were written, the buffer up to the record's end is read as the symbol's group.
-  pub symbol-buffer-read : symbol_record_of text out start ≡ Written n
+  pub symbol-buffer-read : symbol_record_of text out start ≡ Ok n
       → ReadsAs text (read_of (take (start + total_length item_width n) (symbol_buffer_of text out start)))
   unfolding symbol_record_of symbol_buffer_of
   symbol-buffer-read e = by_answer (symbol_answer text).answer refl e

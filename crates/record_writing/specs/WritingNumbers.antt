@@ -1,6 +1,6 @@
 -- The refusals of what writes records, by number and place, each exactly when: 30 to 35 as for the reading, then 20 for what is copied;
 -- and for a symbol's record the symbol's own, 1 to 14, then 20. Number, place and value determine an answer.
-use Rattle.std.specs.Prelude.{◌≡◌, refl, ◌⊎◌, ◌↔◌, Bool, true, false, cond, not, List, ℕ, ◌+◌, ◌*◌, ◌<◌, ltb, length}
+use Rattle.std.specs.Prelude.{◌≡◌, refl, ◌⊎◌, ◌↔◌, Bool, true, false, cond, not, List, ℕ, ◌+◌, ◌*◌, ◌<◌, ltb, length, Err, Ok, Result}
 use Rattle.std.proofs.Common.{ap, inl, inr, arith, ltb-true, lt-ltb, le-ltb}
 use Rattle.std.proofs.Math.Decide.{dec_lt}
 use Rattle.operation.specs.Answer.{Answer, given, refused, Nothing}
@@ -14,15 +14,14 @@ use Rattle.record_writing.specs.Places.{room_from, start-beyond, too-near-end, r
 use Rattle.record_writing.specs.Copying.{chosen_edition, copy_answer, copied_by, written_as}
 use Rattle.record_writing.specs.SymbolRecords.{written_by, symbol_record_of, symbol_record_answer}
 use Rattle.group_record.specs.declared.Edition.{Edition as Known}
-use Rattle.record_writing.specs.declared.Copied.{Copied}
-use Rattle.record_writing.specs.declared.Copied.TheVariants.{Written as CopyWritten, NoRoom as CopyNoRoom, Refused as NotCopied}
 use Rattle.group_record.specs.declared.Reading.{Reading}
 use Rattle.group_record.specs.declared.Reading.TheVariants.{Accepted, Refused}
 use Rattle.group_record.specs.declared.Refusal.{Refusal}
 use Rattle.group_record.specs.declared.Refusal.TheVariants.{Short, WrongEdition, WrongLetter, WrongLength, WrongItem, NotAllowed}
-use Rattle.record_writing.specs.declared.SymbolRecord.TheVariants as symbol-record
-use Rattle.record_writing.specs.declared.SymbolRecord.TheVariants.{Written}
 use Rattle.group_record.specs.RefusalNumbers.{one-refusal}
+use Rattle.record_writing.specs.declared.Unwritten.TheVariants.{NoRoom as CopyNoRoom, Refused as NotCopied}
+use Rattle.record_writing.specs.declared.Unwritten.TheVariants as symbol-record
+use Rattle.record_writing.specs.declared.Unwritten.{Unwritten}
 
 -- ---- a record that is written
 -- 20, at 0.
@@ -81,7 +80,7 @@ unfolding written_as
 copy_told moved bytes out start = by (read_of bytes).answer (chosen_edition moved (read_of bytes).edition) (read_of bytes).count
   where
     fits : (chosen : Known) (n : ℕ) (b : Bool) → ltb (length out) (start + (width_in chosen * n + 5)) ≡ b
-        → copy_answer (cond (not b) (CopyWritten n) CopyNoRoom) ≡ cond b no_room (given n)
+        → copy_answer (cond (not b) (Ok n) (Err CopyNoRoom)) ≡ cond b no_room (given n)
     fits chosen n true e = refl
     fits chosen n false e = refl
 
@@ -97,7 +96,7 @@ unfolding symbol_record_of order_of
 symbol-record-told text out start = by (symbol_answer text).answer (symbol_answer text).count
   where
     fits : (n : ℕ) (b : Bool) → ltb (length out) (start + (5 * n + 5)) ≡ b
-        → symbol_record_answer (cond (not b) (Written n) symbol-record.NoRoom) ≡ cond b no_room (given n)
+        → symbol_record_answer (cond (not b) (Ok n) (Err symbol-record.NoRoom)) ≡ cond b no_room (given n)
     fits n true e = refl
     fits n false e = refl
 
@@ -117,13 +116,13 @@ not-twenty WrongItem e = absurd (omega arith)
 not-twenty NotAllowed e = absurd (omega arith)
 
 -- Copies that are answered alike are one.
-pub one-copy : (a b : Copied) → copy_answer a ≡ copy_answer b → a ≡ b
-one-copy (CopyWritten n) (CopyWritten m) e = cc
-one-copy (CopyWritten n) CopyNoRoom e = let z : ◌≡◌ {A = ℕ} 0 1 = cc in absurd (omega arith)
-one-copy (CopyWritten n) (NotCopied s) e = let z : ◌≡◌ {A = ℕ} 0 1 = cc in absurd (omega arith)
-one-copy CopyNoRoom (CopyWritten m) e = let z : ◌≡◌ {A = ℕ} 0 1 = cc in absurd (omega arith)
-one-copy CopyNoRoom CopyNoRoom e = refl
-one-copy CopyNoRoom (NotCopied s) e = let same : refusal_number s ≡ 20 = cc in absurd (not-twenty s same)
-one-copy (NotCopied r) (CopyWritten m) e = let z : ◌≡◌ {A = ℕ} 0 1 = cc in absurd (omega arith)
-one-copy (NotCopied r) CopyNoRoom e = let same : refusal_number r ≡ 20 = cc in absurd (not-twenty r same)
-one-copy (NotCopied r) (NotCopied s) e = let same : refusal_number r ≡ refusal_number s = cc in ap NotCopied (one-refusal r s same)
+pub one-copy : (a b : Result ℕ (Unwritten Refusal)) → copy_answer a ≡ copy_answer b → a ≡ b
+one-copy (Ok n) (Ok m) e = cc
+one-copy (Ok n) (Err CopyNoRoom) e = let z : ◌≡◌ {A = ℕ} 0 1 = cc in absurd (omega arith)
+one-copy (Ok n) (Err (NotCopied s)) e = let z : ◌≡◌ {A = ℕ} 0 1 = cc in absurd (omega arith)
+one-copy (Err CopyNoRoom) (Ok m) e = let z : ◌≡◌ {A = ℕ} 0 1 = cc in absurd (omega arith)
+one-copy (Err CopyNoRoom) (Err CopyNoRoom) e = refl
+one-copy (Err CopyNoRoom) (Err (NotCopied s)) e = let same : refusal_number s ≡ 20 = cc in absurd (not-twenty s same)
+one-copy (Err (NotCopied r)) (Ok m) e = let z : ◌≡◌ {A = ℕ} 0 1 = cc in absurd (omega arith)
+one-copy (Err (NotCopied r)) (Err CopyNoRoom) e = let same : refusal_number r ≡ 20 = cc in absurd (not-twenty r same)
+one-copy (Err (NotCopied r)) (Err (NotCopied s)) e = let same : refusal_number r ≡ refusal_number s = cc in ap (λ x. Err (NotCopied x)) (one-refusal r s same)

@@ -6,26 +6,9 @@ pub mod layer;
 pub mod symbol;
 mod writer;
 
-// What was read, written: how many operations it holds. `NoRoom` is refusal 20 at place 0.
+// Why no record is written: `NoRoom` is refusal 20 at place 0; `Refused` is the refusal of what was to be written, a symbol, a layer symbol or a record.
 #[derive(Clone, Copy)]
-pub enum Copied {
-    Written(usize),
+pub enum Unwritten<R> {
     NoRoom,
-    Refused(group_record::Refusal),
-}
-
-// A symbol's record: how many operations it holds. `NoRoom` is refusal 20 at place 0; `Refused` is the symbol's own refusal, 1 to 14.
-#[derive(Clone, Copy)]
-pub enum SymbolRecord {
-    Written(usize),
-    NoRoom,
-    Refused(symbol_group::refusal::Refusal),
-}
-
-// A layer symbol's record: how many operations it holds. `NoRoom` is refusal 20 at place 0; `Refused` is the layer symbol's own refusal, 1 to 14, 17 and 19.
-#[derive(Clone, Copy)]
-pub enum LayerRecord {
-    Written(usize),
-    NoRoom,
-    Refused(layer_group::refusal::Refusal),
+    Refused(R),
 }

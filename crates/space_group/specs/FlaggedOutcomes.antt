@@ -1,5 +1,5 @@
 -- What is answered for generators with flags, as numbers: the list that they give product by product, at most 96, or the refusals 12 to 14.
-use Rattle.std.specs.Prelude.{cond, List, [], map, ℕ, ltb, length}
+use Rattle.std.specs.Prelude.{cond, List, [], map, ℕ, ltb, length, Err, Ok, Result}
 use Rattle.group_growth.specs.Verdicts.{Verdict, listed, overgrown, torn, on_growth}
 use Rattle.group_growth.specs.Flagged.{Flagged}
 use Rattle.operation.specs.declared.Operation.{Operation}
@@ -10,8 +10,6 @@ use Rattle.space_group.specs.NumberGrowth.{unit_number, number_growth}
 use Rattle.space_group.specs.FlaggedGenerators.{flagged_number}
 use Rattle.space_group.specs.declared.refusal.Refusal.{Refusal}
 use Rattle.space_group.specs.declared.refusal.Refusal.TheVariants.{Lattice, Rotations, Translations}
-use Rattle.space_group.specs.declared.flagged.FlaggedAnswer.{FlaggedAnswer}
-use Rattle.space_group.specs.declared.flagged.FlaggedAnswer.TheVariants.{Group, Refused}
 
 -- A list, or a refusal.
 pub data ListOutcome (A : Type 0) : Type 0 where
@@ -39,9 +37,9 @@ number_outcome c gens =
     after_off (first_off c (plain_of gens)) (length gens) answer
 
 -- How many are listed,
-abbrev pub answer_by : {A : Type 0} → ListOutcome A → FlaggedAnswer
-answer_by (group l) = Group (length l)
-answer_by (refused r) = Refused r
+abbrev pub answer_by : {A : Type 0} → ListOutcome A → Result ℕ Refusal
+answer_by (group l) = Ok (length l)
+answer_by (refused r) = Err r
 
 -- and the 96 slots: the list, and behind it the identity.
 abbrev pub slots_by : ListOutcome ℕ → List ℕ

@@ -12,6 +12,7 @@ pub mod OperationGrowth
 pub mod NumberGrowth
 pub mod Hints
 pub mod NumberSlots
+pub mod Listings
 -- The answers:
 pub mod Slots
 pub mod Heads

@@ -1,6 +1,6 @@
 -- The growth of a list of operations as numbers: what the numbers say, each with its flag, grows as the operations do; and where all flags are 0, so do the
 -- operations without them.
-use Rattle.std.specs.Prelude.{◌≡◌, Bool, false, eqb, ltb, length, get_or, pos}
+use Rattle.std.specs.Prelude.{◌≡◌, Bool, false, eqb, ltb, length, get_or, pos, None, Option as Maybe, Some}
 use Rattle.std.proofs.Math.Path.{refl}
 use Rattle.std.proofs.Common.{sym, ◌∙◌, ap, arith, eqb→eq}
 use Rattle.std.proofs.Math.Bool.{true, cond}
@@ -25,15 +25,11 @@ use Rattle.operation.specs.Entries.{all-entries}
 use Rattle.operation.specs.Product.{identity_operation, operation_of, product_of}
 use Rattle.operation.specs.declared.Operation.{Operation}
 use Rattle.operation.specs.declared.Translation.{Translation}
-use Rattle.operation.specs.declared.product.Product.{Product}
-use Rattle.operation.specs.declared.product.Product.TheVariants.{Inside, Outside}
 use Rattle.packed_operation.specs.Number.{key_of, flag_of, rotation_said, translation_said, said_by, packed_of, narrowed, numbered}
 use Rattle.packed_operation.specs.Rows.{Narrow}
 use Rattle.packed_operation.specs.Moved.{Short}
 use Rattle.packed_operation.specs.RoundTrip.{number-says, flag-said, key-said, key-exactly}
 use Rattle.packed_operation.specs.Answered.{inside-says}
-use Rattle.packed_operation.specs.declared.Numbered.{Numbered}
-use Rattle.packed_operation.specs.declared.Numbered.TheVariants as answer
 use Rattle.centering.specs.Lattices.{congruent_of}
 use Rattle.centering.specs.declared.Centering.{Centering}
 use Rattle.space_group.specs.Traversal.{same_turn, same_class, inside_of, product_inside, growth}
@@ -52,9 +48,9 @@ abbrev pub same_shift : Centering → ℕ → ℕ → Bool
 same_shift c m n = congruent_of c (translation_said m) (translation_said n)
 
 -- The number of a product, where its entries are in −1..1.
-abbrev pub inside_number : Numbered → Option ℕ
-inside_number (answer.Inside n) = some n
-inside_number answer.Outside = none
+abbrev pub inside_number : Maybe ℕ → Option ℕ
+inside_number (Some n) = some n
+inside_number None = none
 
 abbrev pub number_times : ℕ → ℕ → Option ℕ
 number_times m n = inside_number (numbered (product_of (said_by m) (said_by n)) ((flag_of m + flag_of n) % 2))
@@ -128,25 +124,25 @@ flags_added (suc zero) (suc zero) h k = refl
 flags_added (suc zero) (suc (suc b)) h k = absurd (omega arith)
 flags_added (suc (suc a)) b h k = absurd (omega arith)
 
-outside-none : (flag : ℕ) → none ≡ Option.map flagged_said (inside_number (numbered Outside flag))
+outside-none : (flag : ℕ) → none ≡ Option.map flagged_said (inside_number (numbered None flag))
 unfolding numbered
 outside-none flag = refl
 
-inside-numbered : (o : Operation) (flag : ℕ) → numbered (Inside o) flag ≡ answer.Inside (packed_of o flag)
+inside-numbered : (o : Operation) (flag : ℕ) → numbered (Some o) flag ≡ Some (packed_of o flag)
 unfolding numbered
 inside-numbered o flag = refl
 
-inside-same : {f g : Operation} → Inside f ≡ Inside g → f ≡ g
+inside-same : {f g : Operation} → Some f ≡ Some g → f ≡ g
 inside-same e = cc
 
 -- The number of a product says the product.
 times-image : (x y : ℕ) → flagged_times product_inside (flagged_said x) (flagged_said y) ≡ Option.map flagged_said (number_times x y)
 times-image x y = by_answer ((flag_of x + flag_of y) % 2) refl (product_of (said_by x) (said_by y)) refl
   where
-    by_answer : (flag : ℕ) → flag ≡ (flag_of x + flag_of y) % 2 → (p : Product) → product_of (said_by x) (said_by y) ≡ p
+    by_answer : (flag : ℕ) → flag ≡ (flag_of x + flag_of y) % 2 → (p : Maybe Operation) → product_of (said_by x) (said_by y) ≡ p
         → Option.map (flagged_by (xor (eqb (flag_of x) 1) (eqb (flag_of y) 1))) (inside_of p) ≡ Option.map flagged_said (inside_number (numbered p flag))
-    by_answer flag is Outside e = outside-none flag
-    by_answer flag is (Inside o) e =
+    by_answer flag is None e = outside-none flag
+    by_answer flag is (Some o) e =
         let (said, told) = inside-says (said_by x) (said_by y) flag (packed_of o flag) (omega arith) (ap (λ p. numbered p flag) e ∙ inside-numbered o flag) in
         let z : o ≡ said_by (packed_of o flag) = inside-same (sym e ∙ said) in
         let b : xor (eqb (flag_of x) 1) (eqb (flag_of y) 1) ≡ eqb (flag_of (packed_of o flag)) 1 =
@@ -154,17 +150,17 @@ times-image x y = by_answer ((flag_of x + flag_of y) % 2) refl (product_of (said
         rw (inside-numbered o flag) (ap some (flagged≡ (flagged_by (xor (eqb (flag_of x) 1) (eqb (flag_of y) 1)) o) (flagged_said (packed_of o flag)) z b))
 
 -- It has digits 0, 1 and 2.
-inside-digits : (f g h : Operation) → product_of f g ≡ Inside h → Digits h.rotation
+inside-digits : (f g h : Operation) → product_of f g ≡ Some h → Digits h.rotation
 unfolding product_of
 inside-digits f g h e = by-test (compose (motion_of f) (motion_of g)) (all_inside (compose (motion_of f) (motion_of g)).rotation) refl e
   where
-    by-test : (m : SpaceMotion) (b : Bool) → all_inside m.rotation ≡ b → cond b (Inside (operation_of m)) Outside ≡ Inside h → Digits h.rotation
+    by-test : (m : SpaceMotion) (b : Bool) → all_inside m.rotation ≡ b → cond b (Some (operation_of m)) None ≡ Some h → Digits h.rotation
     by-test m true q r = let z : operation_of m ≡ h = cc in rw (← z) (operation-digits m ((all-entries m.rotation).0 q))
     by-test m false q r = let z : ◌≡◌ {A = ℕ} 0 1 = cc in absurd (omega arith)
 
-inside-number : (a : Numbered) (n : ℕ) → inside_number a ≡ some n → a ≡ answer.Inside n
-inside-number (answer.Inside m) n e = let z : m ≡ n = cc in ap answer.Inside z
-inside-number answer.Outside n e = let z : ◌≡◌ {A = ℕ} 0 1 = cc in absurd (omega arith)
+inside-number : (a : Maybe ℕ) (n : ℕ) → inside_number a ≡ some n → a ≡ Some n
+inside-number (Some m) n e = let z : m ≡ n = cc in ap Some z
+inside-number None n e = let z : ◌≡◌ {A = ℕ} 0 1 = cc in absurd (omega arith)
 
 times-turns : (x p y : ℕ) → Turns x → number_times x y ≡ some p → Turns p
 times-turns x p y h e =
@@ -359,7 +355,7 @@ reduced-right f g =
 
 pub reduced-times : (f g : Operation) → product_inside f g ≡ product_inside f (reduced_operation g)
 unfolding product_of product motion_of
-reduced-times f g = λ i. inside_of (cond (all_inside (times (matrix_of f.rotation) (matrix_of g.rotation))) (Inside (reduced-right f g i)) Outside)
+reduced-times f g = λ i. inside_of (cond (all_inside (times (matrix_of f.rotation) (matrix_of g.rotation))) (Some (reduced-right f g i)) None)
 
 growth-same : (c : Centering) (gens : List Operation) (other : Operation → Operation)
     → ((g : Operation) → Mem g gens → (f : Operation) → product_inside f g ≡ product_inside f (other g)) → growth c gens ≡ growth c (map other gens)

@@ -1,7 +1,9 @@
 -- What lent slots hold while a list of numbers grows in them and when it has ended, and how the ended list is laid out as operations.
-use Rattle.std.specs.Prelude.{◌≡◌, refl, Bool, true, false, ◌&&◌, List, [], ◌∷◌, ◌++◌, map, ℕ, zero, suc, ◌+◌, ◌-◌, ◌%◌, ◌≤◌, ◌<◌, eqb, length, get_or, take, drop, set, replicate}
-use Rattle.std.proofs.Common.{sym, ◌∙◌, ap, ap₂, add-one, arith, length-append, length-drop, take_at, drop-cons}
-use Rattle.std.proofs.lemmas.Bool.{false≢true}
+use Rattle.std.specs.Prelude.{◌≡◌, refl, Bool, true, false, cond, not, ◌&&◌, List, [], ◌∷◌, ◌++◌, map, ℕ, zero, suc, ◌+◌, ◌-◌, ◌*◌, ◌%◌, ◌≤◌, ◌<◌, eqb, nat_lt, length, get_or, take, drop, set, replicate, Result, Ok, Err}
+use Rattle.std.specs.List.{position, position_or_len}
+use Rattle.std.specs.Prelude as std
+use Rattle.std.proofs.Common.{sym, ◌∙◌, ap, ap₂, subst, add-one, arith, length-append, length-drop, length-set, take_at, drop-cons, lt-ltb, le-ltb}
+use Rattle.std.proofs.Math.Decide.{dec_lt}
 use Rattle.std.proofs.Math.Option.{Option, some, none}
 use Rattle.std.proofs.lemmas.List.{map-append, length-map, set_at}
 use Rattle.std.proofs.Math.ListN.{get_or-append}
@@ -16,22 +18,26 @@ use Rattle.space_group.specs.Places.{place-key}
 use Rattle.space_group.specs.Traversal.{padded}
 use Rattle.space_group.specs.Hints.{Hinted, hint-more, hint-start}
 use Rattle.space_group.specs.NumberGrowth.{sign_of, same_sign, same_shift, number_times, unit_number, number_growth}
-use Rattle.space_group.specs.declared.traverse.Ended.{Ended}
+use Rattle.space_group.specs.declared.refusal.Refusal.{Refusal}
+use Rattle.space_group.specs.declared.refusal.Refusal.TheVariants.{Rotations, Translations}
 
 -- ---- the end
 -- The list and the indices at the front of the slots, all behind them as it was.
-pub record Holds (s : Growth ℕ) (ended : Ended) (before numbers noughts steps : List ℕ) : Type 0 where
-  pub within : ended.within ≡ true
-  pub steady : ended.steady ≡ s.steady
-  pub counted : ended.count ≡ length s.found
+pub record Holds (s : Growth ℕ) (ended : Result ℕ Refusal) (before numbers noughts steps : List ℕ) : Type 0 where
+  pub counted : ended ≡ Ok (length s.found)
   pub few : length s.found ≤ length before
   pub listed : numbers ≡ s.found ++ drop (length s.found) before
   pub noted : steps ≡ s.steps ++ drop (length s.steps) noughts
 
--- How a growth ends: with the list in the slots, or that it does not end.
-abbrev pub Ends : Option (Growth ℕ) → Ended → List ℕ → List ℕ → List ℕ → List ℕ → Type 0
-Ends none ended before numbers noughts steps = ended.within ≡ false
-Ends (some s) ended before numbers noughts steps = Holds s ended before numbers noughts steps
+-- A growth whose translations agree; the refusal of one that does not end, or whose translations do not agree.
+abbrev pub of_growth : Option (Growth ℕ) → Result (Growth ℕ) Refusal
+of_growth none = Err Rotations
+of_growth (some s) = cond s.steady (Ok s) (Err Translations)
+
+-- How a growth ends: with the list in the slots, or with a refusal.
+abbrev pub Ends : Result (Growth ℕ) Refusal → Result ℕ Refusal → List ℕ → List ℕ → List ℕ → List ℕ → Type 0
+Ends (Err r) ended before numbers noughts steps = ended ≡ Err r
+Ends (Ok s) ended before numbers noughts steps = Holds s ended before numbers noughts steps
 
 -- ---- slots filled from the front
 -- One more element in the first slot behind a list.
@@ -153,44 +159,187 @@ module _ (c : Centering) (s : Growth ℕ) (count : ℕ) (steady : Bool) (made : 
           noted = one-noted k;
         }
 
-  -- At the end.
-  pub shows-end : (o : Option (Growth ℕ)) → o ≡ some s → count ≤ length before
-      → Ends o (record { within = true; steady = steady; count = count }) before numbers noughts steps
-  shows-end o e h = rw e (record {
-    within = refl;
-    steady = S.agreeing;
-    counted = S.counted;
-    few = omega (arith, S.counted);
-    listed = S.listed;
-    noted = S.noted;
-  })
+  -- At the end, where the translations agree,
+  pub shows-end : (o : Option (Growth ℕ)) → o ≡ some s → count ≤ length before → steady ≡ true
+      → Ends (of_growth o) (Ok count) before numbers noughts steps
+  shows-end o e h on =
+      let steadily : s.steady ≡ true = sym S.agreeing ∙ on in
+      rw (e, steadily) (record {
+        counted = ap Ok S.counted;
+        few = omega (arith, S.counted);
+        listed = S.listed;
+        noted = S.noted;
+      })
+
+  -- and where they do not.
+  pub shows-torn : (o : Option (Growth ℕ)) → o ≡ some s → steady ≡ false → Ends (of_growth o) (Err Translations) before numbers noughts steps
+  shows-torn o e off =
+      let torn : s.steady ≡ false = sym S.agreeing ∙ off in
+      rw (e, torn) refl
 
 -- It does not end.
-pub ends-none : (o : Option (Growth ℕ)) (steady : Bool) (count : ℕ) (before numbers noughts steps : List ℕ) → o ≡ none
-    → Ends o (record { within = false; steady = steady; count = count }) before numbers noughts steps
-ends-none o steady count before numbers noughts steps e = rw e refl
-
--- ---- the list laid out as operations
-module _ (o : Option (Growth ℕ)) (ended : Ended) (before numbers noughts steps : List ℕ) (E : Ends o ended before numbers noughts steps) where
-  -- It did not end,
-  pub ended-none : ended.within ≡ false → o ≡ none
-  ended-none w = by_answer o refl E
-    where
-      by_answer : (p : Option (Growth ℕ)) → o ≡ p → Ends p ended before numbers noughts steps → o ≡ none
-      by_answer none e h = e
-      by_answer (some s) e h = absurd (false≢true (sym w ∙ h.within))
-
-  -- or the slots hold it.
-  pub ended_some : ended.within ≡ true → (s : Growth ℕ) × (o ≡ some s) × Holds s ended before numbers noughts steps
-  ended_some w = by_answer o refl E
-    where
-      by_answer : (p : Option (Growth ℕ)) → o ≡ p → Ends p ended before numbers noughts steps
-          → (s : Growth ℕ) × (o ≡ some s) × Holds s ended before numbers noughts steps
-      by_answer none e h = absurd (false≢true (sym h ∙ w))
-      by_answer (some s) e h = (s, e, h)
+pub ends-none : (o : Option (Growth ℕ)) (before numbers noughts steps : List ℕ) → o ≡ none → Ends (of_growth o) (Err Rotations) before numbers noughts steps
+ends-none o before numbers noughts steps e = rw e refl
 
 -- The numbers in front are the list.
-pub held-front : (s : Growth ℕ) (ended : Ended) (before numbers noughts steps : List ℕ) → Holds s ended before numbers noughts steps → take ended.count numbers
-    ≡ s.found
+pub held-front : (s : Growth ℕ) (ended : Result ℕ Refusal) (before numbers noughts steps : List ℕ) → Holds s ended before numbers noughts steps
+    → take (length s.found) numbers ≡ s.found
 held-front s ended before numbers noughts steps h =
-    ap (take ended.count) h.listed ∙ take_at s.found (drop (length s.found) before) ended.count (sym h.counted)
+    ap (take (length s.found)) h.listed ∙ take_at s.found (drop (length s.found) before) (length s.found) refl
+
+-- ---- the search for a sign
+-- The index of the first number with a sign.
+abbrev pub sign_position : ℕ → List ℕ → std.Option ℕ
+sign_position sign l = position (λ n. eqb sign (sign_of n)) l
+
+sign-place : (sign : ℕ) (l : List ℕ) → place eqb sign (map sign_of l) ≡ position_or_len (λ n. eqb sign (sign_of n)) l
+unfolding place
+sign-place sign [] = refl
+sign-place sign (n ∷ l) = by-test (eqb sign (sign_of n)) (sign-place sign l)
+  where
+    by-test : (b : Bool) → place eqb sign (map sign_of l) ≡ position_or_len (λ n. eqb sign (sign_of n)) l
+        → cond b zero (suc (place eqb sign (map sign_of l))) ≡ cond (not b) (1 + position_or_len (λ n. eqb sign (sign_of n)) l) 0
+    by-test true e = refl
+    by-test false e = omega (arith, e)
+
+module _ (sign : ℕ) (l : List ℕ) where
+  -- It is found where its place is,
+  pub sign-found : (k : ℕ) → place eqb sign (map sign_of l) ≡ k → k < length l → sign_position sign l ≡ std.Some k
+  sign-found k e h = rw (← sign-place sign l, e, lt-ltb k (length l) h)
+
+  -- and not where it has none.
+  pub sign-missed : place eqb sign (map sign_of l) ≡ length l → sign_position sign l ≡ std.None
+  sign-missed e = rw (← sign-place sign l, e, le-ltb (length l) (length l) (omega arith))
+
+  -- So what is found is its place, and where nothing is it has none.
+  pub place-found : (k : ℕ) → sign_position sign l ≡ std.Some k → (place eqb sign (map sign_of l) ≡ k) × (k < length l)
+  place-found k e = elim (dec_lt (place eqb sign (map sign_of l)) (length l)) [
+    | yes h ↦
+        let both : std.Some (place eqb sign (map sign_of l)) ≡ std.Some k = sym (sign-found _ refl h) ∙ e in
+        let same : place eqb sign (map sign_of l) ≡ k = cc in
+        (same, omega arith)
+    | no h ↦
+        let absent = sign-missed (omega (arith, place-le eqb sign (map sign_of l), length-map l sign_of)) in
+        let both : ◌≡◌ {A = std.Option ℕ} std.None (std.Some k) = sym absent ∙ e in
+        absurd (cc)
+  ]
+
+  pub place-missed : sign_position sign l ≡ std.None → place eqb sign (map sign_of l) ≡ length l
+  place-missed e = elim (dec_lt (place eqb sign (map sign_of l)) (length l)) [
+    | yes h ↦
+        let both : ◌≡◌ {A = std.Option ℕ} std.None (std.Some (place eqb sign (map sign_of l))) = sym e ∙ sign-found _ refl h in
+        absurd (cc)
+    | no h ↦ omega (arith, place-le eqb sign (map sign_of l), length-map l sign_of)
+  ]
+
+-- ---- a growth under way
+-- What the slots hold, and what is left to do from number i and generator j on.
+pub record Growing (c : Centering) (gens before numbers noughts steps hints : List ℕ) (count : ℕ) (steady : Bool) (made i j : ℕ) : Type 0 where
+  pub grown : Growth ℕ
+  pub shows : Shows grown count steady made before numbers noughts steps
+  pub few : count ≤ length before
+  pub room : made ≤ 9 * i + j
+  pub left : number_growth c (length before) gens ≡ resume c (length before) gens i j grown
+  pub hinted : Hinted (map sign_of grown.found) hints
+  pub spots : length hints ≡ 151
+
+pub growing-start : (c : Centering) (gens before noughts : List ℕ) → 1 ≤ length before → get_or before 0 0 ≡ unit_number
+    → Growing c gens before before noughts noughts (set (replicate 151 0) 63 1) 1 true 0 0 0
+growing-start c gens before noughts h first = record {
+  grown = seed unit_number;
+  shows = shows-start before noughts h first;
+  few = h;
+  room = omega arith;
+  left = resume-start c (length before) gens h;
+  hinted = hints-start;
+  spots = refl;
+}
+
+module _ (c : Centering) (gens before numbers noughts steps hints : List ℕ) (count : ℕ) (steady : Bool) (made i j : ℕ)
+    (G : Growing c gens before numbers noughts steps hints count steady made i j) where
+  -- At its end.
+  pub growing-end : count ≤ i → number_growth c (length before) gens ≡ some G.grown
+  growing-end h =
+      G.left ∙ growing.resume-end same_sign (same_shift c) number_times (length before) unit_number gens G.grown i j (omega (arith, G.shows.counted))
+
+  -- The next number.
+  pub growing-over : i < count → j ≡ length gens → j ≤ 9 → Growing c gens before numbers noughts steps hints count steady made (i + 1) 0
+  growing-over h e nine = record {
+    grown = G.grown;
+    shows = G.shows;
+    few = G.few;
+    room = omega (arith, G.room);
+    left = G.left ∙ growing.resume-over same_sign (same_shift c) number_times (length before) unit_number gens G.grown i j (omega (arith, G.shows.counted)) e
+        (omega (arith, G.shows.counted, G.few));
+    hinted = G.hinted;
+    spots = G.spots;
+  }
+
+  module _ (h : i < count) (k : j < length gens) where
+    product_is : (o : Option ℕ) → number_times (get_or numbers i 0) (get_or gens j 0) ≡ o → number_times (get_or G.grown.found i unit_number) (get_or gens j 0)
+        ≡ o
+    product_is o e =
+        ap (λ n. number_times n (get_or gens j 0)) (sym (shows-at c G.grown count steady made before numbers noughts steps G.shows i 0 unit_number h)) ∙ e
+
+    -- A product outside −1..1.
+    pub growing-outside : number_times (get_or numbers i 0) (get_or gens j 0) ≡ none → number_growth c (length before) gens ≡ none
+    growing-outside e =
+        G.left ∙ growing.resume-outside same_sign (same_shift c) number_times (length before) unit_number gens G.grown i j (omega (arith, G.shows.counted)) 0 k
+        (product_is none e)
+
+    module _ (p sign : ℕ) (e : number_times (get_or numbers i 0) (get_or gens j 0) ≡ some p) (q : sign ≡ sign_of p) where
+      place_is : place eqb sign (map sign_of (take count numbers)) ≡ place same_sign p G.grown.found
+      place_is = shows-place c G.grown count steady made before numbers noughts steps G.shows p sign q
+
+      long : length (take count numbers) ≡ count
+      long = ap length (shows-front c G.grown count steady made before numbers noughts steps G.shows) ∙ sym G.shows.counted
+
+      -- One that is listed.
+      pub growing-again : (n : ℕ) → sign_position sign (take count numbers) ≡ std.Some n → made < length noughts
+          → (n < count)
+          × Growing c gens before numbers noughts (set steps made n) hints count (steady && same_shift c p (get_or numbers n 0)) (made + 1) i (j + 1)
+      growing-again n found room =
+          let (there, low) = place-found sign (take count numbers) n found in
+          let place : place same_sign p G.grown.found ≡ n = sym place_is ∙ there in
+          let shown = shows-again c G.grown count steady made before numbers noughts steps G.shows p room 0 (omega (arith, long)) in (
+            omega (arith, long),
+            record {
+              grown = recurring same_sign (same_shift c) p G.grown;
+              shows = rw (← place) shown;
+              few = G.few;
+              room = omega (arith, G.room);
+              left = G.left ∙ growing.resume-again same_sign (same_shift c) number_times (length before) unit_number gens G.grown i j
+                  (omega (arith, G.shows.counted)) 0 k p (product_is (some p) e) (omega (arith, long, G.shows.counted));
+              hinted = G.hinted;
+              spots = G.spots;
+            },
+          )
+
+      module _ (missed : sign_position sign (take count numbers) ≡ std.None) where
+        new : place same_sign p G.grown.found ≡ count
+        new = sym place_is ∙ place-missed sign (take count numbers) missed ∙ long
+
+        -- One too many.
+        pub growing-full : length before ≤ count → number_growth c (length before) gens ≡ none
+        growing-full full =
+            G.left ∙ growing.resume-full same_sign (same_shift c) number_times (length before) unit_number gens G.grown i j (omega (arith, G.shows.counted)) 0 k
+            p (product_is (some p) e) (omega (arith, new, G.shows.counted)) (omega (arith, G.shows.counted))
+
+        -- A new one.
+        pub growing-new : count < length before → made < length noughts
+            → Growing c gens before (set numbers count p) noughts (set steps made count) (set hints (sign % 151) (count + 1)) (count + 1) steady (made + 1) i
+            (j + 1)
+        growing-new free room =
+            let shown = shows-new c G.grown count steady made before numbers noughts steps G.shows p room free in
+            record {
+              grown = lengthened same_sign (same_shift c) p G.grown;
+              shows = subst (λ k. Shows (lengthened same_sign (same_shift c) p G.grown) (count + 1) steady (made + 1) before (set numbers count p) noughts
+                  (set steps made k)) new shown;
+              few = omega arith;
+              room = omega (arith, G.room);
+              left = G.left ∙ growing.resume-new same_sign (same_shift c) number_times (length before) unit_number gens G.grown i j
+                  (omega (arith, G.shows.counted)) 0 k p (product_is (some p) e) (omega (arith, new, G.shows.counted)) (omega (arith, G.shows.counted));
+              hinted = shows-hint c G.grown count steady made before numbers noughts steps G.shows hints G.hinted G.spots p sign q (omega (arith, new))
+                  (count + 1) (omega arith);
+              spots = simp length-set G.spots;
+            }

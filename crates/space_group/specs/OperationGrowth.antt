@@ -1,6 +1,6 @@
 -- The growth of operations is the digit image of the growth of motions: a rotation with entries in −1..1 and its digits determine one another, and
 -- translations modulo 12 go with products.
-use Rattle.std.specs.Prelude.{◌≡◌, Bool, true, false, cond, ◌↔◌, List, T}
+use Rattle.std.specs.Prelude.{◌≡◌, Bool, true, false, cond, ◌↔◌, List, T, None, Some}
 use Rattle.std.proofs.Math.Path.{refl}
 use Rattle.std.proofs.Common.{sym, ◌∙◌, ap, arith, eqb→eq}
 use Rattle.std.proofs.Math.Option.{some, none, map}
@@ -25,7 +25,6 @@ use Rattle.operation.specs.Entries.{Entries, all-entries, digits-entries, digits
 use Rattle.operation.specs.Product.{identity_operation, operation_of, product_of}
 use Rattle.operation.specs.Code.{code_of, code-injective}
 use Rattle.operation.specs.declared.Operation.{Operation}
-use Rattle.operation.specs.declared.product.Product.TheVariants.{Inside, Outside}
 use Rattle.centering.specs.Letters.{points_of}
 use Rattle.centering.specs.Lattices.{points, congruent_of}
 use Rattle.centering.specs.declared.Centering.{Centering}
@@ -108,7 +107,7 @@ unfolding product_of allowed is_small
 product-image c f h e =
     rw (compose-operation f (motion_of h) e, times-operation f (motion_of h) e) (by-test (all_inside (compose f (motion_of h)).rotation))
   where
-    by-test : (b : Bool) → inside_of (cond b (Inside (operation_of (compose f (motion_of h)))) Outside)
+    by-test : (b : Bool) → inside_of (cond b (Some (operation_of (compose f (motion_of h)))) None)
         ≡ map operation_of (cond b (some (compose f (motion_of h))) none)
     by-test true = refl
     by-test false = refl

@@ -1,11 +1,10 @@
 -- Lists in slots: one element more, what stands in a slot, and a generator among those that are used.
-use Rattle.std.specs.Prelude.{◌≡◌, refl, List, [], ◌∷◌, ◌++◌, ℕ, suc, ◌-◌, ◌≤◌, ◌<◌, length, get_or, take, set, replicate}
-use Rattle.std.proofs.Common.{sym, ◌∙◌, arith, length-append, get_or-take, length-take-le}
+use Rattle.std.specs.Prelude.{◌≡◌, refl, List, [], ◌∷◌, ◌++◌, ℕ, suc, ◌-◌, ◌≤◌, ◌<◌, min, length, get_or, take, set, replicate}
+use Rattle.std.proofs.Common.{sym, ◌∙◌, arith, length-append, take_all}
+use Rattle.std.proofs.Math.Decide.{dec_lt}
 use Rattle.std.proofs.lemmas.List.{length-replicate, set_at}
 use Rattle.std.proofs.Math.ListN.{get_or-append}
 use Rattle.std.proofs.Math.Seq.{append_snoc}
-use Rattle.laws.specs.Indices.{at-any}
-use Rattle.operation.specs.declared.Operation.{Operation}
 use Rattle.space_group.specs.Traversal.{padded}
 
 -- ---- slots
@@ -24,7 +23,11 @@ padded-at n e l i d h = get_or-append l (replicate (n - length l) e) d i h
 pub padded-length : {A : Type 0} (n : ℕ) (e : A) (l : List A) → length l ≤ n → length (padded n e l) ≡ n
 padded-length n e l h = simp (length-append, length-replicate) (omega arith)
 
--- A generator among those that are used.
-pub generator-at : (n : ℕ) (l : List Operation) (j : ℕ) (d e : Operation) → j < n → n ≤ length l → get_or l j d ≡ get_or (take n l) j e
-generator-at n l j d e h k =
-    sym (get_or-take n l j d h) ∙ at-any (take n l) j d e (omega (arith, length-take-le n l k))
+-- The first n of nine, or all nine where n is over 9.
+pub first-nine : {A : Type 0} (n : ℕ) (l : List A) → length l ≡ 9 → take (min n 9) l ≡ take n l
+first-nine n l e = elim (dec_lt 9 n) [
+  | yes h ↦
+      let nine : min n 9 ≡ 9 = omega arith in
+      rw nine (take_all 9 l (omega arith) ∙ sym (take_all n l (omega arith)))
+  | no h ↦ let own : min n 9 ≡ n = omega arith in rw own refl
+]

@@ -1,13 +1,11 @@
 -- The answers slot by slot, and how they come from the growth of the list.
-use Rattle.std.specs.Prelude.{◌≡◌, refl, Bool, true, false, cond, List, [], ◌∷◌, map, ℕ, zero, suc, ◌+◌, ◌≤◌, ◌<◌, length, get_or, take, drop, replicate}
-use Rattle.std.proofs.Common.{sym, ◌∙◌, ap, inl, inr, arith, drop-cons, length-take-le, take_all, lt-ltb, le-ltb}
+use Rattle.std.specs.Prelude.{◌≡◌, refl, Bool, true, false, cond, List, [], ◌∷◌, map, ℕ, zero, suc, ◌≤◌, ◌<◌, length, replicate}
+use Rattle.std.proofs.Common.{sym, ◌∙◌, ap, inl, inr, arith, lt-ltb, le-ltb}
 use Rattle.std.proofs.Math.Option.{Option, some, none}
 use mathlib.Core.List.Memᴰ.{cases_cons}
 use mathlib.Core.List.Memᴰ.{not-nil}
-use Rattle.std.proofs.Math.Numerals.{add-one}
 use Rattle.std.proofs.Math.Decide.{dec_lt}
 use Rattle.std.proofs.lemmas.List.{length-map}
-use Rattle.std.proofs.Math.Seq.{drop-length}
 use Rattle.laws.specs.Motion.{SpaceMotion, compose, identity}
 use Rattle.laws.specs.Closure.{closure}
 use Rattle.laws.specs.SameMatrix.{same_rotation}
@@ -59,15 +57,6 @@ answer_of c n (refused r) = refused_answer r
 unfoldable pub group_answer : Centering → List Operation → SpaceGroup
 group_answer c gens = answer_of c (length gens) (outcome_of c gens)
 
--- As the first n of nine,
-pub answer-few : (c : Centering) (n : ℕ) (l : List Operation) → length l ≡ 9 → n ≤ 9 → answer_of c n (outcome_of c (take n l)) ≡ group_answer c (take n l)
-unfolding group_answer
-answer-few c n l e h = ap (λ (m : ℕ). answer_of c m (outcome_of c (take n l))) (sym (length-take-le n l (omega arith)))
-
--- or as all nine.
-pub answer-all : (c : Centering) (n : ℕ) (l : List Operation) → length l ≡ 9 → 9 < n → answer_of c 9 (outcome_of c (take 9 l)) ≡ group_answer c (take n l)
-answer-all c n l e h = answer-few c 9 l e (omega arith) ∙ ap (group_answer c) (take_all 9 l (omega arith) ∙ sym (take_all n l (omega arith)))
-
 -- Where none is off, the digits of all are 0, 1 and 2.
 digits-next : (c : Centering) (f : Operation) (gens : List Operation) (b : Bool) → keeps_of c f.rotation ≡ b
     → suc (length gens) ≤ cond b (suc (first_off c gens)) zero → (length gens ≤ first_off c gens → AllDigits gens) → AllDigits (f ∷ gens)
@@ -81,23 +70,6 @@ pub none-off-digits : (c : Centering) (gens : List Operation) → length gens �
 unfolding first_off
 none-off-digits c [] h g m = absurd (not-nil m)
 none-off-digits c (f ∷ gens) h g m = digits-next c f gens (keeps_of c f.rotation) refl h (none-off-digits c gens) g m
-
--- ---- the search for a generator that is off
-module _ (c : Centering) (gens : List Operation) (i : ℕ) (h : i < length gens) where
-  -- It is here,
-  pub off-hit : keeps_of c (get_or gens i identity_operation).rotation ≡ false → first_off c (drop i gens) ≡ 0
-  unfolding first_off
-  off-hit e = rw (drop-cons gens i identity_operation, e)
-
-  -- or it is further on.
-  pub off-miss : keeps_of c (get_or gens i identity_operation).rotation ≡ true → first_off c (drop i gens) ≡ first_off c (drop (i + 1) gens) + 1
-  unfolding first_off
-  off-miss e = rw (drop-cons gens i identity_operation, e, add-one i) (sym (add-one _))
-
--- There is none.
-pub off-end : (c : Centering) (gens : List Operation) → first_off c (drop (length gens) gens) ≡ 0
-unfolding first_off
-off-end c gens = rw drop-length
 
 -- ---- from the growth to the outcome
 -- What is answered of the motions.

@@ -1,13 +1,11 @@
 -- The list of operations as R3.6 has it made: breadth first from the identity, right factor running over the generators
 -- in order, first translation reached kept, modulo 12; with the index of each product, until nothing is left to multiply.
-use Rattle.std.specs.Prelude.{Bool, List, ◌++◌, ℕ, ◌-◌, eqb, length, replicate}
+use Rattle.std.specs.Prelude.{Bool, List, ◌++◌, ℕ, ◌-◌, eqb, length, replicate, None, Option as Maybe, Some}
 use Rattle.std.proofs.Math.Option.{Option, some, none}
 use Rattle.laws.specs.Growth.{Growth, grown}
 use Rattle.operation.specs.Code.{code_of}
 use Rattle.operation.specs.Product.{identity_operation, product_of}
 use Rattle.operation.specs.declared.Operation.{Operation}
-use Rattle.operation.specs.declared.product.Product.{Product}
-use Rattle.operation.specs.declared.product.Product.TheVariants.{Inside, Outside}
 use Rattle.centering.specs.Lattices.{congruent_of}
 use Rattle.centering.specs.declared.Centering.{Centering}
 
@@ -24,9 +22,9 @@ abbrev pub same_class : Centering → Operation → Operation → Bool
 same_class c f g = congruent_of c f.translation g.translation
 
 -- A product whose entries are in −1..1.
-abbrev pub inside_of : Product → Option Operation
-inside_of (Inside h) = some h
-inside_of Outside = none
+abbrev pub inside_of : Maybe Operation → Option Operation
+inside_of (Some h) = some h
+inside_of None = none
 
 abbrev pub product_inside : Operation → Operation → Option Operation
 product_inside f g = inside_of (product_of f g)

@@ -38,9 +38,6 @@ impl SpaceGroup {
     pub fn new(centering: Centering, n: usize, generators: [Operation; 9]) -> SpaceGroup
         ensures { result ≡ group_answer centering (take n generators) }
     {
-        if 9 < n {
-            return group_of(centering, 9, generators);
-        }
-        group_of(centering, n, generators)
+        group_of(centering, &generators[..n.min(9)])
     }
 }

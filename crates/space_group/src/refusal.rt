@@ -27,8 +27,7 @@ impl Refusal {
     {
         match self {
             Refusal::Lattice(generator) => generator,
-            Refusal::Rotations => 0,
-            Refusal::Translations => 0,
+            _ => 0,
         }
     }
 }

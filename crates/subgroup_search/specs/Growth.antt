@@ -1,5 +1,5 @@
 -- What the steps of an adjunction answer, and how they keep its state.
-use Rattle.std.specs.Prelude.{◌≡◌, ◌⊎◌, true, false, ℕ, ◌+◌, ◌^◌, ◌<◌, ◌≤◌}
+use Rattle.std.specs.Prelude.{◌≡◌, ◌⊎◌, true, false, ℕ, ◌+◌, ◌^◌, ◌<◌, ◌≤◌, Option, Some, None}
 use Rattle.std.proofs.Common.{sym, ap, ◌∙◌, inl, inr, true≢false, arith}
 use Rattle.std.specs.Int.Bits.{bit_or}
 use Rattle.std.specs.Int.Count.{ones}
@@ -13,11 +13,11 @@ use Rattle.subgroup_search.specs.declared.adjoin.Growth.{Growth}
 
 module _ (n : ℕ) (◌·◌ : ℕ → ℕ → ℕ) (e h bound : ℕ) where
   -- what taking p into k answers: p was there; or the coset of p holds a new element below the bound; or the coset joins and p waits
-  pub data Taken (k waiting p : ℕ) : Growth → Type 0 where
-    seen : member k p ≡ true → Taken k waiting p (record { ok = true; set = k; waiting = waiting })
-    barred : {r : Growth} → r.ok ≡ false → (i : ℕ) → i < bound → member (coset_of n ◌·◌ e h p) i ≡ true → member h i ≡ false → Taken k waiting p r
+  pub data Taken (k waiting p : ℕ) : Option Growth → Type 0 where
+    seen : member k p ≡ true → Taken k waiting p (Some (record { set = k; waiting = waiting }))
+    barred : (i : ℕ) → i < bound → member (coset_of n ◌·◌ e h p) i ≡ true → member h i ≡ false → Taken k waiting p None
     joins : member k p ≡ false → ((i : ℕ) → i < bound → member (coset_of n ◌·◌ e h p) i ≡ true → member h i ≡ true)
-        → Taken k waiting p (record { ok = true; set = bit_or k (coset_of n ◌·◌ e h p); waiting = bit_or waiting (2 ^ p) })
+        → Taken k waiting p (Some (record { set = bit_or k (coset_of n ◌·◌ e h p); waiting = bit_or waiting (2 ^ p) }))
 
 module _ (n : ℕ) (◌·◌ : ℕ → ℕ → ℕ) (e h g bound : ℕ) where
   infixl 70 ◌·◌
@@ -29,22 +29,21 @@ module _ (n : ℕ) (◌·◌ : ℕ → ℕ → ℕ) (e h g bound : ℕ) where
     pub count : ones r.waiting + ones k ≤ ones waiting + ones r.set
 
   -- what following a representative answers
-  pub record Swept (k waiting : ℕ) (r : Growth) : Type 0 where
-    pub grown : r.ok ≡ true → Growing n ◌·◌ e h g bound r.set r.waiting (λ x. ⊥) × (ones r.waiting + ones k ≤ ones waiting + ones r.set)
-    pub barred : r.ok ≡ false → Barred n ◌·◌ e h g bound
+  abbrev pub Swept : ℕ → ℕ → Option Growth → Type 0
+  Swept k waiting (Some r) = Growing n ◌·◌ e h g bound r.set r.waiting (λ x. ⊥) × (ones r.waiting + ones k ≤ ones waiting + ones r.set)
+  Swept k waiting None = Barred n ◌·◌ e h g bound
 
-  -- what adjoining answers: the least subgroup that holds h and g, or 0 where that would hold a new element below the bound
-  pub record Adjoined (r : ℕ) : Type 0 where
-    pub none : r ≡ 0 → Barred n ◌·◌ e h g bound
-    pub extension : 0 < r → Extension n ◌·◌ e h g r × ((i : ℕ) → i < bound → member r i ≡ true → member h i ≡ true)
+  -- what adjoining answers: the least subgroup that holds h and g, or none where that would hold a new element below the bound
+  abbrev pub Adjoined : Option ℕ → Type 0
+  Adjoined (Some r) = Extension n ◌·◌ e h g r × ((i : ℕ) → i < bound → member r i ≡ true → member h i ≡ true)
+  Adjoined None = Barred n ◌·◌ e h g bound
 
   module _ (G : Group n ◌·◌ e) (H : Subgroup n ◌·◌ e h) (Current : ℕ → Type 0) (k waiting p : ℕ)
       (W : Growing n ◌·◌ e h g bound k waiting Current) (F : Forced n ◌·◌ e h g p) where
     -- taking p in keeps the state
-    pub taken-grown : {r : Growth} → Taken n ◌·◌ e h bound k waiting p r → r.ok ≡ true → Grown Current k waiting p r
-    taken-grown (seen i) q = record { state = W; held = i; over = λ x j. j; count = omega arith }
-    taken-grown (barred f i l m new) q = absurd (true≢false (sym q ∙ f))
-    taken-grown (joins new test) q = record {
+    pub taken-grown : {r : Growth} → Taken n ◌·◌ e h bound k waiting p (Some r) → Grown Current k waiting p r
+    taken-grown (seen i) = record { state = W; held = i; over = λ x j. j; count = omega arith }
+    taken-grown (joins new test) = record {
       state = growing-add n ◌·◌ e h g G H bound k waiting Current W p F test;
       held = joined-new n ◌·◌ e h g G H bound k waiting Current W p F;
       over = joined-over n ◌·◌ e h g G H bound k waiting Current W p F;
@@ -52,14 +51,12 @@ module _ (n : ℕ) (◌·◌ : ℕ → ℕ → ℕ) (e h g bound : ℕ) where
     }
 
     -- or bars the set
-    pub taken-barred : {r : Growth} → Taken n ◌·◌ e h bound k waiting p r → r.ok ≡ false → Barred n ◌·◌ e h g bound
-    taken-barred (seen i) q = absurd (true≢false q)
-    taken-barred (barred f i l m new) q = coset-barred n ◌·◌ e h g G H bound k waiting Current W p F i l m new
-    taken-barred (joins new test) q = absurd (true≢false q)
+    pub taken-barred : Taken n ◌·◌ e h bound k waiting p None → Barred n ◌·◌ e h g bound
+    taken-barred (barred i l m new) = coset-barred n ◌·◌ e h g G H bound k waiting Current W p F i l m new
 
   -- a growth that was barred says so
-  pub swept-barred : (k waiting : ℕ) {r : Growth} → r.ok ≡ false → Barred n ◌·◌ e h g bound → Swept k waiting r
-  swept-barred k waiting q B = record { grown = λ t. absurd (true≢false (sym t ∙ q)); barred = λ f. B }
+  pub swept-barred : (k waiting : ℕ) → Barred n ◌·◌ e h g bound → Swept k waiting None
+  swept-barred k waiting B = B
 
   -- the loop over the members of h that follow r: those of `left` are still to come
   pub record Sweeping (k waiting r set rest left : ℕ) : Type 0 where
@@ -90,14 +87,11 @@ module _ (n : ℕ) (◌·◌ : ℕ → ℕ → ℕ) (e h g bound : ℕ) where
 
     -- all have followed
     pub sweeping-end : Group n ◌·◌ e → Subgroup n ◌·◌ e h → (set rest left : ℕ) → left ≡ 0 → Sweeping k waiting r set rest left
-        → Swept k waiting (record { ok = true; set = set; waiting = rest })
-    sweeping-end G H set rest left none S = record {
-      grown = λ t. (
-        growing-followed n ◌·◌ e h g G H bound set rest (λ x. x ≡ r) (λ x q. rw q (record { by-new = S.by-new; by_old = old })) S.state,
-        S.count,
-      );
-      barred = λ f. absurd (true≢false f);
-    }
+        → Swept k waiting (Some (record { set = set; waiting = rest }))
+    sweeping-end G H set rest left none S = (
+      growing-followed n ◌·◌ e h g G H bound set rest (λ x. x ≡ r) (λ x q. rw q (record { by-new = S.by-new; by_old = old })) S.state,
+      S.count,
+    )
       where
         old : (s : ℕ) → member h s ≡ true → member set (r · s) ≡ true
         old s i = elim (S.by_old s i) [
@@ -129,8 +123,6 @@ module _ (n : ℕ) (◌·◌ : ℕ → ℕ → ℕ) (e h g bound : ℕ) where
   }
 
   -- the growth has ended
-  pub adjoined-end : Group n ◌·◌ e → Subgroup n ◌·◌ e h → g < n → (k waiting : ℕ) → waiting ≡ 0 → Growing n ◌·◌ e h g bound k waiting (λ x. ⊥) → Adjoined k
-  adjoined-end G H j k waiting none S = record {
-    none = λ q. absurd (true≢false (sym (S.over e H.holds-identity) ∙ ap (λ (s : ℕ). member s e) q ∙ member-empty e));
-    extension = λ p. (growing-end n ◌·◌ e h g G H bound k (rw none at S) j, S.low);
-  }
+  pub adjoined-end : Group n ◌·◌ e → Subgroup n ◌·◌ e h → g < n → (k waiting : ℕ) → waiting ≡ 0 → Growing n ◌·◌ e h g bound k waiting (λ x. ⊥)
+      → Adjoined (Some k)
+  adjoined-end G H j k waiting none S = (growing-end n ◌·◌ e h g G H bound k (rw none at S) j, S.low)

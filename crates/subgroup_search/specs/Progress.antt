@@ -9,18 +9,17 @@ use Rattle.subgroup_laws.specs.Lists.{Chosen}
 use Rattle.subgroup_laws.specs.Search.{Holding, TooMany, place-before, holding-full, holding-added, holding-present, insert-front, insert-member, insert-here}
 use Rattle.subgroup_laws.specs.Slots.{Place, insert_at}
 use Rattle.element_sets.specs.Insertion.{Inserted, present, full, added}
-use Rattle.element_sets.specs.declared.slots.Found.{Found}
-use Rattle.element_sets.specs.declared.slots.Found.TheVariants.{Count, Full as Overflow}
+use Rattle.std.specs.Prelude.{Option, Some, None}
 use Rattle.element_sets.specs.declared.slots.Insertion.TheVariants.{Present, Full, Added}
 
 module _ (n : ℕ) (◌·◌ : ℕ → ℕ → ℕ) (e : ℕ) (classes : Bool) where
   -- what a step of the search answers: sets were put in before h, and Done holds of the new list; or there are too many
-  pub data Progress (came front tail b : List ℕ) (h : ℕ) (Done : List ℕ → Type 0) : Found → Type 0 where
+  pub data Progress (came front tail b : List ℕ) (h : ℕ) (Done : List ℕ → Type 0) : Option ℕ → Type 0 where
     counted : (front' : List ℕ) {count : ℕ} → Holding n ◌·◌ e classes came b (front' ++ h ∷ tail) count
         → ((s : ℕ) → Mem s (front ++ h ∷ tail) → Mem s (front' ++ h ∷ tail)) → Done (front' ++ h ∷ tail)
-        → Progress came front tail b h Done (Count count)
+        → Progress came front tail b h Done (Some count)
     overflow : (l : List ℕ) (count : ℕ) → Holding n ◌·◌ e classes came b l count → TooMany n ◌·◌ e classes (length came / 8)
-        → Progress came front tail b h Done Overflow
+        → Progress came front tail b h Done None
 
   module _ (limit : n ≤ 48) where
     -- putting in a set that stands before h, and what Done then says
@@ -37,19 +36,19 @@ module _ (n : ℕ) (◌·◌ : ℕ → ℕ → ℕ) (e : ℕ) (classes : Bool) w
       ]
 
       -- each outcome of the insertion is progress
-      pub inserted-present : {exit : List ℕ} → Inserted b count m exit Present → Progress came front tail exit h Done (Count count)
+      pub inserted-present : {exit : List ℕ} → Inserted b count m exit Present → Progress came front tail exit h Done (Some count)
       inserted-present (present q p k s) =
           counted front (subst (λ (x : List ℕ). Holding n ◌·◌ e classes came x (front ++ h ∷ tail) count) (sym q) H) (λ z i. i) (done _
           (holding-present n ◌·◌ e classes limit came b (front ++ h ∷ tail) count H m p k s) (λ z i. i))
 
       -- no slot was free
-      pub inserted-full : {exit : List ℕ} → Inserted b count m exit Full → Progress came front tail exit h Done Overflow
+      pub inserted-full : {exit : List ℕ} → Inserted b count m exit Full → Progress came front tail exit h Done None
       inserted-full (full q none p Q apart) =
           overflow (front ++ h ∷ tail) count (subst (λ (x : List ℕ). Holding n ◌·◌ e classes came x (front ++ h ∷ tail) count)
           (sym q) H) (holding-full n ◌·◌ e classes limit came b (front ++ h ∷ tail) count H m p C Q apart same none)
 
       -- the set was put in
-      pub inserted-added : {exit : List ℕ} → Inserted b count m exit Added → Progress came front tail exit h Done (Count (count + 1))
+      pub inserted-added : {exit : List ℕ} → Inserted b count m exit Added → Progress came front tail exit h Done (Some (count + 1))
       inserted-added {exit} (added room p Q apart q) =
           let at = place-front p Q in
           let joint : insert_at p m (front ++ h ∷ tail) ≡ insert_at p m front ++ h ∷ tail = insert-front p m front (h ∷ tail) at in

@@ -29,14 +29,13 @@ use Rattle.subgroup_laws.specs.Slots.{packed, packed-left-over, bytes_of, slot_a
 use Rattle.subgroup_laws.specs.Subsets.{Subgroup, conjugate_of}
 use Rattle.element_sets.specs.Insertion.{Inserted, added}
 use Rattle.subgroup_search.specs.Progress.{Progress, counted, overflow, inserted-present, inserted-full, inserted-added}
-use Rattle.element_sets.specs.declared.slots.Found.{Found}
-use Rattle.element_sets.specs.declared.slots.Found.TheVariants.{Count, Full as Overflow}
+use Rattle.std.specs.Prelude.{Option, Some, None}
 use Rattle.element_sets.specs.declared.slots.Insertion.TheVariants.{Present, Full, Added}
 
 -- the sets that are counted have slots
-abbrev pub Room : Found → List ℕ → Type 0
-Room (Count count) b = 8 * count ≤ length b
-Room Overflow b = Unit
+abbrev pub Room : Option ℕ → List ℕ → Type 0
+Room (Some count) b = 8 * count ≤ length b
+Room None b = Unit
 
 -- a set was put in only where a slot was free
 pub inserted-room : {b : List ℕ} {count m : ℕ} {exit : List ℕ} → Inserted b count m exit Added → count < length b / 8
@@ -44,31 +43,31 @@ inserted-room (added room p Q apart q) = room
 
 module _ (n : ℕ) (◌·◌ : ℕ → ℕ → ℕ) (e : ℕ) (classes : Bool) where
   -- what the search answers: the list in the first slots and its length; or that the list is longer than the slots, which are spoilt
-  abbrev pub SearchResult : List ℕ → List ℕ → Found → Type 0
-  SearchResult b exit (Count count) = (exit ≡ written (listed n (chosen n ◌·◌ e classes)) b) × (count ≡ length (listed n (chosen n ◌·◌ e classes)))
+  abbrev pub SearchResult : List ℕ → List ℕ → Option ℕ → Type 0
+  SearchResult b exit (Some count) = (exit ≡ written (listed n (chosen n ◌·◌ e classes)) b) × (count ≡ length (listed n (chosen n ◌·◌ e classes)))
       × (8 * count ≤ length b)
-  SearchResult b exit Overflow = (length b / 8 < length (listed n (chosen n ◌·◌ e classes))) × (drop (8 * (length b / 8)) exit ≡ drop (8 * (length b / 8)) b)
+  SearchResult b exit None = (length b / 8 < length (listed n (chosen n ◌·◌ e classes))) × (drop (8 * (length b / 8)) exit ≡ drop (8 * (length b / 8)) b)
 
   -- extensions of h were put into the list, so that Done holds of it
-  pub record Extended (h : ℕ) (Done : List ℕ → Type 0) (count : ℕ) (b exit : List ℕ) (r : Found) : Type 0 where
+  pub record Extended (h : ℕ) (Done : List ℕ → Type 0) (count : ℕ) (b exit : List ℕ) (r : Option ℕ) : Type 0 where
     pub room : Room r exit
     pub progress : (came front tail : List ℕ) → Holding n ◌·◌ e classes came b (front ++ h ∷ tail) count → length came ≡ length b
         → Progress n ◌·◌ e classes came front tail exit h Done r
 
   -- the extension by g
-  abbrev pub ExtendedBy : ℕ → ℕ → ℕ → List ℕ → List ℕ → Found → Type 0
+  abbrev pub ExtendedBy : ℕ → ℕ → ℕ → List ℕ → List ℕ → Option ℕ → Type 0
   ExtendedBy h g = Extended h (λ l. Settled n ◌·◌ e classes l h g)
 
   -- the extensions by all elements that are not left
-  abbrev pub ExtendedBut : ℕ → ℕ → ℕ → List ℕ → List ℕ → Found → Type 0
+  abbrev pub ExtendedBut : ℕ → ℕ → ℕ → List ℕ → List ℕ → Option ℕ → Type 0
   ExtendedBut h left = Extended h (λ l. (j : ℕ) → j < n → (member left j ≡ true) ⊎ Settled n ◌·◌ e classes l h j)
 
   -- the extensions by all elements
-  abbrev pub ExtendedByAll : ℕ → ℕ → List ℕ → List ℕ → Found → Type 0
+  abbrev pub ExtendedByAll : ℕ → ℕ → List ℕ → List ℕ → Option ℕ → Type 0
   ExtendedByAll h = Extended h (λ l. (j : ℕ) → j < n → Settled n ◌·◌ e classes l h j)
 
   -- nothing was put in, as the extension is passed over
-  pub extended-barred : (h g count : ℕ) (b : List ℕ) → 8 * count ≤ length b → Barred n ◌·◌ e h g g → ExtendedBy h g count b b (Count count)
+  pub extended-barred : (h g count : ℕ) (b : List ℕ) → 8 * count ≤ length b → Barred n ◌·◌ e h g g → ExtendedBy h g count b b (Some count)
   extended-barred h g count b room B = record { room = room; progress = λ came front tail H same. counted front H (λ s i. i) (inr B) }
 
   module _ (G : Group n ◌·◌ e) (h g : ℕ) (S : Subgroup n ◌·◌ e h) where
@@ -94,7 +93,7 @@ module _ (n : ℕ) (◌·◌ : ℕ → ℕ → ℕ) (e : ℕ) (classes : Bool) w
 
       -- the three outcomes of the insertion
       pub extended-present : (count : ℕ) (b exit : List ℕ) → 8 * count ≤ length exit → Inserted b count m exit Present
-          → ExtendedBy h g count b exit (Count count)
+          → ExtendedBy h g count b exit (Some count)
       extended-present count b exit room I = record {
         room = room;
         progress = λ came front tail H same.
@@ -102,7 +101,7 @@ module _ (n : ℕ) (◌·◌ : ℕ → ℕ → ℕ) (e : ℕ) (classes : Bool) w
       }
 
       -- no slot was free
-      pub extended-full : (count : ℕ) (b exit : List ℕ) → Inserted b count m exit Full → ExtendedBy h g count b exit Overflow
+      pub extended-full : (count : ℕ) (b exit : List ℕ) → Inserted b count m exit Full → ExtendedBy h g count b exit None
       extended-full count b exit I = record {
         room = tt;
         progress = λ came front tail H same.
@@ -111,7 +110,7 @@ module _ (n : ℕ) (◌·◌ : ℕ → ℕ → ℕ) (e : ℕ) (classes : Bool) w
 
       -- the representative was put in
       pub extended-added : (count : ℕ) (b exit : List ℕ) → 8 * (count + 1) ≤ length exit → Inserted b count m exit Added
-          → ExtendedBy h g count b exit (Count (count + 1))
+          → ExtendedBy h g count b exit (Some (count + 1))
       extended-added count b exit room I = record {
         room = room;
         progress = λ came front tail H same.
@@ -125,7 +124,7 @@ module _ (n : ℕ) (◌·◌ : ℕ → ℕ → ℕ) (e : ℕ) (classes : Bool) w
     member_settled g i l m = inl (h, own-extension n ◌·◌ e classes G h g S i, listed-itself n ◌·◌ e classes G l h S.small m)
 
     -- no element was tried
-    pub extended-start : (count : ℕ) (b : List ℕ) → 8 * count ≤ length b → ExtendedBut h (rest_of n h) count b b (Count count)
+    pub extended-start : (count : ℕ) (b : List ℕ) → 8 * count ≤ length b → ExtendedBut h (rest_of n h) count b b (Some count)
     extended-start count b room = record {
       room = room;
       progress = λ came front tail H same. counted front H (λ s i. i) (λ j l. elim (rest-cases n h j l) [
@@ -135,9 +134,9 @@ module _ (n : ℕ) (◌·◌ : ℕ → ℕ → ℕ) (e : ℕ) (classes : Bool) w
     }
 
     -- the lowest that is left was tried, and its coset is done with it
-    pub extended-next : (left g count middle : ℕ) (b between exit : List ℕ) (r : Found) → length between ≡ length b
+    pub extended-next : (left g count middle : ℕ) (b between exit : List ℕ) (r : Option ℕ) → length between ≡ length b
         → g < n → member h g ≡ false → ((j : ℕ) → j < g → member left j ≡ false)
-        → ExtendedBut h left count b between (Count middle) → ExtendedBy h g middle between exit r
+        → ExtendedBut h left count b between (Some middle) → ExtendedBy h g middle between exit r
         → ExtendedBut h (outside_of left (coset_of n ◌·◌ e h g)) count b exit r
     extended-next left g count middle b between exit r same l new lowest X Y = record {
       room = Y.room;
@@ -159,13 +158,13 @@ module _ (n : ℕ) (◌·◌ : ℕ → ℕ → ℕ) (e : ℕ) (classes : Bool) w
         ]
 
         join : (came front tail : List ℕ) → Progress n ◌·◌ e classes came front tail between h (λ l. (j : ℕ) → j < n → (member left j ≡ true)
-            ⊎ Settled n ◌·◌ e classes l h j) (Count middle)
+            ⊎ Settled n ◌·◌ e classes l h j) (Some middle)
             → length came ≡ length between
             → Progress n ◌·◌ e classes came front tail exit h (λ l. (j : ℕ) → j < n → (member (outside_of left (coset_of n ◌·◌ e h g)) j ≡ true)
             ⊎ Settled n ◌·◌ e classes l h j) r
         join came front tail (counted front' H more settled) long = more-join (Y.progress came front' tail H long)
           where
-            more-join : {r : Found} → Progress n ◌·◌ e classes came front' tail exit h (λ l. Settled n ◌·◌ e classes l h g) r
+            more-join : {r : Option ℕ} → Progress n ◌·◌ e classes came front' tail exit h (λ l. Settled n ◌·◌ e classes l h g) r
                 → Progress n ◌·◌ e classes came front tail exit h (λ l. (j : ℕ) → j < n → (member (outside_of left (coset_of n ◌·◌ e h g)) j ≡ true)
                 ⊎ Settled n ◌·◌ e classes l h j) r
             more-join (counted front'' H' more' this) = counted front'' H' (λ s i. more' s (more s i))
@@ -176,28 +175,28 @@ module _ (n : ℕ) (◌·◌ : ℕ → ℕ → ℕ) (e : ℕ) (classes : Bool) w
             more-join (overflow l c H' many) = overflow l c H' many
 
     -- where there are too many sets it does not matter how far one came
-    pub extended-overflow : (left count : ℕ) (b exit : List ℕ) → ExtendedBut h left count b exit Overflow → ExtendedByAll h count b exit Overflow
+    pub extended-overflow : (left count : ℕ) (b exit : List ℕ) → ExtendedBut h left count b exit None → ExtendedByAll h count b exit None
     extended-overflow left count b exit X = record {
       room = tt;
       progress = λ came front tail H same. widen came front tail (X.progress came front tail H same);
     }
       where
         widen : (came front tail : List ℕ) → Progress n ◌·◌ e classes came front tail exit h (λ l. (j : ℕ) → j < n → (member left j ≡ true)
-            ⊎ Settled n ◌·◌ e classes l h j) Overflow
-            → Progress n ◌·◌ e classes came front tail exit h (λ l. (j : ℕ) → j < n → Settled n ◌·◌ e classes l h j) Overflow
+            ⊎ Settled n ◌·◌ e classes l h j) None
+            → Progress n ◌·◌ e classes came front tail exit h (λ l. (j : ℕ) → j < n → Settled n ◌·◌ e classes l h j) None
         widen came front tail (overflow l c H many) = overflow l c H many
 
     -- where none is left all were tried
-    pub extended-end : (left count middle : ℕ) (b exit : List ℕ) → left ≡ 0 → ExtendedBut h left count b exit (Count middle)
-        → ExtendedByAll h count b exit (Count middle)
+    pub extended-end : (left count middle : ℕ) (b exit : List ℕ) → left ≡ 0 → ExtendedBut h left count b exit (Some middle)
+        → ExtendedByAll h count b exit (Some middle)
     extended-end left count middle b exit none X = record {
       room = X.room;
       progress = λ came front tail H same. all came front tail (X.progress came front tail H same);
     }
       where
         all : (came front tail : List ℕ) → Progress n ◌·◌ e classes came front tail exit h (λ l. (j : ℕ) → j < n → (member left j ≡ true)
-            ⊎ Settled n ◌·◌ e classes l h j) (Count middle)
-            → Progress n ◌·◌ e classes came front tail exit h (λ l. (j : ℕ) → j < n → Settled n ◌·◌ e classes l h j) (Count middle)
+            ⊎ Settled n ◌·◌ e classes l h j) (Some middle)
+            → Progress n ◌·◌ e classes came front tail exit h (λ l. (j : ℕ) → j < n → Settled n ◌·◌ e classes l h j) (Some middle)
         all came front tail (counted front' H more settled) = counted front' H more (λ j k. elim (settled j k) [
           | inl i ↦ absurd (true≢false (sym i ∙ ap (λ (z : ℕ). member z j) none ∙ member-empty j))
           | inr done ↦ done
@@ -256,7 +255,7 @@ module _ (n : ℕ) (◌·◌ : ℕ → ℕ → ℕ) (e : ℕ) (classes : Bool) w
         omega arith
 
     -- so the search has overflowed
-    pub none-result : (came : List ℕ) → length came < 8 → SearchResult came came Overflow
+    pub none-result : (came : List ℕ) → length came < 8 → SearchResult came came None
     none-result came h = (too_many _ (searching-none came h), refl)
 
     -- the bytes that are left over are as they came
@@ -285,7 +284,7 @@ module _ (n : ℕ) (◌·◌ : ℕ → ℕ → ℕ) (e : ℕ) (classes : Bool) w
       around = split_at S.list at 0 at-below ∙ ap (λ (h : ℕ). take at S.list ++ h ∷ drop (suc at) S.list) (sym searching-slot)
 
       -- once it was extended it is settled too
-      pub searching-next : (exit : List ℕ) (middle : ℕ) → length came ≡ length b → ExtendedByAll (slot_at b at) count b exit (Count middle)
+      pub searching-next : (exit : List ℕ) (middle : ℕ) → length came ≡ length b → ExtendedByAll (slot_at b at) count b exit (Some middle)
           → Searching came exit middle (done + 1)
       searching-next exit middle same X =
           read (X.progress came (take at S.list) (drop (suc at) S.list)
@@ -301,7 +300,7 @@ module _ (n : ℕ) (◌·◌ : ℕ → ℕ → ℕ) (e : ℕ) (classes : Bool) w
           tail-length = length-drop (suc at) S.list ∙ (let q = S.holding.size in omega arith)
 
           read : Progress n ◌·◌ e classes came (take at S.list) tail exit (slot_at b at) (λ l. (g : ℕ) → g < n
-              → Settled n ◌·◌ e classes l (slot_at b at) g) (Count middle)
+              → Settled n ◌·◌ e classes l (slot_at b at) g) (Some middle)
               → Searching came exit middle (done + 1)
           read (counted front H keeps settled) =
               let old : (s : ℕ) → Mem s S.list → Mem s (front ++ slot_at b at ∷ tail) = λ s m. keeps s (subst (λ (l : List ℕ). Mem s l) around m) in
@@ -319,18 +318,18 @@ module _ (n : ℕ) (◌·◌ : ℕ → ℕ → ℕ) (e : ℕ) (classes : Bool) w
               }
 
       -- or there are too many
-      pub searching-overflow : (exit : List ℕ) → length came ≡ length b → ExtendedByAll (slot_at b at) count b exit Overflow → SearchResult came exit Overflow
+      pub searching-overflow : (exit : List ℕ) → length came ≡ length b → ExtendedByAll (slot_at b at) count b exit None → SearchResult came exit None
       searching-overflow exit same X =
           read (X.progress came (take at S.list) (drop (suc at) S.list)
           (subst (λ (l : List ℕ). Holding n ◌·◌ e classes came b l count) around S.holding) same)
         where
           read : Progress n ◌·◌ e classes came (take at S.list) (drop (suc at) S.list) exit (slot_at b at) (λ l. (g : ℕ) → g < n
-              → Settled n ◌·◌ e classes l (slot_at b at) g) Overflow
-              → SearchResult came exit Overflow
+              → Settled n ◌·◌ e classes l (slot_at b at) g) None
+              → SearchResult came exit None
           read (overflow l c H many) = (too_many _ many, left_over came exit l c H)
 
     -- when all sets are settled the list is the one asked for
-    pub searching-end : (came b : List ℕ) (count done : ℕ) → Searching came b count done → count ≤ done → SearchResult came b (Count count)
+    pub searching-end : (came b : List ℕ) (count done : ℕ) → Searching came b count done → count ≤ done → SearchResult came b (Some count)
     unfolding written
     searching-end came b count done S all = (
       S.holding.bytes ∙ ap₂ (λ (l : List ℕ) (i : ℕ). packed l ++ drop (8 * i) came) same (sym S.holding.size ∙ ap length same),
@@ -377,16 +376,16 @@ module _ (n : ℕ) (◌·◌ : ℕ → ℕ → ℕ) (e : ℕ) (classes : Bool) w
           ∙ ap₂ (λ (i : ℕ) (l : List ℕ). bytes_of i ++ l) first (sym (restart-drop 8 (omega arith))))
 
       -- the result of the loop is the result of the search
-      pub restart : (exit : List ℕ) (r : Found) → SearchResult b exit r → SearchResult came exit r
+      pub restart : (exit : List ℕ) (r : Option ℕ) → SearchResult b exit r → SearchResult came exit r
       unfolding written
-      restart exit (Count count) (x, y, z) =
+      restart exit (Some count) (x, y, z) =
           let some = listed-some in (
             x ∙ ap (λ (l : List ℕ). packed (listed n (chosen n ◌·◌ e classes)) ++ l)
                 (restart-drop (8 * length (listed n (chosen n ◌·◌ e classes))) (omega arith)),
             y,
             omega (arith, restart-length),
           )
-      restart exit Overflow (x, y) =
+      restart exit None (x, y) =
           let same = restart-length in
           let slots : length b / 8 ≡ length came / 8 = ap (λ (i : ℕ). i / 8) same in (
             rw (← slots) x,

@@ -1,17 +1,16 @@
 // Adjoining an element to a subgroup, by cosets.
 // Ported from subgroup/finite_group.rs of moyo 0.21.0 (`generated_subgroup`), and changed: sets as numbers, cosets instead of all products.
-ghost use Rattle.std.specs.Prelude.{◌≡◌, true, false, ℕ, ◌<◌, ◌≤◌, ◌^◌};
+ghost use Rattle.std.specs.Prelude.{◌≡◌, ℕ, ◌<◌, ◌≤◌, ◌^◌};
 ghost use Rattle.subgroup_laws.specs.Adjoin.{Forced, Growing};
 ghost use Rattle.subgroup_laws.specs.Subsets.{Subgroup, image_of};
 ghost use Rattle.subgroup_laws.specs.Table.{product, Cells, GroupTable};
 ghost use Rattle.subgroup_search.specs.Growth.{Taken, Swept, Adjoined};
 
-use element_sets::sets::{contains, lowest, with_element, within, without};
+use element_sets::sets::{Members, contains, lowest, with_element, within, without};
 
-// A set that grows, with the representatives that wait to be followed; not ok: an element below the bound would come in.
+// A set that grows, with the representatives that wait to be followed.
 #[derive(Clone, Copy)]
 pub(crate) struct Growth {
-    pub(crate) ok: bool,
     pub(crate) set: u64,
     pub(crate) waiting: u64,
 }
@@ -29,105 +28,71 @@ pub(crate) fn coset(t: &[u8], n: usize, s: u64, b: usize) -> u64
     requires { (Cells n t.now) × (s < 2 ^ n) × (b < n) }
     ensures { result ≡ image_of n (λ (x : ℕ). product n t.now x b) s }
 {
-    let mut left = s;
     let mut found = 0u64;
-    while 0 < left {
-        let x = lowest(left);
-        let y = cell(t, n, x, b);
-        let more = with_element(found, y);
-        found = more;
-        let rest = without(left, x);
-        left = rest;
+    for x in Members::of(s) {
+        found = with_element(found, cell(t, n, x, b));
     }
     found
 }
 
-// The coset h p joins the set k, and p waits, if p is new.
+// The coset h p joins the set, and p waits, if p is new; none where an element below the bound would come in.
 fn taken(
     t: &[u8],
     n: usize,
     e: usize,
     h: u64,
     bound: usize,
-    k: u64,
-    waiting: u64,
+    old: Growth,
     p: usize,
-) -> Growth
+) -> Option<Growth>
     requires { (GroupTable n t.now e) × (h < 2 ^ n) × (p < n) × (bound ≤ n) }
-    ensures { Taken n (product n t.now) e h bound k waiting p result }
+    ensures { Taken n (product n t.now) e h bound old.set old.waiting p result }
 {
-    if contains(k, p) {
-        return Growth {
-            ok: true,
-            set: k,
-            waiting,
-        };
+    if contains(old.set, p) {
+        return Some(old);
     }
     let joined = coset(t, n, h, p);
     let low = joined % (1u64 << bound);
     if !within(low, h) {
-        return Growth {
-            ok: false,
-            set: k,
-            waiting,
-        };
+        return None;
     }
-    let more = with_element(waiting, p);
-    Growth {
-        ok: true,
-        set: k | joined,
-        waiting: more,
-    }
+    Some(Growth {
+        set: old.set | joined,
+        waiting: with_element(old.waiting, p),
+    })
 }
 
 // The representative r is followed by g and by the members of h.
-fn swept(t: &[u8], n: usize, e: usize, h: u64, g: usize, k: u64, waiting: u64, r: usize) -> Growth
+fn swept(t: &[u8], n: usize, e: usize, h: u64, g: usize, old: Growth, r: usize) -> Option<Growth>
     requires { (GroupTable n t.now e) × (Subgroup n (product n t.now) e h) × (g < n)
         × (Forced n (product n t.now) e h g r)
-        × (Growing n (product n t.now) e h g g k waiting (λ (x : ℕ). x ≡ r)) }
-    ensures { Swept n (product n t.now) e h g g k waiting result }
+        × (Growing n (product n t.now) e h g g old.set old.waiting (λ (x : ℕ). x ≡ r)) }
+    ensures { Swept n (product n t.now) e h g g old.set old.waiting result }
 {
-    let first = taken(t, n, e, h, g, k, waiting, cell(t, n, r, g));
-    if !first.ok {
-        return first;
+    let mut grown = taken(t, n, e, h, g, old, cell(t, n, r, g))?;
+    for x in Members::of(h) {
+        grown = taken(t, n, e, h, g, grown, cell(t, n, r, x))?;
     }
-    let mut set = first.set;
-    let mut rest = first.waiting;
-    let mut left = h;
-    while 0 < left {
-        let x = lowest(left);
-        let next = taken(t, n, e, h, g, set, rest, cell(t, n, r, x));
-        if !next.ok {
-            return next;
-        }
-        set = next.set;
-        rest = next.waiting;
-        let less = without(left, x);
-        left = less;
-    }
-    Growth {
-        ok: true,
-        set,
-        waiting: rest,
-    }
+    Some(grown)
 }
 
-// The least subgroup that holds h and g; or 0 if it holds an element below g that h does not hold: the search finds it elsewhere.
-pub(crate) fn adjoin(t: &[u8], n: usize, e: usize, h: u64, g: usize) -> u64
+// The least subgroup that holds h and g; or none if it holds an element below g that h does not hold: the search finds it elsewhere.
+pub(crate) fn adjoin(t: &[u8], n: usize, e: usize, h: u64, g: usize) -> Option<u64>
     requires { (GroupTable n t.now e) × (Subgroup n (product n t.now) e h) × (g < n) }
     ensures { Adjoined n (product n t.now) e h g g result }
 {
-    let mut set = h;
-    let mut waiting = 1u64 << e;
-    while 0 < waiting {
-        let r = lowest(waiting);
-        let rest = without(waiting, r);
-        let next = swept(t, n, e, h, g, set, rest, r);
-        if !next.ok {
-            return 0;
-        }
-        set = next.set;
-        waiting = next.waiting;
+    let mut grown = Growth {
+        set: h,
+        waiting: 1u64 << e,
+    };
+    // More may wait after each turn, so this is no `for` over those that wait.
+    while 0 < grown.waiting {
+        let r = lowest(grown.waiting);
+        let rest = Growth {
+            set: grown.set,
+            waiting: without(grown.waiting, r),
+        };
+        grown = swept(t, n, e, h, g, rest, r)?;
     }
-    set
+    Some(grown.set)
 }

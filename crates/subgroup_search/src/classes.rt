@@ -15,25 +15,24 @@ fn first_conjugate(t: &[u8], n: usize, e: usize, s: u64) -> u64
 {
     let mut best = s;
     let mut left = rest_of(n, s);
+    // What is left loses a whole coset, so this is no `for` over the members.
     while 0 < left {
         let g = lowest(left);
-        let c = conjugate_set(t, n, e, s, g);
-        let first = earlier_of(c, best);
-        best = first;
-        let done = coset(t, n, s, g);
-        let rest = outside(left, done);
-        left = rest;
+        best = earlier_of(conjugate_set(t, n, e, s, g), best);
+        left = outside(left, coset(t, n, s, g));
     }
     best
 }
 
 // The set itself; or, where classes are asked for, the first of its conjugates.
+// A flag and no closure: which sets are listed, `chosen` in the clauses of the whole search, is said by the same flag.
 pub(crate) fn representative(t: &[u8], n: usize, e: usize, s: u64, classes: bool) -> u64
     requires { (GroupTable n t.now e) × (Subgroup n (product n t.now) e s) }
     ensures { Represented n (product n t.now) e classes s result }
 {
-    if !classes {
-        return s;
+    if classes {
+        first_conjugate(t, n, e, s)
+    } else {
+        s
     }
-    first_conjugate(t, n, e, s)
 }

@@ -6,30 +6,30 @@ ghost use Rattle.std.specs.Prelude.{◌≡◌};
 ghost use Rattle.subgroup_search.specs.Answers.{subgroups_answer, subgroups_bytes, classes_answer, classes_bytes};
 
 use search::list_sets;
-use table_check::{Answer, Checked, from_table};
+use table_check::{Refusal, from_table};
 
 mod adjoin;
 mod classes;
 mod search;
 
 // All subgroups into lent slots of eight bytes, in list order; the answer is their count.
-pub fn enumerate_subgroups(n: usize, table: &[u8], sets: &mut [u8]) -> Answer
+pub fn enumerate_subgroups(n: usize, table: &[u8], sets: &mut [u8]) -> Result<u64, Refusal>
     ensures { (result ≡ subgroups_answer n table.now sets.old)
         × (sets.new ≡ subgroups_bytes n table.now sets.old) }
 {
     match from_table(n, table) {
-        Checked::Group(e) => list_sets(sets, table, n, e, false),
-        Checked::NoGroup(r) => Answer::Refused(r),
+        Ok(e) => list_sets(sets, table, n, e, false),
+        Err(r) => Err(r),
     }
 }
 
 // The first subgroup of each class into lent slots of eight bytes, in list order; the answer is the count of classes.
-pub fn conjugacy_classes(n: usize, table: &[u8], sets: &mut [u8]) -> Answer
+pub fn conjugacy_classes(n: usize, table: &[u8], sets: &mut [u8]) -> Result<u64, Refusal>
     ensures { (result ≡ classes_answer n table.now sets.old)
         × (sets.new ≡ classes_bytes n table.now sets.old) }
 {
     match from_table(n, table) {
-        Checked::Group(e) => list_sets(sets, table, n, e, true),
-        Checked::NoGroup(r) => Answer::Refused(r),
+        Ok(e) => list_sets(sets, table, n, e, true),
+        Err(r) => Err(r),
     }
 }

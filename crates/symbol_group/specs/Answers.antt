@@ -1,5 +1,5 @@
 -- What is answered for a text: its group slot by slot, its order, an operation of it, a translation; or a refusal.
-use Rattle.std.specs.Prelude.{cond, List, ℕ, ◌<◌, ltb, length, get_or, replicate, take, ◌≡◌}
+use Rattle.std.specs.Prelude.{cond, List, ℕ, ◌<◌, ltb, length, get_or, replicate, take, ◌≡◌, Err, None, Ok, Option, Result, Some}
 use Rattle.operation.specs.Answer as answer
 use Rattle.std.proofs.Common.{lt-ltb}
 use Rattle.operation.specs.Doubles.{doubles_of}
@@ -17,12 +17,6 @@ use Rattle.symbol_group.specs.declared.refusal.Refusal.TheVariants.{Text, Group 
 use Rattle.symbol_group.specs.declared.Answer.{Answer}
 use Rattle.symbol_group.specs.declared.Answer.TheVariants.{Group, Refused}
 use Rattle.symbol_group.specs.declared.SymbolGroup.{SymbolGroup}
-use Rattle.symbol_group.specs.declared.SymbolOrder.{SymbolOrder}
-use Rattle.symbol_group.specs.declared.SymbolOrder.TheVariants.{Is, Refused as OrderRefused}
-use Rattle.symbol_group.specs.declared.SymbolOperation.{SymbolOperation}
-use Rattle.symbol_group.specs.declared.SymbolOperation.TheVariants.{Operation as FoundOperation, PastEnd, Refused as FoundRefused}
-use Rattle.symbol_group.specs.declared.SymbolTranslation.{SymbolTranslation}
-use Rattle.symbol_group.specs.declared.SymbolTranslation.TheVariants.{Doubles as FoundDoubles, PastEnd as PastLast, Refused as TranslationRefused}
 use Rattle.hall_symbol.specs.declared.refusal.Refusal.TheVariants.{TooLong}
 
 -- ---- the group, slot by slot
@@ -64,27 +58,27 @@ unfolding symbol_answer read_symbol
 long-refused text h = rw (lt-ltb 80 (length text) h)
 
 -- ---- order, operation, translation
-abbrev pub order_by : Answer → ℕ → SymbolOrder
-order_by Group count = Is count
-order_by (Refused r) count = OrderRefused r
+abbrev pub order_by : Answer → ℕ → Result ℕ Refusal
+order_by Group count = Ok count
+order_by (Refused r) count = Err r
 
-unfoldable pub order_of : List ℕ → SymbolOrder
+unfoldable pub order_of : List ℕ → Result ℕ Refusal
 order_of text = let g = symbol_answer text in order_by g.answer g.count
 
 -- An index past the end is refused 28.
-abbrev pub operation_by : Answer → ℕ → List Operation → ℕ → SymbolOperation
-operation_by Group count operations i = cond (ltb i count) (FoundOperation (get_or operations i identity_operation)) PastEnd
-operation_by (Refused r) count operations i = FoundRefused r
+abbrev pub operation_by : Answer → ℕ → List Operation → ℕ → Result (Option Operation) Refusal
+operation_by Group count operations i = cond (ltb i count) (Ok (Some (get_or operations i identity_operation))) (Ok None)
+operation_by (Refused r) count operations i = Err r
 
-unfoldable pub operation_at : List ℕ → ℕ → SymbolOperation
+unfoldable pub operation_at : List ℕ → ℕ → Result (Option Operation) Refusal
 operation_at text i = let g = symbol_answer text in operation_by g.answer g.count g.operations i
 
-abbrev pub translation_of_found : SymbolOperation → SymbolTranslation
-translation_of_found (FoundOperation o) = FoundDoubles (doubles_of o.translation)
-translation_of_found PastEnd = PastLast
-translation_of_found (FoundRefused r) = TranslationRefused r
+abbrev pub translation_of_found : Result (Option Operation) Refusal → Result (Option Doubles) Refusal
+translation_of_found (Ok (Some o)) = Ok (Some (doubles_of o.translation))
+translation_of_found (Ok None) = Ok None
+translation_of_found (Err r) = Err r
 
-unfoldable pub translation_at : List ℕ → ℕ → SymbolTranslation
+unfoldable pub translation_at : List ℕ → ℕ → Result (Option Doubles) Refusal
 translation_at text i = translation_of_found (operation_at text i)
 
 -- ---- in numbers
@@ -96,16 +90,16 @@ operations_by (Refused r) operations = answer.refused (number_of r) (place_of r)
 abbrev pub operations_answer : SymbolGroup → answer.Answer (List Operation) answer.Nothing
 operations_answer g = operations_by g.answer (take g.count g.operations)
 
-abbrev pub order_answer : SymbolOrder → answer.Answer ℕ answer.Nothing
-order_answer (Is n) = answer.given n
-order_answer (OrderRefused r) = answer.refused (number_of r) (place_of r) tt
+abbrev pub order_answer : Result ℕ Refusal → answer.Answer ℕ answer.Nothing
+order_answer (Ok n) = answer.given n
+order_answer (Err r) = answer.refused (number_of r) (place_of r) tt
 
-abbrev pub operation_answer : SymbolOperation → answer.Answer Operation answer.Nothing
-operation_answer (FoundOperation o) = answer.given o
-operation_answer PastEnd = answer.refused 28 0 tt
-operation_answer (FoundRefused r) = answer.refused (number_of r) (place_of r) tt
+abbrev pub operation_answer : Result (Option Operation) Refusal → answer.Answer Operation answer.Nothing
+operation_answer (Ok (Some o)) = answer.given o
+operation_answer (Ok None) = answer.refused 28 0 tt
+operation_answer (Err r) = answer.refused (number_of r) (place_of r) tt
 
-abbrev pub translation_answer : SymbolTranslation → answer.Answer Doubles answer.Nothing
-translation_answer (FoundDoubles d) = answer.given d
-translation_answer PastLast = answer.refused 28 0 tt
-translation_answer (TranslationRefused r) = answer.refused (number_of r) (place_of r) tt
+abbrev pub translation_answer : Result (Option Doubles) Refusal → answer.Answer Doubles answer.Nothing
+translation_answer (Ok (Some d)) = answer.given d
+translation_answer (Ok None) = answer.refused 28 0 tt
+translation_answer (Err r) = answer.refused (number_of r) (place_of r) tt

@@ -1,5 +1,5 @@
 -- How the answers are put together from the reader's and the group's, and what holds of their slots.
-use Rattle.std.specs.Prelude.{◌≡◌, refl, List, [], ◌∷◌, ℕ, ◌≤◌, ◌<◌, get_or, take}
+use Rattle.std.specs.Prelude.{◌≡◌, refl, List, [], ◌∷◌, ℕ, ◌≤◌, ◌<◌, get_or, take, Err, None, Ok, Option, Result, Some}
 use Rattle.std.proofs.Common.{sym, ◌∙◌, ap₂}
 use Rattle.std.proofs.Math.Path.{ap}
 use native.Mathlib.Omega.{arith}
@@ -38,9 +38,6 @@ use Rattle.symbol_group.specs.declared.Answer.{Answer}
 use Rattle.symbol_group.specs.declared.Answer.TheVariants.{Group, Refused}
 use Rattle.symbol_group.specs.declared.Head.{Head}
 use Rattle.symbol_group.specs.declared.SymbolGroup.{SymbolGroup}
-use Rattle.symbol_group.specs.declared.SymbolOrder.TheVariants.{Is, Refused as OrderRefused}
-use Rattle.symbol_group.specs.declared.SymbolOperation.{SymbolOperation}
-use Rattle.symbol_group.specs.declared.SymbolOperation.TheVariants.{Operation as FoundOperation, PastEnd, Refused as FoundRefused}
 
 -- ---- from a group of generators
 -- Its refusals are among those of a symbol.
@@ -133,21 +130,21 @@ symbol-slots bytes = reading-slots (reader.read_symbol bytes)
 
 module _ (bytes : List ℕ) (g : SymbolGroup) (e : g ≡ symbol_answer bytes) where
   -- Refused, whatever is asked for.
-  pub order-refused : (r : Refusal) → g.answer ≡ Refused r → OrderRefused r ≡ order_of bytes
+  pub order-refused : (r : Refusal) → g.answer ≡ Refused r → Err r ≡ order_of bytes
   unfolding order_of
   order-refused r a = rw (← e, a)
 
-  pub operation-refused : (r : Refusal) (i : ℕ) → g.answer ≡ Refused r → FoundRefused r ≡ operation_at bytes i
+  pub operation-refused : (r : Refusal) (i : ℕ) → g.answer ≡ Refused r → Err r ≡ operation_at bytes i
   unfolding operation_at
   operation-refused r i a = rw (← e, a)
 
   module _ (a : g.answer ≡ Group) where
-    pub order-given : Is g.count ≡ order_of bytes
+    pub order-given : Ok g.count ≡ order_of bytes
     unfolding order_of
     order-given = rw (← e, a)
 
     -- Past the end.
-    pub operation-past : (i : ℕ) → g.count ≤ i → PastEnd ≡ operation_at bytes i
+    pub operation-past : (i : ℕ) → g.count ≤ i → Ok None ≡ operation_at bytes i
     unfolding operation_at
     operation-past i h = rw (← e, a, le-ltb i g.count h)
 
@@ -155,7 +152,7 @@ module _ (bytes : List ℕ) (g : SymbolGroup) (e : g ≡ symbol_answer bytes) wh
     pub index-small : (i : ℕ) → i < g.count → i < 48
     index-small i h = omega (arith, symbol-slots bytes, ap (λ (g : SymbolGroup). g.count) e)
 
-    pub operation-given : (i : ℕ) (d : Operation) → i < g.count → FoundOperation (get_or g.operations i d) ≡ operation_at bytes i
+    pub operation-given : (i : ℕ) (d : Operation) → i < g.count → Ok (Some (get_or g.operations i d)) ≡ operation_at bytes i
     unfolding operation_at
     operation-given i d h =
         let within : i < length g.operations = omega (
@@ -167,6 +164,7 @@ module _ (bytes : List ℕ) (g : SymbolGroup) (e : g ≡ symbol_answer bytes) wh
         rw (← e, a, lt-ltb i g.count h, at-any g.operations i d identity_operation within)
 
 -- The translation of what was found.
-pub translation-found : (bytes : List ℕ) (i : ℕ) (f g : SymbolOperation) → f ≡ operation_at bytes i → f ≡ g → translation_of_found g ≡ translation_at bytes i
+pub translation-found : (bytes : List ℕ) (i : ℕ) (f g : Result (Option Operation) Refusal) → f ≡ operation_at bytes i → f ≡ g
+    → translation_of_found g ≡ translation_at bytes i
 unfolding translation_at
 translation-found bytes i f g p q = ap translation_of_found (sym q ∙ p)

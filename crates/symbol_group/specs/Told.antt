@@ -1,6 +1,6 @@
 -- What is answered for a text, by number and place: the list, an operation or a translation exactly if the text is accepted, and each refusal, 1 to 14,
 -- 17 and 28, exactly if its rule holds. Number, place and value determine the answer.
-use Rattle.std.specs.Prelude.{◌≡◌, refl, ◌⊎◌, ◌↔◌, List, ℕ, ◌≤◌, ◌<◌, length, get_or, take}
+use Rattle.std.specs.Prelude.{◌≡◌, refl, ◌⊎◌, ◌↔◌, List, ℕ, ◌≤◌, ◌<◌, length, get_or, take, Err, None, Ok, Option, Result, Some}
 use Rattle.std.proofs.Common.{sym, ◌∙◌, ap, ap₂, arith, length-take-le, get_or-take, lt-ltb, le-ltb}
 use Rattle.std.proofs.Math.Decide.{dec_lt}
 use Rattle.operation.specs.Answer as answer
@@ -29,12 +29,6 @@ use Rattle.symbol_group.specs.declared.refusal.Refusal.{Refusal}
 use Rattle.symbol_group.specs.declared.refusal.Refusal.TheVariants.{Text, Group as NoGroup}
 use Rattle.symbol_group.specs.declared.Answer.{Answer}
 use Rattle.symbol_group.specs.declared.Answer.TheVariants.{Group, Refused}
-use Rattle.symbol_group.specs.declared.SymbolOrder.{SymbolOrder}
-use Rattle.symbol_group.specs.declared.SymbolOrder.TheVariants.{Is, Refused as OrderRefused}
-use Rattle.symbol_group.specs.declared.SymbolOperation.{SymbolOperation}
-use Rattle.symbol_group.specs.declared.SymbolOperation.TheVariants.{Operation as FoundOperation, PastEnd, Refused as FoundRefused}
-use Rattle.symbol_group.specs.declared.SymbolTranslation.{SymbolTranslation}
-use Rattle.symbol_group.specs.declared.SymbolTranslation.TheVariants.{Doubles as FoundDoubles, PastEnd as PastLast, Refused as TranslationRefused}
 
 -- ---- number, place and value
 -- The numbers of a symbol's refusals are at most 17.
@@ -68,33 +62,33 @@ answer-once Group (Refused s) l m e = let z : ◌≡◌ {A = ℕ} 0 1 = cc in ab
 answer-once (Refused r) Group l m e = let z : ◌≡◌ {A = ℕ} 0 1 = cc in absurd (omega arith)
 answer-once (Refused r) (Refused s) l m e = (ap Refused (same-refusal r s e), λ f. let z : ◌≡◌ {A = ℕ} 0 1 = cc in absurd (omega arith))
 
-pub order-once : (a b : SymbolOrder) → order_answer a ≡ order_answer b → a ≡ b
-order-once (Is n) (Is m) e = let z : n ≡ m = cc in ap Is z
-order-once (Is n) (OrderRefused s) e = let z : ◌≡◌ {A = ℕ} 0 1 = cc in absurd (omega arith)
-order-once (OrderRefused r) (Is m) e = let z : ◌≡◌ {A = ℕ} 0 1 = cc in absurd (omega arith)
-order-once (OrderRefused r) (OrderRefused s) e = ap OrderRefused (same-refusal r s e)
+pub order-once : (a b : Result ℕ Refusal) → order_answer a ≡ order_answer b → a ≡ b
+order-once (Ok n) (Ok m) e = let z : n ≡ m = cc in ap Ok z
+order-once (Ok n) (Err s) e = let z : ◌≡◌ {A = ℕ} 0 1 = cc in absurd (omega arith)
+order-once (Err r) (Ok m) e = let z : ◌≡◌ {A = ℕ} 0 1 = cc in absurd (omega arith)
+order-once (Err r) (Err s) e = ap Err (same-refusal r s e)
 
-pub operation-once : (a b : SymbolOperation) → operation_answer a ≡ operation_answer b → a ≡ b
-operation-once (FoundOperation o) (FoundOperation q) e = let z : o ≡ q = cc in ap FoundOperation z
-operation-once (FoundOperation o) PastEnd e = let z : ◌≡◌ {A = ℕ} 0 1 = cc in absurd (omega arith)
-operation-once (FoundOperation o) (FoundRefused s) e = let z : ◌≡◌ {A = ℕ} 0 1 = cc in absurd (omega arith)
-operation-once PastEnd (FoundOperation q) e = let z : ◌≡◌ {A = ℕ} 0 1 = cc in absurd (omega arith)
-operation-once PastEnd PastEnd e = refl
-operation-once PastEnd (FoundRefused s) e = absurd (not-past s (sym e))
-operation-once (FoundRefused r) (FoundOperation q) e = let z : ◌≡◌ {A = ℕ} 0 1 = cc in absurd (omega arith)
-operation-once (FoundRefused r) PastEnd e = absurd (not-past r e)
-operation-once (FoundRefused r) (FoundRefused s) e = ap FoundRefused (same-refusal r s e)
+pub operation-once : (a b : Result (Option Operation) Refusal) → operation_answer a ≡ operation_answer b → a ≡ b
+operation-once (Ok (Some o)) (Ok (Some q)) e = let z : o ≡ q = cc in ap (λ x. Ok (Some x)) z
+operation-once (Ok (Some o)) (Ok None) e = let z : ◌≡◌ {A = ℕ} 0 1 = cc in absurd (omega arith)
+operation-once (Ok (Some o)) (Err s) e = let z : ◌≡◌ {A = ℕ} 0 1 = cc in absurd (omega arith)
+operation-once (Ok None) (Ok (Some q)) e = let z : ◌≡◌ {A = ℕ} 0 1 = cc in absurd (omega arith)
+operation-once (Ok None) (Ok None) e = refl
+operation-once (Ok None) (Err s) e = absurd (not-past s (sym e))
+operation-once (Err r) (Ok (Some q)) e = let z : ◌≡◌ {A = ℕ} 0 1 = cc in absurd (omega arith)
+operation-once (Err r) (Ok None) e = absurd (not-past r e)
+operation-once (Err r) (Err s) e = ap Err (same-refusal r s e)
 
-pub translation-once : (a b : SymbolTranslation) → translation_answer a ≡ translation_answer b → a ≡ b
-translation-once (FoundDoubles o) (FoundDoubles q) e = let z : o ≡ q = cc in ap FoundDoubles z
-translation-once (FoundDoubles o) PastLast e = let z : ◌≡◌ {A = ℕ} 0 1 = cc in absurd (omega arith)
-translation-once (FoundDoubles o) (TranslationRefused s) e = let z : ◌≡◌ {A = ℕ} 0 1 = cc in absurd (omega arith)
-translation-once PastLast (FoundDoubles q) e = let z : ◌≡◌ {A = ℕ} 0 1 = cc in absurd (omega arith)
-translation-once PastLast PastLast e = refl
-translation-once PastLast (TranslationRefused s) e = absurd (not-past s (sym e))
-translation-once (TranslationRefused r) (FoundDoubles q) e = let z : ◌≡◌ {A = ℕ} 0 1 = cc in absurd (omega arith)
-translation-once (TranslationRefused r) PastLast e = absurd (not-past r e)
-translation-once (TranslationRefused r) (TranslationRefused s) e = ap TranslationRefused (same-refusal r s e)
+pub translation-once : (a b : Result (Option Doubles) Refusal) → translation_answer a ≡ translation_answer b → a ≡ b
+translation-once (Ok (Some o)) (Ok (Some q)) e = let z : o ≡ q = cc in ap (λ x. Ok (Some x)) z
+translation-once (Ok (Some o)) (Ok None) e = let z : ◌≡◌ {A = ℕ} 0 1 = cc in absurd (omega arith)
+translation-once (Ok (Some o)) (Err s) e = let z : ◌≡◌ {A = ℕ} 0 1 = cc in absurd (omega arith)
+translation-once (Ok None) (Ok (Some q)) e = let z : ◌≡◌ {A = ℕ} 0 1 = cc in absurd (omega arith)
+translation-once (Ok None) (Ok None) e = refl
+translation-once (Ok None) (Err s) e = absurd (not-past s (sym e))
+translation-once (Err r) (Ok (Some q)) e = let z : ◌≡◌ {A = ℕ} 0 1 = cc in absurd (omega arith)
+translation-once (Err r) (Ok None) e = absurd (not-past r e)
+translation-once (Err r) (Err s) e = ap Err (same-refusal r s e)
 
 -- ---- the group
 -- What is answered for a text: its operations in list order, or its refusal.
@@ -286,29 +280,29 @@ module _ (count : ℕ) (slots : List Operation) (fits : count ≤ length slots) 
   operation-not (Refused r) n k h = (same-told r n k, same-told r n k)
 
 -- ---- a translation
-translation-given : (f : SymbolOperation) (d : Doubles) → (translation_answer (translation_of_found f) ≡ answer.given d)
+translation-given : (f : Result (Option Operation) Refusal) (d : Doubles) → (translation_answer (translation_of_found f) ≡ answer.given d)
     ↔ ((o : Operation) × (operation_answer f ≡ answer.given o) × (doubles_of o.translation ≡ d))
-translation-given (FoundOperation o) d = (
+translation-given (Ok (Some o)) d = (
   (λ e. let z : doubles_of o.translation ≡ d = cc in (o, refl, z)),
   λ (q, e, p). let z : o ≡ q = cc in ap answer.given (ap (λ (o : Operation). doubles_of o.translation) z ∙ p),
 )
-translation-given PastEnd d = ((λ e. let z : ◌≡◌ {A = ℕ} 0 1 = cc in absurd (omega arith)), λ (_, e, _). let z : ◌≡◌ {A = ℕ} 0 1 = cc in absurd (omega arith))
-translation-given (FoundRefused r) d = (
+translation-given (Ok None) d = ((λ e. let z : ◌≡◌ {A = ℕ} 0 1 = cc in absurd (omega arith)), λ (_, e, _). let z : ◌≡◌ {A = ℕ} 0 1 = cc in absurd (omega arith))
+translation-given (Err r) d = (
   (λ e. let z : ◌≡◌ {A = ℕ} 0 1 = cc in absurd (omega arith)),
   λ (_, e, _). let z : ◌≡◌ {A = ℕ} 0 1 = cc in absurd (omega arith),
 )
 
-translation-not : (f : SymbolOperation) (n k : ℕ)
+translation-not : (f : Result (Option Operation) Refusal) (n k : ℕ)
     → (translation_answer (translation_of_found f) ≡ answer.refused n k tt) ↔ (operation_answer f ≡ answer.refused n k tt)
-translation-not (FoundOperation o) n k = (
+translation-not (Ok (Some o)) n k = (
   (λ e. let z : ◌≡◌ {A = ℕ} 0 1 = cc in absurd (omega arith)),
   λ e. let z : ◌≡◌ {A = ℕ} 0 1 = cc in absurd (omega arith),
 )
-translation-not PastEnd n k = (
+translation-not (Ok None) n k = (
   (λ e. let p : 28 ≡ n = cc in let q : 0 ≡ k = cc in ap₂ (λ n k. answer.refused n k tt) p q),
   λ e. let p : 28 ≡ n = cc in let q : 0 ≡ k = cc in ap₂ (λ n k. answer.refused n k tt) p q,
 )
-translation-not (FoundRefused r) n k = (same-told r n k, same-told r n k)
+translation-not (Err r) n k = (same-told r n k, same-told r n k)
 
 -- ---- by the text
 module _ (bytes : List ℕ) (i : ℕ) where

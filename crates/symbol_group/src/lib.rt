@@ -40,29 +40,6 @@ struct Head {
     count: usize,
 }
 
-// How many operations a symbol has.
-#[derive(Clone, Copy)]
-pub enum SymbolOrder {
-    Is(usize),
-    Refused(Refusal),
-}
-
-// An operation of a symbol. `PastEnd` is refusal 28 at place 0.
-#[derive(Clone, Copy)]
-pub enum SymbolOperation {
-    Operation(Operation),
-    PastEnd,
-    Refused(Refusal),
-}
-
-// An operation's translation as doubles. `PastEnd` is refusal 28 at place 0.
-#[derive(Clone, Copy)]
-pub enum SymbolTranslation {
-    Doubles(Doubles),
-    PastEnd,
-    Refused(Refusal),
-}
-
 fn answer_of(answer: space_group::Answer) -> Answer
     ensures { result ≡ answer_by answer }
 {
@@ -93,19 +70,15 @@ impl SymbolGroup {
         ensures { result ≡ symbol_answer text.now }
     {
         let symbol = HallSymbol::new(text);
-        let read = symbol.answer;
         let letter = symbol.centering;
         let generators = symbol.generators;
         let g = SpaceGroup::new(letter, symbol.count, generators);
-        let told = g.answer;
-        let head = head_of(read, told, g.count);
-        let answer = head.answer;
-        let centering = g.centering;
+        let head = head_of(symbol.answer, g.answer, g.count);
         let operations = g.operations;
         let steps = g.steps;
         SymbolGroup {
-            answer,
-            centering,
+            answer: head.answer,
+            centering: g.centering,
             count: head.count,
             operations,
             generators: g.generators,
@@ -114,43 +87,35 @@ impl SymbolGroup {
     }
 }
 
-pub fn order(text: &[u8]) -> SymbolOrder
+pub fn order(text: &[u8]) -> Result<usize, Refusal>
     ensures { result ≡ order_of text.now }
 {
     let g = SymbolGroup::new(text);
-    let answer = g.answer;
-    match answer {
-        Answer::Group => SymbolOrder::Is(g.count),
-        Answer::Refused(refusal) => SymbolOrder::Refused(refusal),
+    match g.answer {
+        Answer::Group => Ok(g.count),
+        Answer::Refused(refusal) => Err(refusal),
     }
 }
 
 // Operation number i in list order.
-pub fn operation_at(text: &[u8], index: usize) -> SymbolOperation
+pub fn operation_at(text: &[u8], index: usize) -> Result<Option<Operation>, Refusal>
     ensures { result ≡ operation_at text.now index }
 {
     let g = SymbolGroup::new(text);
-    let answer = g.answer;
-    match answer {
-        Answer::Refused(refusal) => SymbolOperation::Refused(refusal),
-        Answer::Group => {
-            if g.count <= index {
-                return SymbolOperation::PastEnd;
-            }
-            let operations = g.operations;
-            SymbolOperation::Operation(operations[index])
-        }
+    match g.answer {
+        Answer::Refused(refusal) => Err(refusal),
+        Answer::Group if index < g.count => Ok(Some(g.operations[index])),
+        Answer::Group => Ok(None),
     }
 }
 
 // Its translation, each coordinate divided by 12 once.
-pub fn translation_at(text: &[u8], index: usize) -> SymbolTranslation
+pub fn translation_at(text: &[u8], index: usize) -> Result<Option<Doubles>, Refusal>
     ensures { result ≡ translation_at text.now index }
 {
-    let found = operation_at(text, index);
-    match found {
-        SymbolOperation::Refused(refusal) => SymbolTranslation::Refused(refusal),
-        SymbolOperation::PastEnd => SymbolTranslation::PastEnd,
-        SymbolOperation::Operation(o) => SymbolTranslation::Doubles(to_doubles(o.translation)),
+    match operation_at(text, index) {
+        Err(refusal) => Err(refusal),
+        Ok(None) => Ok(None),
+        Ok(Some(o)) => Ok(Some(to_doubles(o.translation))),
     }
 }

@@ -1,6 +1,6 @@
 -- What is answered for a layer symbol's text can be packed: an accepted one has the order and the operations of the text with its capital letter, and 19 is
 -- at the index of an operation.
-use Rattle.std.specs.Prelude.{◌≡◌, Bool, true, false, cond, List, ℕ, ◌≤◌, ltb, length, get_or, take}
+use Rattle.std.specs.Prelude.{◌≡◌, Bool, true, false, cond, List, ℕ, ◌≤◌, ltb, length, get_or, take, Err, None, Ok, Some}
 use Rattle.std.proofs.Math.Path.{refl}
 use Rattle.std.proofs.Common.{arith, ltb-true}
 use Rattle.operation.specs.Product.{identity_operation}
@@ -19,14 +19,13 @@ use Rattle.layer_group.specs.Slots.{layer-places, small-fits}
 use Rattle.layer_group.specs.Told.{passing, layer-table}
 use Rattle.layer_group.specs.declared.Answer.{Answer}
 use Rattle.layer_group.specs.declared.Answer.TheVariants.{Group, Refused}
-use Rattle.layer_group.specs.declared.LayerOperation.TheVariants.{Operation as Found, PastEnd}
 use Rattle.layer_group.specs.declared.refusal.Refusal.{Refusal}
 use Rattle.layer_group.specs.declared.refusal.Refusal.TheVariants.{Symbol, NoLayer}
 use Rattle.record_writing.specs.Copying.{room_for}
 use Rattle.record_writing.specs.LayerRecords.{layer_written_by, layer_record_of, layer_record_answer}
-use Rattle.record_writing.specs.declared.LayerRecord.TheVariants.{Written, NoRoom}
 use Rattle.answer_numbers.specs.Packing.{Told, near, Within, Low}
 use Rattle.symbol_numbers.specs.SymbolBounds.{symbol-told, symbol-reduced}
+use Rattle.record_writing.specs.declared.Unwritten.TheVariants.{NoRoom}
 
 -- ---- places
 module _ (bytes : List ℕ) where
@@ -78,7 +77,7 @@ operation-by : (bytes : List ℕ) (i : ℕ) (a : Answer) → (layer_answer bytes
 operation-by bytes i Group e = by-test (ltb i (layer_answer bytes).count) refl
   where
     by-test : (b : Bool) → ltb i (layer_answer bytes).count ≡ b
-        → Within Reduced (operation_answer (cond b (Found (get_or (layer_answer bytes).operations i identity_operation)) PastEnd))
+        → Within Reduced (operation_answer (cond b (Ok (Some (get_or (layer_answer bytes).operations i identity_operation))) (Ok None)))
     by-test true t =
         let (_, _, counts, lists) = layer-table bytes e in
         rw lists (symbol-reduced (capitalised bytes) i (rw (← counts) (ltb-true i (layer_answer bytes).count t)))
@@ -95,7 +94,7 @@ record-by : (bytes : List ℕ) (start size : ℕ) (a : Answer) → (layer_answer
     → Within Low (layer_record_answer (layer_written_by a (layer_answer bytes).count start size))
 record-by bytes start size Group e = by-room (room_for start (layer_answer bytes).count size)
   where
-    by-room : (b : Bool) → Within Low (layer_record_answer (cond b (Written (layer_answer bytes).count) NoRoom))
+    by-room : (b : Bool) → Within Low (layer_record_answer (cond b (Ok (layer_answer bytes).count) (Err NoRoom)))
     by-room true = omega (arith, (layer-places bytes).0)
     by-room false = near (omega arith) (omega arith) (omega arith)
 record-by bytes start size (Refused r) e = layer-told bytes r e

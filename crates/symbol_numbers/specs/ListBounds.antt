@@ -1,15 +1,16 @@
 -- What is said of a list as one number, and that it can be packed: an entry's index is below 48, a missing code at most 19682, and places are at most 80.
-use Rattle.std.specs.Prelude.{◌≡◌, refl, List, ℕ, ◌+◌, ◌<◌}
+use Rattle.std.specs.Prelude.{◌≡◌, refl, List, ℕ, ◌+◌, ◌<◌, Err, Ok, Result}
 use Rattle.std.proofs.Common.{ap, arith}
 use Rattle.operation.specs.Code.{code_lt}
 use Rattle.list_check.specs.Checked.{checked_of}
 use Rattle.list_check.specs.Exactly.{entry-exactly, missing-exactly, range-exactly, symbol-first}
 use Rattle.list_check.specs.Told.{Said, yes, entry, missing, checked_answer, checked-once}
-use Rattle.list_check.specs.declared.Checked.{Checked}
-use Rattle.list_check.specs.declared.Checked.TheVariants.{Yes, Entry, Missing, Refused}
 use Rattle.list_check.specs.declared.refusal.Refusal.TheVariants.{Symbol, Length, Entry as WrongEntry}
 use Rattle.answer_numbers.specs.Packing.{near, packed, mapped, Within, Low, Numbers, loses-nothing}
 use Rattle.symbol_numbers.specs.SymbolBounds.{symbol-told}
+use Rattle.list_check.specs.declared.Verdict.TheVariants.{Entry, Missing, Yes}
+use Rattle.list_check.specs.declared.Verdict.{Verdict}
+use Rattle.list_check.specs.declared.refusal.Refusal.{Refusal}
 
 -- Yes is 0; an entry's index stands above 65536, and a missing code above 131072.
 abbrev pub said_number : Said → ℕ
@@ -44,21 +45,21 @@ pub saids : Numbers Sayable said_number
 saids = record { low = said-low; once = said-once }
 
 -- By the answer.
-by_answer : (text list : List ℕ) (a : Checked) → checked_of text list ≡ a → Within Sayable (checked_answer a)
-by_answer text list Yes e = tt
-by_answer text list (Entry i) e =
+by_answer : (text list : List ℕ) (a : Result Verdict Refusal) → checked_of text list ≡ a → Within Sayable (checked_answer a)
+by_answer text list (Ok Yes) e = tt
+by_answer text list (Ok (Entry i)) e =
     let (c, gens, accepted, (well, off)) = (entry-exactly text list i).0 e in
     let few = well.0.0 in
     let within = off.within in
     omega arith
-by_answer text list (Missing code) e =
+by_answer text list (Ok (Missing code)) e =
     let (c, gens, accepted, (well, lowest)) = (missing-exactly text list code).0 e in
     let small = code_lt lowest.rotation lowest.lacking.digits in
     let same = lowest.its-code in
     omega arith
-by_answer text list (Refused (Symbol r)) e = symbol-told text r ((symbol-first text list r).0 e)
-by_answer text list (Refused Length) e = near (omega arith) (omega arith) (omega arith)
-by_answer text list (Refused (WrongEntry i)) e =
+by_answer text list (Err (Symbol r)) e = symbol-told text r ((symbol-first text list r).0 e)
+by_answer text list (Err Length) e = near (omega arith) (omega arith) (omega arith)
+by_answer text list (Err (WrongEntry i)) e =
     let (c, gens, accepted, wrong) = (range-exactly text list i).0 e in
     let few = wrong.right-length.0 in
     let within = wrong.within in

@@ -1,5 +1,5 @@
 -- What can be asked of a symbol, plain or of a layer, what is answered, and that the list of its group answers so.
-use Rattle.std.specs.Prelude.{◌≡◌, refl, Bool, true, false, cond, List, ℕ, ◌+◌, ◌≤◌, ltb, get_or}
+use Rattle.std.specs.Prelude.{◌≡◌, refl, Bool, true, false, cond, List, ℕ, ◌+◌, ◌≤◌, ltb, get_or, None, Ok, Some}
 use Rattle.std.proofs.Common.{sym, ◌∙◌, ap}
 use Rattle.operation.specs.Answer.{Answer, given, refused, Nothing}
 use Rattle.operation.specs.Product.{identity_operation}
@@ -10,14 +10,12 @@ use Rattle.symbol_group.specs.Refusals as symbol-refusals
 use Rattle.symbol_group.specs.Slots.{symbol-slots}
 use Rattle.symbol_group.specs.declared.Answer.TheVariants as symbol-answer
 use Rattle.symbol_group.specs.declared.SymbolGroup.{SymbolGroup}
-use Rattle.symbol_group.specs.declared.SymbolOperation.TheVariants as symbol-operation
 use Rattle.symbol_group.specs.declared.refusal.Refusal as symbol-refusal
 use Rattle.layer_group.specs.Answers as layer
 use Rattle.layer_group.specs.Refusals as layer-refusals
 use Rattle.layer_group.specs.Slots.{layer-places}
 use Rattle.layer_group.specs.declared.Answer.TheVariants as layer-answer
 use Rattle.layer_group.specs.declared.LayerGroup.{LayerGroup}
-use Rattle.layer_group.specs.declared.LayerOperation.TheVariants as layer-operation
 use Rattle.layer_group.specs.declared.refusal.Refusal as layer-refusal
 use Rattle.symbol_numbers.specs.Answers.{letter_answer}
 use Rattle.symbol_numbers.specs.LayerBounds.{layer-told}
@@ -47,7 +45,7 @@ layer_to (Operation i) text = mapped operation_number (layer.operation_answer (l
 -- ---- plain symbols
 symbol-by : (b : Bool) (o : operation.Operation)
     → cond b (given (operation_number o)) (refused 28 0 tt)
-    ≡ mapped operation_number (symbol.operation_answer (cond b (symbol-operation.Operation o) symbol-operation.PastEnd))
+    ≡ mapped operation_number (symbol.operation_answer (cond b (Ok (Some o)) (Ok None)))
 symbol-by true o = refl
 symbol-by false o = refl
 
@@ -79,7 +77,7 @@ module _ (text : List ℕ) (g : SymbolGroup) (e : g ≡ symbol.symbol_answer tex
 -- ---- layer symbols
 layer-by : (b : Bool) (o : operation.Operation)
     → cond b (given (operation_number o)) (refused 28 0 tt)
-    ≡ mapped operation_number (layer.operation_answer (cond b (layer-operation.Operation o) layer-operation.PastEnd))
+    ≡ mapped operation_number (layer.operation_answer (cond b (Ok (Some o)) (Ok None)))
 layer-by true o = refl
 layer-by false o = refl
 

@@ -1,6 +1,6 @@
 -- What is answered for a symbol's text can be packed: orders are at most 48, operations have entries in −1..1 and coordinates below 12, and places
 -- are at most 80.
-use Rattle.std.specs.Prelude.{◌≡◌, refl, Bool, true, false, cond, ℕ, ◌-◌, ◌<◌, ltb, length, get_or, replicate}
+use Rattle.std.specs.Prelude.{◌≡◌, refl, Bool, true, false, cond, ℕ, ◌-◌, ◌<◌, ltb, length, get_or, replicate, Err, None, Ok, Some}
 use mathlib.Core.List.{List, Memᴰ as Mem}
 use Rattle.std.proofs.Common.{arith, ltb-true}
 use Rattle.std.proofs.Math.ListN.{get_or-append}
@@ -28,14 +28,13 @@ use Rattle.symbol_group.specs.Slots.{symbol-slots}
 use Rattle.symbol_group.specs.Refusals.{number_of, place_of}
 use Rattle.symbol_group.specs.declared.Answer.{Answer}
 use Rattle.symbol_group.specs.declared.Answer.TheVariants.{Group, Refused}
-use Rattle.symbol_group.specs.declared.SymbolOperation.TheVariants.{Operation as Found, PastEnd}
 use Rattle.symbol_group.specs.declared.refusal.Refusal.{Refusal}
 use Rattle.symbol_group.specs.declared.refusal.Refusal.TheVariants.{Text, Group as NoGroup}
 use Rattle.record_writing.specs.Copying.{room_for}
 use Rattle.record_writing.specs.SymbolRecords.{written_by, symbol_record_of, symbol_record_answer}
-use Rattle.record_writing.specs.declared.SymbolRecord.TheVariants.{Written, NoRoom}
 use Rattle.symbol_numbers.specs.Answers.{letter_by, letter_answer}
 use Rattle.answer_numbers.specs.Packing.{Told, Close, near, Within, Low, AnyLetter}
+use Rattle.record_writing.specs.declared.Unwritten.TheVariants.{NoRoom}
 
 -- ---- places
 -- 1 to 11 and 17: numbers and places of a text are small.
@@ -110,7 +109,7 @@ operation-by : (bytes : List ℕ) (i : ℕ) (a : Answer) → (symbol_answer byte
 operation-by bytes i Group e = by-test (ltb i (symbol_answer bytes).count) refl
   where
     by-test : (b : Bool) → ltb i (symbol_answer bytes).count ≡ b
-        → Within Reduced (operation_answer (cond b (Found (get_or (symbol_answer bytes).operations i identity_operation)) PastEnd))
+        → Within Reduced (operation_answer (cond b (Ok (Some (get_or (symbol_answer bytes).operations i identity_operation))) (Ok None)))
     by-test true t = symbol-reduced bytes i (ltb-true i (symbol_answer bytes).count t)
     by-test false t = past_end
 operation-by bytes i (Refused r) e = symbol-told bytes r e
@@ -136,7 +135,7 @@ record-by : (bytes : List ℕ) (start size : ℕ) (a : Answer) → (symbol_answe
     → Within Low (symbol_record_answer (written_by a (symbol_answer bytes).count start size))
 record-by bytes start size Group e = by-room (room_for start (symbol_answer bytes).count size)
   where
-    by-room : (b : Bool) → Within Low (symbol_record_answer (cond b (Written (symbol_answer bytes).count) NoRoom))
+    by-room : (b : Bool) → Within Low (symbol_record_answer (cond b (Ok (symbol_answer bytes).count) (Err NoRoom)))
     by-room true = omega (arith, (symbol-slots bytes).0)
     by-room false = near (omega arith) (omega arith) (omega arith)
 record-by bytes start size (Refused r) e = symbol-told bytes r e

@@ -10,7 +10,7 @@ use super::question::{Question, answered};
 use answer_numbers::refused;
 use layer_group::refusal::Refusal;
 use layer_group::{Answer, LayerGroup};
-use record_writing::LayerRecord;
+use record_writing::Unwritten;
 
 pub fn order(text: &[u8]) -> u64
     ensures { result ≡ packed (order_answer (order_of text.now)) }
@@ -52,9 +52,9 @@ pub fn write_record(text: &[u8], out: &mut [u8], start: u64) -> u64
         × (out.new ≡ layer_buffer_of text.now out.old start) }
 {
     match record_writing::layer::write_record(text, out, start as usize) {
-        LayerRecord::Written(n) => n as u64,
-        LayerRecord::NoRoom => refused(20, 0),
-        LayerRecord::Refused(refusal) => refused_layer(refusal),
+        Ok(n) => n as u64,
+        Err(Unwritten::NoRoom) => refused(20, 0),
+        Err(Unwritten::Refused(refusal)) => refused_layer(refusal),
     }
 }
 

@@ -7,17 +7,17 @@ ghost use Rattle.symbol_numbers.specs.ListBounds.{said_number};
 ghost use Rattle.answer_numbers.specs.Packing.{packed, mapped, told_number};
 
 use answer_numbers::refused;
-use list_check::Checked;
+use list_check::Verdict;
 use list_check::refusal::Refusal;
 
 pub fn check_list(text: &[u8], list: &[u8]) -> u64
     ensures { result ≡ packed (mapped said_number (checked_answer (checked_of text.now list.now))) }
 {
     match list_check::check_list(text, list) {
-        Checked::Yes => 0,
-        Checked::Entry(i) => 65536 + i as u64,
-        Checked::Missing(code) => 131072 + code as u64,
-        Checked::Refused(refusal) => refused_list(refusal),
+        Ok(Verdict::Yes) => 0,
+        Ok(Verdict::Entry(i)) => 65536 + i as u64,
+        Ok(Verdict::Missing(code)) => 131072 + code as u64,
+        Err(refusal) => refused_list(refusal),
     }
 }
 

@@ -10,7 +10,7 @@ ghost use Rattle.answer_numbers.specs.Packing.{packed, mapped, operation_number,
 
 use super::question::{Question, answered};
 use answer_numbers::refused;
-use record_writing::SymbolRecord;
+use record_writing::Unwritten;
 use symbol_group::refusal::Refusal;
 use symbol_group::{Answer, SymbolGroup};
 
@@ -56,13 +56,13 @@ pub fn write_record(text: &[u8], out: &mut [u8], start: u64) -> u64
 }
 
 // What was written of a plain or a magnetic symbol, or why not.
-pub fn written(answer: SymbolRecord) -> u64
+pub fn written(answer: Result<usize, Unwritten<symbol_group::refusal::Refusal>>) -> u64
     ensures { result ≡ told_answer (symbol_record_answer answer) }
 {
     match answer {
-        SymbolRecord::Written(n) => n as u64,
-        SymbolRecord::NoRoom => refused(20, 0),
-        SymbolRecord::Refused(refusal) => refused_symbol(refusal),
+        Ok(n) => n as u64,
+        Err(Unwritten::NoRoom) => refused(20, 0),
+        Err(Unwritten::Refused(refusal)) => refused_symbol(refusal),
     }
 }
 

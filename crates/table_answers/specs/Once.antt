@@ -1,9 +1,7 @@
 -- Number, place and value determine an answer on a table: each refusal is found from its number.
-use Rattle.std.specs.Prelude.{◌≡◌, refl, cond, ℕ, eqb}
+use Rattle.std.specs.Prelude.{◌≡◌, refl, cond, ℕ, eqb, Err, Ok, Result}
 use Rattle.std.proofs.Common.{sym, ap, ◌∙◌, arith}
 use Rattle.finite_group.specs.Answers.{number_of, table_answer}
-use Rattle.table_check.specs.declared.Answer.{Answer}
-use Rattle.table_check.specs.declared.Answer.TheVariants.{Value, Refused}
 use Rattle.table_check.specs.declared.Refusal.{Refusal}
 use Rattle.table_check.specs.declared.Refusal.TheVariants.{Order, Cells, Identity, Inverse, Associativity, Slots, Subgroup, Element, Normalizer}
 
@@ -31,8 +29,8 @@ found Normalizer = refl
 pub number-once : (r s : Refusal) → number_of r ≡ number_of s → r ≡ s
 number-once r s e = sym (found r) ∙ ap refusal_of e ∙ found s
 
-pub answer-once : (a b : Answer) → table_answer a ≡ table_answer b → a ≡ b
-answer-once (Value v) (Value w) e = let same : v ≡ w = cc in ap Value same
-answer-once (Value v) (Refused r) e = let z : ◌≡◌ {A = ℕ} 0 1 = cc in absurd (omega arith)
-answer-once (Refused r) (Value w) e = let z : ◌≡◌ {A = ℕ} 0 1 = cc in absurd (omega arith)
-answer-once (Refused r) (Refused s) e = let same : number_of r ≡ number_of s = cc in ap Refused (number-once r s same)
+pub answer-once : (a b : Result ℕ Refusal) → table_answer a ≡ table_answer b → a ≡ b
+answer-once (Ok v) (Ok w) e = let same : v ≡ w = cc in ap Ok same
+answer-once (Ok v) (Err r) e = let z : ◌≡◌ {A = ℕ} 0 1 = cc in absurd (omega arith)
+answer-once (Err r) (Ok w) e = let z : ◌≡◌ {A = ℕ} 0 1 = cc in absurd (omega arith)
+answer-once (Err r) (Err s) e = let same : number_of r ≡ number_of s = cc in ap Err (number-once r s same)

@@ -1,6 +1,6 @@
 -- Answers that are found by tests one after the other, as the definitions of the entries are: where each test tells its condition, the answer is the only
 -- one that its question leaves, and so is what lent lists hold.
-use Rattle.std.specs.Prelude.{◌≡◌, Bool, cond, List, ℕ}
+use Rattle.std.specs.Prelude.{◌≡◌, Bool, cond, List, ℕ, Err, Ok, Result}
 use Rattle.std.proofs.Math.Path.{refl}
 use Rattle.std.proofs.Common.{sym, ap, ◌∙◌, arith}
 use Rattle.std.proofs.Math.Bool.{true, false}
@@ -9,11 +9,10 @@ use Rattle.subgroup_laws.specs.Table.{GroupTable}
 use Rattle.finite_group.specs.Answers.{number_of, place_of, table_answer, on_group, on_bytes}
 use Rattle.table_check.specs.CheckAnswers.{check_of}
 use Rattle.table_check.specs.TableVerdict.{Verdict, order-refused, cells-refused, identity-refused, inverse-refused, associativity-refused, accepted, verdict-checked, checked-verdict}
-use Rattle.table_check.specs.declared.Answer.{Answer}
-use Rattle.table_check.specs.declared.Answer.TheVariants.{Value, Refused}
 use Rattle.table_check.specs.declared.Refusal.TheVariants as refusal
 use Rattle.table_answers.specs.LentLists.{Zeroed, Filled}
 use Rattle.table_answers.specs.Reasons.{Question, Reason, no-order, no_cells, no-identity, no-inverse, not-associative, no_room, no-subgroup, no-element, outside-normalizer, Says, refusing, answering, Exactly, exactly, Left, untouched, zeroed, filled}
+use Rattle.table_check.specs.declared.Refusal.{Refusal}
 
 -- a test tells whether something holds
 abbrev pub Decides : Bool → Type 0 → Type 0
@@ -33,9 +32,9 @@ pub record Tested (q : Question) (a b c d : Bool) : Type 0 where
   pub room : Lacks d q.room
 
 -- the answer by four tests
-abbrev pub by_tests : Bool → Bool → Bool → Bool → ℕ → Answer
+abbrev pub by_tests : Bool → Bool → Bool → Bool → ℕ → Result ℕ Refusal
 by_tests a b c d v =
-    cond a (cond b (cond c (cond d (Refused refusal.Slots) (Value v)) (Refused refusal.Normalizer)) (Refused refusal.Element)) (Refused refusal.Subgroup)
+    cond a (cond b (cond c (cond d (Err refusal.Slots) (Ok v)) (Err refusal.Normalizer)) (Err refusal.Element)) (Err refusal.Subgroup)
 
 -- what a lent list holds then
 abbrev pub bytes_by_tests : Bool → Bool → Bool → Bool → List ℕ → List ℕ → List ℕ → List ℕ
@@ -60,7 +59,7 @@ there false L x = refl
 
 module _ (n : ℕ) (t : List ℕ) (ask : ℕ → Question) (a b c d : ℕ → Bool) (tested : (e : ℕ) → GroupTable n t e → Tested (ask e) (a e) (b e) (c e) (d e)) where
   -- the answer on the group with identity e
-  abbrev on_element : ℕ → Answer
+  abbrev on_element : ℕ → Result ℕ Refusal
   on_element e = by_tests (a e) (b e) (c e) (d e) (ask e).value
 
   abbrev whole : told.Answer ℕ told.Nothing

@@ -1,6 +1,6 @@
 -- When a table is accepted and when it is refused (R8, refusals 21 to 25), in the words of group theory: of any bytes exactly one of
 -- the cases holds, and the check gives that one.
-use Rattle.std.specs.Prelude.{◌≡◌, ◌⊎◌, ◌↔◌, true, false, List, ℕ, ◌<◌, ◌≤◌, ltb}
+use Rattle.std.specs.Prelude.{◌≡◌, ◌⊎◌, ◌↔◌, true, false, List, ℕ, ◌<◌, ◌≤◌, ltb, Err, Ok, Result}
 use Rattle.std.proofs.Common.{sym, ◌∙◌}
 use Rattle.std.proofs.Math.Logic.{inl, inr}
 use Rattle.std.proofs.Math.Bool.{true≢false}
@@ -14,9 +14,8 @@ use Rattle.subgroup_laws.specs.Groups.{Group, identity_of, has_inverses, associa
 use Rattle.subgroup_laws.specs.Table.{product, Cells, good_cells, GroupTable}
 use Rattle.subgroup_laws.specs.TableCells.{good-cells, cells-good, product-below}
 use Rattle.table_check.specs.CheckAnswers.{check_of, Accepts}
-use Rattle.table_check.specs.declared.Checked.{Checked}
-use Rattle.table_check.specs.declared.Checked.TheVariants.{Group as IsGroup, NoGroup}
 use Rattle.table_check.specs.declared.Refusal.TheVariants.{Order, «Cells» as NoCells, Identity, Inverse, Associativity}
+use Rattle.table_check.specs.declared.Refusal.{Refusal}
 
 module _ (n : ℕ) (t : List ℕ) where
   -- each element has a two-sided inverse
@@ -24,16 +23,16 @@ module _ (n : ℕ) (t : List ℕ) where
   AllInverses e = (x : ℕ) → x < n → (y : ℕ) × TwoSidedInverse n (product n t) e x y
 
   -- each case with the refusals before it ruled out
-  pub data Verdict : Checked → Type 0 where
-    order-refused : (n ≡ 0) ⊎ (48 < n) → Verdict (NoGroup Order)
-    cells-refused : 0 < n → n ≤ 48 → ¬ Cells n t → Verdict (NoGroup NoCells)
-    identity-refused : 0 < n → Cells n t → ((e : ℕ) → ¬ TwoSidedIdentity n (product n t) e) → Verdict (NoGroup Identity)
+  pub data Verdict : Result ℕ Refusal → Type 0 where
+    order-refused : (n ≡ 0) ⊎ (48 < n) → Verdict (Err Order)
+    cells-refused : 0 < n → n ≤ 48 → ¬ Cells n t → Verdict (Err NoCells)
+    identity-refused : 0 < n → Cells n t → ((e : ℕ) → ¬ TwoSidedIdentity n (product n t) e) → Verdict (Err Identity)
     inverse-refused : 0 < n → Cells n t → (e : ℕ) → TwoSidedIdentity n (product n t) e
-        → (x : ℕ) → x < n → ((y : ℕ) → ¬ TwoSidedInverse n (product n t) e x y) → Verdict (NoGroup Inverse)
+        → (x : ℕ) → x < n → ((y : ℕ) → ¬ TwoSidedInverse n (product n t) e x y) → Verdict (Err Inverse)
     associativity-refused : 0 < n → Cells n t → (e : ℕ) → TwoSidedIdentity n (product n t) e → AllInverses e
         → (x y z : ℕ) → x < n → y < n → z < n
-        → (product n t (product n t x y) z ≡ product n t x (product n t y z) → ⊥) → Verdict (NoGroup Associativity)
-    accepted : 0 < n → Cells n t → (e : ℕ) → Group n (product n t) e → Verdict (IsGroup e)
+        → (product n t (product n t x y) z ≡ product n t x (product n t y z) → ⊥) → Verdict (Err Associativity)
+    accepted : 0 < n → Cells n t → (e : ℕ) → Group n (product n t) e → Verdict (Ok e)
 
   -- inverses for all pass the test
   all-inverses : (e : ℕ) → AllInverses e → has_inverses n (product n t) e ≡ true
@@ -51,7 +50,7 @@ module _ (n : ℕ) (t : List ℕ) where
   not-associative x y z h k l differ = not-passing _ (λ a. differ (associative-passes n (product n t) a x y z h k l))
 
   -- whatever case holds, the check gives it
-  pub verdict-checked : {c : Checked} → Verdict c → check_of n t ≡ c
+  pub verdict-checked : {c : Result ℕ Refusal} → Verdict c → check_of n t ≡ c
   unfolding check_of
   verdict-checked (order-refused (inl e)) = simp (eq-eqb n 0 e)
   verdict-checked (order-refused (inr h)) = let q : n ≡ 0 → ⊥ = λ e. omega arith in simp (ne_eqb n 0 q, lt-ltb 48 n h)
@@ -111,15 +110,15 @@ module _ (n : ℕ) (t : List ℕ) where
       (x, y, z, h, k, l, eqb-false _ _ e)
 
   -- an order, cells and an identity leave the last three cases
-  with-identity : 0 < n → Cells n t → (e : ℕ) → TwoSidedIdentity n (product n t) e → (c : Checked) × Verdict c
+  with-identity : 0 < n → Cells n t → (e : ℕ) → TwoSidedIdentity n (product n t) e → (c : Result ℕ Refusal) × Verdict c
   unfolding has_inverses
   with-identity h C e I = elim (passes-or-fails (has_inverses n (product n t) e)) [
     | inr f ↦ let (x, k, g) = every-fails _ n f in
-        (NoGroup Inverse, inverse-refused h C e I x k (λ y J. true≢false (sym (lt-ltb _ _ (inverse-found n (product n t) e x y J)) ∙ g)))
+        (Err Inverse, inverse-refused h C e I x k (λ y J. true≢false (sym (lt-ltb _ _ (inverse-found n (product n t) e x y J)) ∙ g)))
     | inl f ↦ elim (passes-or-fails (associates n (product n t))) [
-      | inl a ↦ (IsGroup e, accepted h C e (group-made n (product n t) (product-below n t C) e I f a))
+      | inl a ↦ (Ok e, accepted h C e (group-made n (product n t) (product-below n t C) e I f a))
       | inr a ↦ let (x, y, z, j, k, l, differ) = triple-found a in (
-        NoGroup Associativity,
+        Err Associativity,
         associativity-refused h C e I
             (λ x k. (_, found-inverse n (product n t) e x (ltb-true _ _ (every-passes _ n f x k)))) x y z j k l differ,
       )
@@ -127,19 +126,19 @@ module _ (n : ℕ) (t : List ℕ) where
   ]
 
   -- some case holds
-  some-verdict : (c : Checked) × Verdict c
+  some-verdict : (c : Result ℕ Refusal) × Verdict c
   some-verdict = elim (ℕ_discrete n 0) [
-    | yes e ↦ (NoGroup Order, order-refused (inl e))
+    | yes e ↦ (Err Order, order-refused (inl e))
     | no e ↦ elim (dec_lt 48 n) [
-      | yes h ↦ (NoGroup Order, order-refused (inr h))
+      | yes h ↦ (Err Order, order-refused (inr h))
       | no h ↦ elim (passes-or-fails (good_cells n t)) [
-        | inr g ↦ (NoGroup NoCells, cells-refused (omega arith) (omega arith) (λ C. true≢false (sym (cells-good n t C) ∙ g)))
+        | inr g ↦ (Err NoCells, cells-refused (omega arith) (omega arith) (λ C. true≢false (sym (cells-good n t C) ∙ g)))
         | inl g ↦
             let C = good-cells n t (omega arith) g in
             elim (dec_lt (identity_of n (product n t)) n) [
               | yes k ↦ with-identity (omega arith) C (identity_of n (product n t)) (found-identity n (product n t) k)
               | no k ↦ (
-                NoGroup Identity,
+                Err Identity,
                 identity-refused (omega arith) C
                     (λ e I. let q = identity-found n (product n t) e I in let l = I.below in k (omega arith)),
               )
@@ -156,7 +155,7 @@ module _ (n : ℕ) (t : List ℕ) where
 pub accepted-exactly : (n : ℕ) (t : List ℕ) (e : ℕ) → Accepts n t e ↔ ((0 < n) × Cells n t × Group n (product n t) e)
 accepted-exactly n t e = (λ p. read (checked-verdict n t) p, λ g. verdict-checked n t (accepted g.0 g.1 e g.2))
   where
-    read : {c : Checked} → Verdict n t c → c ≡ IsGroup e → (0 < n) × Cells n t × Group n (product n t) e
+    read : {c : Result ℕ Refusal} → Verdict n t c → c ≡ Ok e → (0 < n) × Cells n t × Group n (product n t) e
     read (order-refused h) p = absurd (let z : ◌≡◌ {A = ℕ} 0 1 = cc in omega arith)
     read (cells-refused h k f) p = absurd (let z : ◌≡◌ {A = ℕ} 0 1 = cc in omega arith)
     read (identity-refused h C f) p = absurd (let z : ◌≡◌ {A = ℕ} 0 1 = cc in omega arith)

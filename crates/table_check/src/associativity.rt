@@ -7,7 +7,7 @@ ghost use Rattle.subgroup_laws.specs.Groups.{associates};
 ghost use Rattle.subgroup_laws.specs.Table.{product, Cells};
 
 use super::table::cell;
-use element_sets::sets::{lowest, outside, rest_of, with_element, without};
+use element_sets::sets::{Members, lowest, outside, rest_of, with_element, without};
 use table_products::image;
 
 // A set with its products by j on the right, and then on the left.
@@ -27,15 +27,13 @@ fn generators(t: &[u8], n: usize, e: usize) -> u64
     let mut found = 0u64;
     let mut reached = 1u64 << e;
     let mut left = rest_of(n, reached);
+    // What is left loses more than the element taken, so this is no `for` over the members.
     while 0 < left {
         let j = lowest(left);
         let rest = without(left, j);
-        let more = with_element(found, j);
-        found = more;
-        let wider = widen(t, n, e, reached, j);
-        reached = wider;
-        let fewer = outside(rest, wider);
-        left = fewer;
+        found = with_element(found, j);
+        reached = widen(t, n, e, reached, j);
+        left = outside(rest, reached);
     }
     found
 }
@@ -45,22 +43,16 @@ pub(crate) fn is_associative(t: &[u8], n: usize, e: usize) -> bool
     requires { (Cells n t.now) × (TwoSidedIdentity n (product n t.now) e) }
     ensures { result ≡ associates n (product n t.now) }
 {
-    let mut good = true;
-    let mut left = generators(t, n, e);
-    'search: while 0 < left {
-        let j = lowest(left);
-        let rest = without(left, j);
-        left = rest;
+    for j in Members::of(generators(t, n, e)) {
         for i in 0..n {
             let ij = cell(t, n, i, j);
             for k in 0..n {
                 let jk = cell(t, n, j, k);
                 if cell(t, n, ij, k) != cell(t, n, i, jk) {
-                    good = false;
-                    break 'search;
+                    return false;
                 }
             }
         }
     }
-    good
+    true
 }

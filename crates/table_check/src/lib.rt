@@ -25,42 +25,24 @@ pub enum Refusal {
     Normalizer,
 }
 
-// A number, an element, a set or a count; or a refusal.
-#[derive(Clone, Copy)]
-pub enum Answer {
-    Value(u64),
-    Refused(Refusal),
-}
-
-// Whether bytes are the table of a group, and which element is its identity.
-#[derive(Clone, Copy)]
-pub enum Checked {
-    Group(usize),
-    NoGroup(Refusal),
-}
-
 // Refusals 21 to 25 in their order, or the identity of the group.
-pub fn from_table(n: usize, t: &[u8]) -> Checked
+pub fn from_table(n: usize, t: &[u8]) -> Result<usize, Refusal>
     ensures { result ≡ check_of n t.now }
 {
-    if n == 0 {
-        return Checked::NoGroup(Refusal::Order);
-    }
-    if 48 < n {
-        return Checked::NoGroup(Refusal::Order);
+    if n == 0 || 48 < n {
+        return Err(Refusal::Order);
     }
     if !good_cells(t, n) {
-        return Checked::NoGroup(Refusal::Cells);
+        return Err(Refusal::Cells);
     }
-    let e = identity_of(t, n);
-    if n <= e {
-        return Checked::NoGroup(Refusal::Identity);
-    }
+    let Some(e) = identity_of(t, n) else {
+        return Err(Refusal::Identity);
+    };
     if !has_inverses(t, n, e) {
-        return Checked::NoGroup(Refusal::Inverse);
+        return Err(Refusal::Inverse);
     }
     if !is_associative(t, n, e) {
-        return Checked::NoGroup(Refusal::Associativity);
+        return Err(Refusal::Associativity);
     }
-    Checked::Group(e)
+    Ok(e)
 }

@@ -1,6 +1,6 @@
 // The tests of a table that come before associativity: cells, identity, inverses.
 // Ported from subgroup/finite_group.rs of moyo 0.21.0 (`from_table`), and changed: one function a test.
-ghost use Rattle.std.specs.Prelude.{◌≡◌, ◌<◌, ◌≤◌};
+ghost use Rattle.std.specs.Prelude.{◌≡◌, ◌<◌, ◌≤◌, MatchOption};
 ghost use Rattle.subgroup_laws.specs.Groups.{is_identity, identity_of, has_inverses};
 ghost use Rattle.subgroup_laws.specs.Table.{product, Cells, good_cells};
 
@@ -19,65 +19,42 @@ pub(crate) fn good_cells(t: &[u8], n: usize) -> bool
     requires { n ≤ 48 }
     ensures { result ≡ good_cells n t.now }
 {
-    if t.len() != n * n {
-        return false;
-    }
-    let mut k = 0usize;
-    while k < t.len() {
-        let c = t[k] as usize;
-        if n <= c {
-            return false;
-        }
-        k += 1;
-    }
-    true
+    t.len() == n * n && t.iter().all(|c| (*c as usize) < n)
 }
 
 fn is_identity(t: &[u8], n: usize, e: usize) -> bool
     requires { (Cells n t.now) × (e < n) }
     ensures { result ≡ is_identity n (product n t.now) e }
 {
-    let mut x = 0usize;
-    while x < n {
-        if cell(t, n, e, x) != x {
+    for x in 0..n {
+        if cell(t, n, e, x) != x || cell(t, n, x, e) != x {
             return false;
         }
-        if cell(t, n, x, e) != x {
-            return false;
-        }
-        x += 1;
     }
     true
 }
 
-// The first two-sided identity, or n.
-pub(crate) fn identity_of(t: &[u8], n: usize) -> usize
+// The first two-sided identity.
+pub(crate) fn identity_of(t: &[u8], n: usize) -> Option<usize>
     requires { Cells n t.now }
-    ensures { result ≡ identity_of n (product n t.now) }
+    ensures { MatchOption result (identity_of n (product n t.now) ≡ n) (λ e. (e < n) × (e ≡ identity_of n (product n t.now))) }
 {
-    let mut e = 0usize;
-    let found = loop {
-        if n <= e {
-            break e;
-        }
+    for e in 0..n {
         if is_identity(t, n, e) {
-            break e;
+            return Some(e);
         }
-        e += 1;
-    };
-    found
+    }
+    None
 }
 
 pub(crate) fn has_inverses(t: &[u8], n: usize, e: usize) -> bool
     requires { Cells n t.now }
     ensures { result ≡ has_inverses n (product n t.now) e }
 {
-    let mut x = 0usize;
-    while x < n {
+    for x in 0..n {
         if n <= inverse(t, n, e, x) {
             return false;
         }
-        x += 1;
     }
     true
 }

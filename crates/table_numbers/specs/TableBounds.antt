@@ -1,6 +1,6 @@
 -- What is answered on the bytes of a table can be packed: elements and orders are at most 48, sets are below 2⁴⁸, and a list of
 -- different sets is no longer than that.
-use Rattle.std.specs.Prelude.{◌≡◌, refl, Bool, true, false, List, [], ◌∷◌, ℕ, zero, suc, ◌/◌, ◌^◌, ◌<◌, ◌≤◌, ltb, length}
+use Rattle.std.specs.Prelude.{◌≡◌, refl, Bool, true, false, List, [], ◌∷◌, ℕ, zero, suc, ◌/◌, ◌^◌, ◌<◌, ◌≤◌, ltb, length, Err, Ok, Result}
 use Rattle.std.proofs.Common.{ap, arith, ltb-true}
 use Rattle.std.proofs.Math.Bool.{cond}
 use Rattle.std.proofs.Math.Decide.{ℕ_discrete}
@@ -23,14 +23,12 @@ use Rattle.subgroup_laws.specs.Subsets.{is_subgroup, conjugate_of, normalizer_of
 use Rattle.subgroup_laws.specs.Table.{product}
 use Rattle.table_check.specs.CheckAnswers.{check_of}
 use Rattle.table_check.specs.TableVerdict.{Verdict, order-refused, cells-refused, identity-refused, inverse-refused, associativity-refused, accepted, checked-verdict}
-use Rattle.table_check.specs.declared.Answer.{Answer}
-use Rattle.table_check.specs.declared.Answer.TheVariants.{Value, Refused}
 use Rattle.table_check.specs.declared.Refusal.{Refusal}
 use Rattle.table_check.specs.declared.Refusal.TheVariants.{Order, Cells, Identity, Inverse, Associativity, Slots, Subgroup, Element, Normalizer}
 use Rattle.answer_numbers.specs.Packing.{Told, near, Within, Low}
 
 -- An answer that can be packed.
-abbrev pub Packable : Answer → Type 0
+abbrev pub Packable : Result ℕ Refusal → Type 0
 Packable a = Within Low (table_answer a)
 
 -- ---- refusals
@@ -48,7 +46,7 @@ refusal-told Element = near (omega arith) (omega arith) (omega arith)
 refusal-told Normalizer = near (omega arith) (omega arith) (omega arith)
 
 -- Either answer of a test, where the test's outcome may be used.
-either : (test : Bool) (a b : Answer) → (test ≡ true → Packable a) → Packable b → Packable (cond test a b)
+either : (test : Bool) (a b : Result ℕ Refusal) → (test ≡ true → Packable a) → Packable b → Packable (cond test a b)
 either true a b h k = h refl
 either false a b h k = k
 
@@ -88,27 +86,27 @@ module _ (n : ℕ) (times : ℕ → ℕ → ℕ) (e : ℕ) (G : Group n times e)
   list-packable : (p : ℕ → Bool) (b : List ℕ) → Packable (list_answer (listed n p) b)
   unfolding list_answer
   list-packable p b =
-      either (ltb (length b / 8) (length (listed n p))) (Refused Slots) (Value (length (listed n p)))
+      either (ltb (length b / 8) (length (listed n p))) (Err Slots) (Ok (length (listed n p)))
       (λ _. refusal-told Slots) (omega (arith, listed-short n p, few-sets n limit))
 
-  order-packable : Packable (Value n)
+  order-packable : Packable (Ok n)
   order-packable = omega arith
 
-  identity-packable : Packable (Value e)
+  identity-packable : Packable (Ok e)
   identity-packable = omega (arith, G.identity-below)
 
   conjugate-packable : (s g : ℕ) → Packable (conjugate_answer n times e s g)
   unfolding conjugate_answer
   conjugate-packable s g =
-      either (is_subgroup n times e s) (cond (ltb g n) (Value (conjugate_of n times e s g)) (Refused Element)) (Refused Subgroup)
-      (λ _. either (ltb g n) (Value (conjugate_of n times e s g)) (Refused Element)
+      either (is_subgroup n times e s) (cond (ltb g n) (Ok (conjugate_of n times e s g)) (Err Element)) (Err Subgroup)
+      (λ _. either (ltb g n) (Ok (conjugate_of n times e s g)) (Err Element)
       (λ _. set-low (conjugate_of n times e s g) (conjugate-below n times e G s g)) (refusal-told Element))
       (refusal-told Subgroup)
 
   normalizer-packable : (s : ℕ) → Packable (normalizer_answer n times e s)
   unfolding normalizer_answer normalizer_of
   normalizer-packable s =
-      either (is_subgroup n times e s) (Value (normalizer_of n times e s)) (Refused Subgroup)
+      either (is_subgroup n times e s) (Ok (normalizer_of n times e s)) (Err Subgroup)
       (λ _. set-low (normalizer_of n times e s) (set_of-below n (λ g. eqb (conjugate_of n times e s g) s))) (refusal-told Subgroup)
 
   -- A subgroup has at most as many members as the group.
@@ -119,12 +117,12 @@ module _ (n : ℕ) (times : ℕ → ℕ → ℕ) (e : ℕ) (G : Group n times e)
   permutation-packable : (s g : ℕ) (b : List ℕ) → Packable (permutation_answer n times e s g b)
   unfolding permutation_answer
   permutation-packable s g b =
-      let slots = cond (ltb (length b) (ones s)) (Refused Slots) (Value (ones s)) in
-      let normal = cond (eqb (conjugate_of n times e s g) s) slots (Refused Normalizer) in
-      either (is_subgroup n times e s) (cond (ltb g n) normal (Refused Element)) (Refused Subgroup)
-      (λ t. either (ltb g n) normal (Refused Element)
-      (λ _. either (eqb (conjugate_of n times e s g) s) slots (Refused Normalizer)
-      (λ _. either (ltb (length b) (ones s)) (Refused Slots) (Value (ones s)) (λ _. refusal-told Slots) (omega (arith, members-few s t)))
+      let slots = cond (ltb (length b) (ones s)) (Err Slots) (Ok (ones s)) in
+      let normal = cond (eqb (conjugate_of n times e s g) s) slots (Err Normalizer) in
+      either (is_subgroup n times e s) (cond (ltb g n) normal (Err Element)) (Err Subgroup)
+      (λ t. either (ltb g n) normal (Err Element)
+      (λ _. either (eqb (conjugate_of n times e s g) s) slots (Err Normalizer)
+      (λ _. either (ltb (length b) (ones s)) (Err Slots) (Ok (ones s)) (λ _. refusal-told Slots) (omega (arith, members-few s t)))
       (refusal-told Normalizer))
       (refusal-told Element))
       (refusal-told Subgroup)
@@ -132,16 +130,16 @@ module _ (n : ℕ) (times : ℕ → ℕ → ℕ) (e : ℕ) (G : Group n times e)
   conjugates-packable : (s : ℕ) (b c : List ℕ) → Packable (conjugates_answer n times e s b c)
   unfolding conjugates_answer conjugates_of others_of
   conjugates-packable s b c =
-      let fits = cond (too_short n times e s b c) (Refused Slots) (Value (length (conjugates_of n times e s))) in
-      either (is_subgroup n times e s) fits (Refused Subgroup)
-      (λ _. either (too_short n times e s b c) (Refused Slots) (Value (length (conjugates_of n times e s)))
+      let fits = cond (too_short n times e s b c) (Err Slots) (Ok (length (conjugates_of n times e s))) in
+      either (is_subgroup n times e s) fits (Err Subgroup)
+      (λ _. either (too_short n times e s b c) (Err Slots) (Ok (length (conjugates_of n times e s)))
       (λ _. refusal-told Slots) (omega (arith, listed-short n (is_other n times e s), few-sets n limit)))
       (refusal-told Subgroup)
 
 -- ---- on the bytes of a table
 module _ (n : ℕ) (t : List ℕ) where
   -- What is packable on every group of at most 48 elements is packable on them, a group's or not.
-  on-table : (f : ℕ → Answer) → ((e : ℕ) → Group n (product n t) e → n ≤ 48 → Packable (f e)) → Packable (on_group (check_of n t) f)
+  on-table : (f : ℕ → Result ℕ Refusal) → ((e : ℕ) → Group n (product n t) e → n ≤ 48 → Packable (f e)) → Packable (on_group (check_of n t) f)
   on-table f h = by-verdict (checked-verdict n t)
     where
       by-verdict : {c : _} → Verdict n t c → Packable (on_group c f)
@@ -153,10 +151,10 @@ module _ (n : ℕ) (t : List ℕ) where
       by-verdict (accepted k C e G) = h e G C.limit
 
   pub table-order : Packable (order_answer n t)
-  table-order = on-table (λ e. Value n) (λ e G k. order-packable n (product n t) e G k)
+  table-order = on-table (λ e. Ok n) (λ e G k. order-packable n (product n t) e G k)
 
   pub table-identity : Packable (identity_answer n t)
-  table-identity = on-table (λ e. Value e) (λ e G k. identity-packable n (product n t) e G k)
+  table-identity = on-table (λ e. Ok e) (λ e G k. identity-packable n (product n t) e G k)
 
   pub table-subgroups : (b : List ℕ) → Packable (subgroups_answer n t b)
   unfolding subgroups_of

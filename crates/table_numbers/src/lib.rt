@@ -6,7 +6,8 @@ ghost use Rattle.finite_group.specs.Answers.{table_answer, order_answer, identit
 ghost use Rattle.answer_numbers.specs.Packing.{packed};
 
 use answer_numbers::refused;
-use finite_group::{Answer, number};
+use finite_group::number;
+use table_check::Refusal;
 
 pub fn order(order: u64, table: &[u8]) -> u64
     ensures { result ≡ packed (table_answer (order_answer order table.now)) }
@@ -73,11 +74,11 @@ pub fn permutation(order: u64, table: &[u8], set: u64, element: u64, positions: 
     ))
 }
 
-fn answered(answer: Answer) -> u64
+fn answered(answer: Result<u64, Refusal>) -> u64
     ensures { result ≡ packed (table_answer answer) }
 {
     match answer {
-        Answer::Value(value) => value,
-        Answer::Refused(refusal) => refused(number(refusal), 0),
+        Ok(value) => value,
+        Err(refusal) => refused(number(refusal), 0),
     }
 }

@@ -9,7 +9,7 @@ ghost use Rattle.subgroup_laws.specs.Subsets.{image_of, conjugate_of};
 ghost use Rattle.subgroup_laws.specs.Table.{product, Cells, GroupTable};
 ghost use Rattle.table_products.specs.Sizes.{Sized};
 
-use element_sets::sets::{lowest, with_element, without};
+use element_sets::sets::{Members, with_element};
 
 // The product of i and j.
 fn cell(t: &[u8], n: usize, i: usize, j: usize) -> usize
@@ -23,16 +23,7 @@ fn cell(t: &[u8], n: usize, i: usize, j: usize) -> usize
 fn is_sized(t: &[u8], n: usize, s: u64) -> bool
     ensures { (result ≡ true → (Sized n t.now) × (s < 2 ^ n)) × (Cells n t.now → s < 2 ^ n → result ≡ true) }
 {
-    if 48 < n {
-        return false;
-    }
-    if t.len() != n * n {
-        return false;
-    }
-    if (1u64 << n) <= s {
-        return false;
-    }
-    true
+    n <= 48 && t.len() == n * n && s < 1u64 << n
 }
 
 // The set of (a x) b for the members x of s.
@@ -41,19 +32,13 @@ fn image_in(t: &[u8], n: usize, s: u64, a: usize, b: usize) -> u64
     ensures { Cells n t.now
         → result ≡ image_of n (λ (x : ℕ). product n t.now (product n t.now a x) b) s }
 {
-    let mut left = s;
     let mut found = 0u64;
-    while 0 < left {
-        let x = lowest(left);
+    for x in Members::of(s) {
         let y = cell(t, n, a, x);
         if n <= y {
             return 0;
         }
-        let z = cell(t, n, y, b);
-        let more = with_element(found, z);
-        found = more;
-        let rest = without(left, x);
-        left = rest;
+        found = with_element(found, cell(t, n, y, b));
     }
     found
 }
@@ -62,26 +47,18 @@ pub fn image(t: &[u8], n: usize, s: u64, a: usize, b: usize) -> u64
     ensures { Cells n t.now → s < 2 ^ n → a < n → b < n
         → result ≡ image_of n (λ (x : ℕ). product n t.now (product n t.now a x) b) s }
 {
-    if !is_sized(t, n, s) {
-        return 0;
+    if is_sized(t, n, s) && a < n && b < n {
+        image_in(t, n, s, a, b)
+    } else {
+        0
     }
-    if n <= a {
-        return 0;
-    }
-    if n <= b {
-        return 0;
-    }
-    image_in(t, n, s, a, b)
 }
 
 fn is_inverse(t: &[u8], n: usize, e: usize, x: usize, y: usize) -> bool
     requires { (Sized n t.now) × (x < n) × (y < n) }
     ensures { result ≡ is_inverse (product n t.now) e x y }
 {
-    if cell(t, n, x, y) != e {
-        return false;
-    }
-    cell(t, n, y, x) == e
+    cell(t, n, x, y) == e && cell(t, n, y, x) == e
 }
 
 // The first two-sided inverse of x, or n.
@@ -89,29 +66,22 @@ fn inverse_in(t: &[u8], n: usize, e: usize, x: usize) -> usize
     requires { (Sized n t.now) × (x < n) }
     ensures { result ≡ inverse_of n (product n t.now) e x }
 {
-    let mut y = 0usize;
-    let found = loop {
-        if n <= y {
-            break y;
-        }
+    for y in 0..n {
         if is_inverse(t, n, e, x, y) {
-            break y;
+            return y;
         }
-        y += 1;
-    };
-    found
+    }
+    n
 }
 
 pub fn inverse(t: &[u8], n: usize, e: usize, x: usize) -> usize
     ensures { Cells n t.now → x < n → result ≡ inverse_of n (product n t.now) e x }
 {
-    if !is_sized(t, n, 0) {
-        return n;
+    if is_sized(t, n, 0) && x < n {
+        inverse_in(t, n, e, x)
+    } else {
+        n
     }
-    if n <= x {
-        return n;
-    }
-    inverse_in(t, n, e, x)
 }
 
 // The set of the g⁻¹ x g for the members x of s.

@@ -12,12 +12,22 @@ use operation::code::rotation_code;
 pub fn hall_symbol_answer(text: &[u8]) -> u64
     ensures { result ≡ packed_answer (answer_of (read_symbol text.now)) }
 {
-    let symbol = HallSymbol::new(text);
-    let answer = symbol.answer;
-    let centering = symbol.centering;
-    let count = symbol.count;
-    match answer {
-        Answer::Symbol => (centering.byte() as u64) * 256 + (count % 256) as u64,
+    answer_number(HallSymbol::new(text))
+}
+
+// Rotation code·4096 + x·256 + y·16 + z of a generator, each coordinate modulo 16; of the identity past the slots.
+pub fn hall_symbol_generator(text: &[u8], index: u64) -> u64
+    ensures { result ≡ packed_generator (answer_of (read_symbol text.now)) index }
+{
+    generator_number(HallSymbol::new(text), index)
+}
+
+// The same of a symbol that was read.
+pub fn answer_number(symbol: HallSymbol) -> u64
+    ensures { result ≡ packed_answer symbol }
+{
+    match symbol.answer {
+        Answer::Symbol => (symbol.centering.byte() as u64) * 256 + (symbol.count % 256) as u64,
         Answer::Refused(refusal) => {
             let number = refusal.number() as u64;
             let place = (refusal.place() % 65536) as u64;
@@ -26,20 +36,15 @@ pub fn hall_symbol_answer(text: &[u8]) -> u64
     }
 }
 
-// Rotation code·4096 + x·256 + y·16 + z of a generator, each coordinate modulo 16; of the identity past the slots.
-pub fn hall_symbol_generator(text: &[u8], index: u64) -> u64
-    ensures { result ≡ packed_generator (answer_of (read_symbol text.now)) index }
+pub fn generator_number(symbol: HallSymbol, index: u64) -> u64
+    ensures { result ≡ packed_generator symbol index }
 {
-    let symbol = HallSymbol::new(text);
-    let generators = symbol.generators;
     if 9 <= index {
         return 0;
     }
-    let at = index as usize;
-    let o = generators[at];
-    let r = o.rotation;
+    let o = symbol.generators[index as usize];
     let t = o.translation;
-    (rotation_code(r) as u64) * 4096
+    (rotation_code(o.rotation) as u64) * 4096
         + ((t.x % 16) as u64) * 256
         + ((t.y % 16) as u64) * 16
         + (t.z % 16) as u64

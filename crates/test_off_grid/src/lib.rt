@@ -6,7 +6,7 @@ ghost use Rattle.std.specs.Prelude.{◌≡◌};
 ghost use Rattle.test_off_grid.specs.Component.{off_grid_index, off_grid_component};
 ghost use Rattle.operation.specs.Doubles.{on_grid};
 
-use operation::doubles::{Doubles, Grid, from_doubles};
+use operation::doubles::{Doubles, OffGrid, from_doubles};
 
 // The index of the first component off the grid, or 3 where all three are on it.
 #[unsafe(no_mangle)]
@@ -14,11 +14,8 @@ pub extern "C" fn off_grid_index(x: f64, y: f64, z: f64) -> u8
     ensures { result ≡ off_grid_index (on_grid (record { x = x; y = y; z = z })) }
 {
     match from_doubles(Doubles { x, y, z }) {
-        Grid::Twelfths(_) => 3,
-        Grid::Off {
-            index,
-            component: _,
-        } => index,
+        Ok(_) => 3,
+        Err(off) => off.index,
     }
 }
 
@@ -28,10 +25,7 @@ pub extern "C" fn off_grid_component(x: f64, y: f64, z: f64) -> f64
     ensures { result ≡ off_grid_component x (on_grid (record { x = x; y = y; z = z })) }
 {
     match from_doubles(Doubles { x, y, z }) {
-        Grid::Twelfths(_) => x,
-        Grid::Off {
-            index: _,
-            component,
-        } => component,
+        Ok(_) => x,
+        Err(off) => off.component,
     }
 }

@@ -6,7 +6,6 @@ ghost use Rattle.test_operations.specs.Packed.{packed_order, packed_operation, c
 ghost use Rattle.symbol_group.specs.Answers.{order_of, operation_at, translation_at};
 
 use operation::code::rotation_code;
-use symbol_group::{SymbolOperation, SymbolOrder, SymbolTranslation};
 
 // The order modulo 65536; or number·65536 + place modulo 65536.
 #[unsafe(no_mangle)]
@@ -14,10 +13,8 @@ pub extern "C" fn symbol_order(text: &[u8]) -> u64
     ensures { result ≡ packed_order (order_of text.now) }
 {
     match symbol_group::order(text) {
-        SymbolOrder::Is(n) => (n % 65536) as u64,
-        SymbolOrder::Refused(refusal) => {
-            (refusal.number() as u64) * 65536 + (refusal.place() % 65536) as u64
-        }
+        Ok(n) => (n % 65536) as u64,
+        Err(refusal) => { (refusal.number() as u64) * 65536 + (refusal.place() % 65536) as u64 }
     }
 }
 
@@ -27,7 +24,7 @@ pub extern "C" fn symbol_operation(text: &[u8], index: usize) -> u64
     ensures { result ≡ packed_operation (operation_at text.now index) }
 {
     match symbol_group::operation_at(text, index) {
-        SymbolOperation::Operation(o) => {
+        Ok(Some(o)) => {
             let r = o.rotation;
             let t = o.translation;
             (rotation_code(r) as u64) * 4096
@@ -35,8 +32,8 @@ pub extern "C" fn symbol_operation(text: &[u8], index: usize) -> u64
                 + ((t.y % 16) as u64) * 16
                 + (t.z % 16) as u64
         }
-        SymbolOperation::PastEnd => 1,
-        SymbolOperation::Refused(_) => 1,
+        Ok(None) => 1,
+        Err(_) => 1,
     }
 }
 
@@ -46,16 +43,12 @@ pub extern "C" fn symbol_translation(text: &[u8], index: usize, axis: u8) -> f64
     ensures { result ≡ component_of axis (translation_at text.now index) }
 {
     match symbol_group::translation_at(text, index) {
-        SymbolTranslation::Doubles(d) => {
-            if axis == 0 {
-                return d.x;
-            }
-            if axis == 1 {
-                return d.y;
-            }
-            d.z
-        }
-        SymbolTranslation::PastEnd => 2.0,
-        SymbolTranslation::Refused(_) => 2.0,
+        Ok(Some(d)) => match axis {
+            0 => d.x,
+            1 => d.y,
+            _ => d.z,
+        },
+        Ok(None) => 2.0,
+        Err(_) => 2.0,
     }
 }

@@ -1,10 +1,6 @@
 -- An operation in two numbers: its first eight entries, and its last one with the translation, a byte each; and a product's answer in the same form.
-use Rattle.std.specs.Prelude.{ℕ, ◌+◌, ◌*◌, ◌/◌, ◌%◌}
+use Rattle.std.specs.Prelude.{ℕ, ◌+◌, ◌*◌, ◌/◌, ◌%◌, None, Option, Some}
 use Rattle.operation.specs.declared.Operation.{Operation}
-use Rattle.operation.specs.declared.product.Product.{Product}
-use Rattle.operation.specs.declared.product.Product.TheVariants.{Inside, Outside}
-use Rattle.packed_operation.specs.declared.Numbered.{Numbered}
-use Rattle.packed_operation.specs.declared.Numbered.TheVariants as answer
 
 abbrev pub operation_in : ℕ → ℕ → Operation
 operation_in rows rest =
@@ -34,15 +30,15 @@ rest_of o =
     let t = o.translation in
     o.rotation.zz + t.x * 256 + t.y * 65536 + t.z * 16777216
 
-abbrev pub product_rows : Product → ℕ
-product_rows (Inside o) = rows_of o
-product_rows Outside = 0
+abbrev pub product_rows : Option Operation → ℕ
+product_rows (Some o) = rows_of o
+product_rows None = 0
 
-abbrev pub product_rest : Product → ℕ
-product_rest (Inside o) = rest_of o
-product_rest Outside = 4294967296
+abbrev pub product_rest : Option Operation → ℕ
+product_rest (Some o) = rest_of o
+product_rest None = 4294967296
 
 -- Bit 62 belongs to no field of a number.
-abbrev pub number_told : Numbered → ℕ
-number_told (answer.Inside n) = n
-number_told answer.Outside = 4611686018427387904
+abbrev pub number_told : Option ℕ → ℕ
+number_told (Some n) = n
+number_told None = 4611686018427387904

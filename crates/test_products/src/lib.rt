@@ -7,9 +7,9 @@ ghost use Rattle.operation.specs.Product.{product_of};
 ghost use Rattle.packed_operation.specs.Number.{said_by, flag_of, numbered};
 ghost use Rattle.test_products.specs.Packed.{operation_in, rows_of, rest_of, product_rows, product_rest, number_told};
 
-use operation::product::{Product, mul};
+use operation::product::mul;
 use operation::{Operation, Rotation, Translation};
-use packed_operation::{Numbered, product};
+use packed_operation::product;
 
 // Of the operations in f and p, and in g and q: the first eight entries of the product, a byte each, the first lowest; 0 where an entry has left −1..1.
 #[unsafe(no_mangle)]
@@ -17,8 +17,8 @@ pub extern "C" fn product_rows(f: u64, p: u64, g: u64, q: u64) -> u64
     ensures { result ≡ product_rows (product_of (operation_in f p) (operation_in g q)) }
 {
     match mul(operation_in(f, p), operation_in(g, q)) {
-        Product::Inside(o) => rows(o),
-        Product::Outside => 0,
+        Some(o) => rows(o),
+        None => 0,
     }
 }
 
@@ -28,8 +28,8 @@ pub extern "C" fn product_rest(f: u64, p: u64, g: u64, q: u64) -> u64
     ensures { result ≡ product_rest (product_of (operation_in f p) (operation_in g q)) }
 {
     match mul(operation_in(f, p), operation_in(g, q)) {
-        Product::Inside(o) => rest(o),
-        Product::Outside => 4294967296,
+        Some(o) => rest(o),
+        None => 4294967296,
     }
 }
 
@@ -39,8 +39,8 @@ pub extern "C" fn number_product(f: u64, g: u64) -> u64
     ensures { result ≡ number_told (numbered (product_of (said_by f) (said_by g)) ((flag_of f + flag_of g) % 2)) }
 {
     match product(f, g) {
-        Numbered::Inside(n) => n,
-        Numbered::Outside => 4611686018427387904,
+        Some(n) => n,
+        None => 4611686018427387904,
     }
 }
 
@@ -67,24 +67,18 @@ fn operation_in(rows: u64, rest: u64) -> Operation
     }
 }
 
-fn wide(byte: u8) -> u64
-    ensures { result ≡ byte }
-{
-    byte as u64
-}
-
 fn rows(o: Operation) -> u64
     ensures { result ≡ rows_of o }
 {
     let r = o.rotation;
-    wide(r.xx)
-        + wide(r.xy) * 256
-        + wide(r.xz) * 65536
-        + wide(r.yx) * 16777216
-        + wide(r.yy) * 4294967296
-        + wide(r.yz) * 1099511627776
-        + wide(r.zx) * 281474976710656
-        + wide(r.zy) * 72057594037927936
+    u64::from(r.xx)
+        + u64::from(r.xy) * 256
+        + u64::from(r.xz) * 65536
+        + u64::from(r.yx) * 16777216
+        + u64::from(r.yy) * 4294967296
+        + u64::from(r.yz) * 1099511627776
+        + u64::from(r.zx) * 281474976710656
+        + u64::from(r.zy) * 72057594037927936
 }
 
 fn rest(o: Operation) -> u64
@@ -92,5 +86,5 @@ fn rest(o: Operation) -> u64
 {
     let r = o.rotation;
     let t = o.translation;
-    wide(r.zz) + wide(t.x) * 256 + wide(t.y) * 65536 + wide(t.z) * 16777216
+    u64::from(r.zz) + u64::from(t.x) * 256 + u64::from(t.y) * 65536 + u64::from(t.z) * 16777216
 }

@@ -4,8 +4,8 @@
 
 ghost use Rattle.std.specs.Prelude.{◌<◌};
 
-use operation::code::{Decoded, rotation_of_code};
-use operation::rotation_type::{Identified, RotationType, identify_rotation_type};
+use operation::code::rotation_of_code;
+use operation::rotation_type::{RotationType, identify_rotation_type};
 use std::io;
 
 fn entry(digit: u8) -> i32 {
@@ -32,7 +32,7 @@ fn place(rotation_type: RotationType) -> u8 {
 }
 
 fn character(code: u32) -> u8 {
-    let Decoded::Inside(r) = rotation_of_code(code) else {
+    let Some(r) = rotation_of_code(code) else {
         return b'?';
     };
     let identified = identify_rotation_type(
@@ -47,8 +47,8 @@ fn character(code: u32) -> u8 {
         entry(r.zz),
     );
     match identified {
-        Identified::Known(rotation_type) => place(rotation_type),
-        Identified::Refused => b'.',
+        Some(rotation_type) => place(rotation_type),
+        None => b'.',
     }
 }
 

@@ -7,10 +7,10 @@ use Rattle.answer_text.specs.Answering.{answer-put}
 use Rattle.placed_text.specs.Placing.{put_then}
 use Rattle.answer_text.proofs.answer_text.Goals as goal
 
-pub put_answer-length-requires : goal.put_answer-length-requires
-put_answer-length-requires c =
+pub put_answer-requires : goal.put_answer-requires
+put_answer-requires c =
     let line = c.args.line.now in
-    omega (arith, c.put_symbol-start.ensures.place, c.put_symbol-start.auto.out, length-append (take 80 line) (newline ∷ []), length-take 80 line)
+    omega (arith, c.put_symbol.ensures.place, length-append (take 80 line) (newline ∷ []), length-take 80 line)
 
 pub returns : goal.returns
-returns c = answer-put c.args.line.now _ _ (put_then c.put_symbol-start.ensures c.put_answer-length.ensures)
+returns c = answer-put c.args.line.now _ _ (put_then c.put_symbol.ensures c.put_answer.ensures)

@@ -1,4 +1,5 @@
 -- No line, no answer; else the writing of its record.
+use Rattle.std.specs.Prelude.{Ok}
 use Rattle.std.proofs.lemmas.Bool.{not_from_false, not_from_true}
 use mathlib.Core.Path.{◌≡◌, refl, sym, ap}
 use native.Mathlib.Omega.{arith}
@@ -6,8 +7,8 @@ use lib.ListN.{length}
 use lib.Seq.{length-take-le}
 use borrow.Author.Tests.{not-true, not-false}
 use borrow.Author.Rules.{rules}
-use Rattle.catalogue.specs.declared.Answer.TheVariants.{Told}
 use Rattle.catalogue.proofs.told.Goals as goal
+use Rattle.catalogue.specs.declared.Progress.TheVariants.{Told}
 
 pub returns-then-not-finished : goal.returns-then-not-finished
 returns-then-not-finished c =
@@ -27,4 +28,4 @@ slice_bounds-write_record-end c =
 pub returns : goal.returns
 returns c =
     let e = not-false c.args.finished (not_from_true _ c.if-not-finished.false) in
-    (rw e (ap (Told c.args.taken) c.write_record.ensures.0), rw e c.write_record.ensures.1)
+    (rw e (ap ((λ y. Ok (Told c.args.taken y))) c.write_record.ensures.0), rw e c.write_record.ensures.1)

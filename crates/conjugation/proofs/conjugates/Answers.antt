@@ -5,11 +5,11 @@ use Rattle.conjugation.proofs.conjugates.Goals as goal
 
 pub conjugates_in-requires : goal.conjugates_in-requires
 conjugates_in-requires c = checked-table _ _ _ (sym c.from_table.ensures
-    ∙ c.in-Group.is)
+    ∙ c.in-Ok.is)
 
-pub returns-in-Group : goal.returns-in-Group
-returns-in-Group c = simp (sym c.from_table.ensures
-    ∙ c.in-Group.is) c.conjugates_in.ensures
+pub returns-in-Ok : goal.returns-in-Ok
+returns-in-Ok c = simp (sym c.from_table.ensures
+    ∙ c.in-Ok.is) c.conjugates_in.ensures
 
-pub returns-in-NoGroup : goal.returns-in-NoGroup
-returns-in-NoGroup c = simp (sym c.from_table.ensures ∙ c.in-NoGroup.is) (refl, refl, refl)
+pub returns-in-Err : goal.returns-in-Err
+returns-in-Err c = simp (sym c.from_table.ensures ∙ c.in-Err.is) (refl, refl, refl)

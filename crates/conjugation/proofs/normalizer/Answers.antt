@@ -4,10 +4,10 @@ use Rattle.table_check.specs.TableVerdict.{checked-table}
 use Rattle.conjugation.proofs.normalizer.Goals as goal
 
 pub normalizer_in-requires : goal.normalizer_in-requires
-normalizer_in-requires c = checked-table _ _ _ (sym c.from_table.ensures ∙ c.in-Group.is)
+normalizer_in-requires c = checked-table _ _ _ (sym c.from_table.ensures ∙ c.in-Ok.is)
 
-pub returns-in-Group : goal.returns-in-Group
-returns-in-Group c = c.normalizer_in.ensures ∙ simp (sym c.from_table.ensures ∙ c.in-Group.is)
+pub returns-in-Ok : goal.returns-in-Ok
+returns-in-Ok c = c.normalizer_in.ensures ∙ simp (sym c.from_table.ensures ∙ c.in-Ok.is)
 
-pub returns-in-NoGroup : goal.returns-in-NoGroup
-returns-in-NoGroup c = simp (sym c.from_table.ensures ∙ c.in-NoGroup.is)
+pub returns-in-Err : goal.returns-in-Err
+returns-in-Err c = simp (sym c.from_table.ensures ∙ c.in-Err.is)

@@ -2,8 +2,8 @@
 use mathlib.Core.Path.{sym, ◌∙◌}
 use Rattle.finite_group.proofs.identity.Goals as goal
 
-pub returns-in-Group : goal.returns-in-Group
-returns-in-Group c = simp (sym c.from_table.ensures ∙ c.in-Group.is)
+pub returns-in-Ok : goal.returns-in-Ok
+returns-in-Ok c = simp (sym c.from_table.ensures ∙ c.in-Ok.is)
 
-pub returns-in-NoGroup : goal.returns-in-NoGroup
-returns-in-NoGroup c = simp (sym c.from_table.ensures ∙ c.in-NoGroup.is)
+pub returns-in-Err : goal.returns-in-Err
+returns-in-Err c = simp (sym c.from_table.ensures ∙ c.in-Err.is)

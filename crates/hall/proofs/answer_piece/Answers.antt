@@ -43,16 +43,12 @@ loop-from-preserved g c =
       ),
     )
 
-pub returns-clause-kept : goal.returns-clause-kept
-returns-clause-kept g c =
-    let l = c.loop-from in
-    λ e. kept_whole c.args.piece.now l.from (held l.line) (omega arith) ∙ l.invariant.2
-
-pub returns-clause-written : goal.returns-clause-written
-returns-clause-written g c =
+pub returns : goal.returns
+returns g c =
     let l = c.loop-from in
     let (written, there, all) = l.invariant.3 in
-    let whole = texts_of (handed_over (held c.args.kept) c.args.piece.now) in
-    λ e.
-    subst (Appends (g.W.Write.contents c.args.out.now) (g.W.Write.contents l.out)) {x = written} {y = whole}
-    (written_whole c.args.piece.now l.from (held l.line) written whole (omega arith) all) there
+    let whole = texts_of (handed_over (held c.args.kept) c.args.piece.now) in (
+      kept_whole c.args.piece.now l.from (held l.line) (omega arith) ∙ l.invariant.2,
+      subst (Appends (g.W.Write.contents c.args.out.now) (g.W.Write.contents l.out)) {x = written} {y = whole}
+          (written_whole c.args.piece.now l.from (held l.line) written whole (omega arith) all) there,
+    )

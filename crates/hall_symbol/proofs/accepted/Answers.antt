@@ -9,4 +9,4 @@ use Rattle.hall_symbol.proofs.accepted.Goals as goal
 pub returns : goal.returns
 returns c =
     let long : length c.args.list.operations ≡ 9 = search rules in
-    accepted-answer c.args.centering c.args.list c.args.v c.shifted_all-moved.result (omega arith) c.shifted_all-moved.ensures
+    accepted-answer c.args.centering c.args.list c.args.v c.shifted_all-count.result (omega arith) c.shifted_all-count.ensures

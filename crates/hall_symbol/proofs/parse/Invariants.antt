@@ -8,10 +8,10 @@ use Rattle.hall_symbol.specs.Reader.{operations, no_previous}
 use Rattle.hall_symbol.specs.Walk.{Reached}
 use Rattle.hall_symbol.proofs.parse.Given as goal
 
-abbrev pub invariant-loop-list : goal.invariant-loop-list
-invariant-loop-list l =
+abbrev pub invariant-loop-word : goal.invariant-loop-word
+invariant-loop-word l =
     Reached l.text l.centering (operations (length l.text) l.centering (list_of l.initial.list) no_previous
     (tokens_from l.initial.at true (drop l.initial.at l.text))) l.at l.list l.previous
 
-abbrev pub decreases-loop-list : goal.decreases-loop-list
-decreases-loop-list l = length l.text - l.at
+abbrev pub decreases-loop-word : goal.decreases-loop-word
+decreases-loop-word l = length l.text - l.at

@@ -1,28 +1,19 @@
--- The plain symbol's answer decides, then its operations are looked at; the letter's byte leaves room for the small one.
-use mathlib.Core.Path.{refl, ◌∙◌, ap}
-use Prim.Native.Nat.{ℕ, ◌+◌}
-use native.Mathlib.Omega.{arith}
-use Rattle.layer_group.specs.Slots.{layer-refused, layer-slots, layer-off, layer-group, letter-refused, letter-given, small-fits}
-use Rattle.layer_group.specs.declared.refusal.Refusal.TheVariants.{Symbol, NoLayer}
-use Rattle.layer_group.specs.declared.LayerLetter.TheVariants.{Is}
+-- What was counted of the plain symbol's group decides; the letter's byte leaves room for the small one.
+use Rattle.std.specs.Prelude.{Ok}
+use Rattle.std.proofs.Common.{ℕ, ◌+◌, Err, refl, sym, ◌∙◌, ap, arith}
+use Rattle.layer_group.specs.Slots.{layer-slots, layer-counted, letter-refused, letter-given, small-fits}
 use Rattle.layer_group.proofs.letter.Goals as goal
 
-pub first_off-off-requires : goal.first_off-off-requires
-first_off-off-requires c = (layer-slots c.args.text.now c.plain-g.result c.plain-g.ensures).0
-
-pub returns-then-off-count : goal.returns-then-off-count
-returns-then-off-count c = letter-refused c.args.text.now _ (layer-off c.args.text.now c.plain-g.result c.plain-g.ensures c.in-Group.is c.first_off-off.result
-    c.first_off-off.ensures c.if-off-count.true) (NoLayer c.first_off-off.result) refl
+pub layered-requires : goal.layered-requires
+layered-requires c = layer-slots c.args.text.now c.plain-g.result c.plain-g.ensures
 
 pub overflow_add-result : goal.overflow_add-result
 overflow_add-result c = omega (arith, c.byte.ensures, small-fits c.plain-g.result.centering)
 
-pub returns-in-Refused : goal.returns-in-Refused
-returns-in-Refused c = letter-refused c.args.text.now _ (layer-refused c.args.text.now c.plain-g.result c.plain-g.ensures c.in-Refused.refusal c.in-Refused.is)
-    (Symbol c.in-Refused.refusal) refl
+pub returns-in-Ok : goal.returns-in-Ok
+returns-in-Ok c = ap (λ (b : ℕ). Ok (b + 32)) c.byte.ensures ∙ letter-given c.args.text.now _
+    (layer-counted c.args.text.now c.plain-g.result c.plain-g.ensures _ (sym c.layered.ensures ∙ c.in-Ok.is)) refl
 
-pub returns-else-off-count : goal.returns-else-off-count
-returns-else-off-count c =
-    ap (λ (b : ℕ). Is (b + 32)) c.byte.ensures
-    ∙ letter-given c.args.text.now _ (layer-group c.args.text.now c.plain-g.result c.plain-g.ensures c.in-Group.is c.first_off-off.result
-    c.first_off-off.ensures c.if-off-count.false) refl
+pub returns-in-Err : goal.returns-in-Err
+returns-in-Err c = letter-refused c.args.text.now _
+    (layer-counted c.args.text.now c.plain-g.result c.plain-g.ensures (Err c.in-Err.refusal) (sym c.layered.ensures ∙ c.in-Err.is)) c.in-Err.refusal refl

@@ -5,8 +5,8 @@ use Rattle.symbol_group.specs.Answers.{symbol_answer}
 use Rattle.layer_group.specs.Slots.{capitalised-length, plain-long}
 use Rattle.layer_group.proofs.plain.Goals as goal
 
-pub returns-then-n-gt80 : goal.returns-then-n-gt80
-returns-then-n-gt80 c = c.new.ensures ∙ plain-long c.args.text.now c.if-n-gt80.true
+pub returns-then-text-gt80 : goal.returns-then-text-gt80
+returns-then-text-gt80 c = c.new.ensures ∙ plain-long c.args.text.now c.if-text-gt80.true
 
 pub slice_bounds-new-end : goal.slice_bounds-new-end
 slice_bounds-new-end c = sym (ap length c.capitals-copy.ensures ∙ capitalised-length c.args.text.now)

@@ -14,18 +14,18 @@ returns-in_default c =
 pub returns-then-not-is_writable : goal.returns-then-not-is_writable
 returns-then-not-is_writable c =
     no-determinant c.args.bytes.now c.args.out.now _
-    (sym c.operation_in.ensures ∙ c.in-Is.is)
+    (sym c.operation_in.ensures ∙ c.in-Some.is)
     (sym c.is_writable.ensures ∙ not-true _ (not_from_false _ c.if-not-is_writable.true))
 
 pub write_fitting-requires : goal.write_fitting-requires
 write_fitting-requires c =
     (bytes-again c.args.bytes.now _ (λ i. omega (arith, c.shared_slice_known-1.given i))
-    (sym c.operation_in.ensures ∙ c.in-Is.is)).1
+    (sym c.operation_in.ensures ∙ c.in-Some.is)).1
 
 pub returns : goal.returns
 returns c =
     by-room c.args.bytes.now c.args.out.now _ _ _
     (sym c.operation_in.ensures
-    ∙ c.in-Is.is)
+    ∙ c.in-Some.is)
     (sym c.is_writable.ensures ∙ not-false _ (not_from_true _ c.if-not-is_writable.false))
     c.write_fitting.ensures

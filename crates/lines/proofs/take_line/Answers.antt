@@ -1,9 +1,11 @@
 use mathlib.Core.Path.{◌≡◌, ◌∙◌, ap}
 use mathlib.Core.Bool.{false}
-use Prim.Native.Nat.{◌-◌}
+use mathlib.Core.List.{[]}
+use Prim.Native.Nat.{ℕ}
 use native.Mathlib.Omega.{arith}
 use lib.ListN.{length}
 use Rattle.lines.specs.Taking.{taking-none, taking-all, taking-end, taking-more}
+use Rattle.lines.specs.Keeping.{line_in}
 use Rattle.lines.specs.declared.Line.{Line}
 use borrow.Author.Rules.{rules}
 use Rattle.lines.proofs.take_line.Goals as goal
@@ -29,5 +31,7 @@ pub returns : goal.returns
 returns c =
     let l = c.loop-i in
     let whole : length c.args.kept.bytes ≡ 80 = search rules in
-    ap (λ (n : Line). record { kept = l.line; taken = l.i; finished = false; line = n }) c.no_line.ensures
+    let all : length c.args.piece.now ≡ l.i = omega arith in
+    ap (λ (n : Line). record { kept = l.line; taken = length c.args.piece.now; finished = false; line = n }) c.no_line.ensures
+    ∙ ap (λ (n : ℕ). record { kept = l.line; taken = n; finished = false; line = line_in [] }) all
     ∙ taking-all c.args.kept c.args.piece.now whole l.line l.i l.invariant (omega arith)

@@ -5,12 +5,12 @@ use Rattle.table_check.specs.TableVerdict.{checked-table}
 use Rattle.subgroup_search.proofs.enumerate_subgroups.Goals as goal
 
 pub list_sets-requires : goal.list_sets-requires
-list_sets-requires c = checked-table _ _ _ (sym c.from_table.ensures ∙ c.in-Group.is)
+list_sets-requires c = checked-table _ _ _ (sym c.from_table.ensures ∙ c.in-Ok.is)
 
-pub returns-in-Group : goal.returns-in-Group
+pub returns-in-Ok : goal.returns-in-Ok
 unfolding subgroups_of
-returns-in-Group c = simp (sym c.from_table.ensures
-    ∙ c.in-Group.is) c.list_sets.ensures
+returns-in-Ok c = simp (sym c.from_table.ensures
+    ∙ c.in-Ok.is) c.list_sets.ensures
 
-pub returns-in-NoGroup : goal.returns-in-NoGroup
-returns-in-NoGroup c = simp (sym c.from_table.ensures ∙ c.in-NoGroup.is) (refl, refl)
+pub returns-in-Err : goal.returns-in-Err
+returns-in-Err c = simp (sym c.from_table.ensures ∙ c.in-Err.is) (refl, refl)

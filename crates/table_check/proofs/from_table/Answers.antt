@@ -1,6 +1,8 @@
 -- Each return rewrites the definition with the tests that led to it.
 use Rattle.std.proofs.lemmas.Bool.{not_from_false, not_from_true}
 use mathlib.Core.Path.{sym, ◌∙◌}
+use mathlib.Core.Logic.{inl, inr}
+use native.Mathlib.Omega.{arith}
 use borrow.Author.Tests.{eq-eqb, ne_eqb, lt-ltb, le-ltb, not-true, not-false}
 use Rattle.subgroup_laws.specs.GroupLaws.{found-identity}
 use Rattle.subgroup_laws.specs.TableCells.{good-cells}
@@ -9,11 +11,10 @@ use Rattle.table_check.proofs.from_table.Goals as goal
 
 pub returns-then-n-eq0 : goal.returns-then-n-eq0
 unfolding check_of
-returns-then-n-eq0 c = simp (eq-eqb _ _ c.if-n-eq0.true)
-
-pub returns-then-n-gt48 : goal.returns-then-n-gt48
-unfolding check_of
-returns-then-n-gt48 c = simp (ne_eqb _ _ c.if-n-eq0.false, lt-ltb _ _ c.if-n-gt48.true)
+returns-then-n-eq0 c = elim c.then-n-eq0.either [
+  | inl e ↦ simp (eq-eqb c.args.n 0 e)
+  | inr h ↦ simp (ne_eqb c.args.n 0 h.0, lt-ltb 48 c.args.n h.1)
+]
 
 pub returns-then-not-good_cells : goal.returns-then-not-good_cells
 unfolding check_of
@@ -24,18 +25,18 @@ returns-then-not-good_cells c =
       sym c.good_cells.ensures ∙ not-true _ (not_from_false _ c.if-not-good_cells.true),
     )
 
-pub identity_of-e-requires : goal.identity_of-e-requires
-identity_of-e-requires c = good-cells _ _ c.if-n-gt48.false (sym c.good_cells.ensures ∙ not-false _ (not_from_true _ c.if-not-good_cells.false))
+pub identity_of-requires : goal.identity_of-requires
+identity_of-requires c = good-cells _ _ c.if-n-gt48.false (sym c.good_cells.ensures ∙ not-false _ (not_from_true _ c.if-not-good_cells.false))
 
-pub returns-then-n-e : goal.returns-then-n-e
+pub returns-in_default : goal.returns-in_default
 unfolding check_of
-returns-then-n-e c =
+returns-in_default c =
     simp (
       ne_eqb _ _ c.if-n-eq0.false,
       le-ltb _ _ c.if-n-gt48.false,
       sym c.good_cells.ensures ∙ not-false _ (not_from_true _ c.if-not-good_cells.false),
-      ← c.identity_of-e.ensures,
-      le-ltb _ _ c.if-n-e.true,
+      c.in_default.ensures,
+      le-ltb c.args.n c.args.n (omega arith),
     )
 
 pub has_inverses-requires : goal.has_inverses-requires
@@ -50,17 +51,17 @@ returns-then-not-has_inverses c =
       ne_eqb _ _ c.if-n-eq0.false,
       le-ltb _ _ c.if-n-gt48.false,
       sym c.good_cells.ensures ∙ not-false _ (not_from_true _ c.if-not-good_cells.false),
-      ← c.identity_of-e.ensures,
-      lt-ltb _ _ c.if-n-e.false,
+      ← c.in-Some.ensures.1,
+      lt-ltb _ _ c.in-Some.ensures.0,
       sym c.has_inverses.ensures ∙ not-true _ (not_from_false _ c.if-not-has_inverses.true),
     )
 
 pub is_associative-requires : goal.is_associative-requires
 is_associative-requires c =
-    let it = c.identity_of-e.ensures in (
+    let it = c.in-Some.ensures.1 in (
       good-cells _ _ c.if-n-gt48.false (sym c.good_cells.ensures
           ∙ not-false _ (not_from_true _ c.if-not-good_cells.false)),
-      rw it (found-identity _ _ (rw it at c.if-n-e.false)),
+      rw it (found-identity _ _ (rw it at c.in-Some.ensures.0)),
     )
 
 pub returns-then-not-is_associative : goal.returns-then-not-is_associative
@@ -71,8 +72,8 @@ returns-then-not-is_associative c =
       le-ltb _ _ c.if-n-gt48.false,
       sym c.good_cells.ensures
           ∙ not-false _ (not_from_true _ c.if-not-good_cells.false),
-      ← c.identity_of-e.ensures,
-      lt-ltb _ _ c.if-n-e.false,
+      ← c.in-Some.ensures.1,
+      lt-ltb _ _ c.in-Some.ensures.0,
       sym c.has_inverses.ensures ∙ not-false _ (not_from_true _ c.if-not-has_inverses.false),
       sym c.is_associative.ensures ∙ not-true _ (not_from_false _ c.if-not-is_associative.true),
     )
@@ -85,8 +86,8 @@ returns c =
       le-ltb _ _ c.if-n-gt48.false,
       sym c.good_cells.ensures
           ∙ not-false _ (not_from_true _ c.if-not-good_cells.false),
-      ← c.identity_of-e.ensures,
-      lt-ltb _ _ c.if-n-e.false,
+      ← c.in-Some.ensures.1,
+      lt-ltb _ _ c.in-Some.ensures.0,
       sym c.has_inverses.ensures ∙ not-false _ (not_from_true _ c.if-not-has_inverses.false),
       sym c.is_associative.ensures ∙ not-false _ (not_from_true _ c.if-not-is_associative.false),
     )

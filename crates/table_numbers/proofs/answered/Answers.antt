@@ -3,6 +3,6 @@ use mathlib.Core.Path.{◌∙◌}
 use Rattle.finite_group.specs.Answers.{place_of}
 use Rattle.table_numbers.proofs.answered.Goals as goal
 
-pub returns-in-Refused : goal.returns-in-Refused
+pub returns-in-Err : goal.returns-in-Err
 unfolding place_of
-returns-in-Refused c = c.refused.ensures ∙ simp (c.number.ensures, c.in-Refused.is)
+returns-in-Err c = c.refused.ensures ∙ simp (c.number.ensures, c.in-Err.is)

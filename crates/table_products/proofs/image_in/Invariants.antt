@@ -9,8 +9,7 @@ use Rattle.table_products.proofs.image_in.Given as goal
 abbrev value : List ℕ → ℕ → ℕ → ℕ → ℕ → ℕ
 value t n a b x = product n t (product n t a x) b
 
-abbrev pub invariant-loop-left : goal.invariant-loop-left
-invariant-loop-left l = (l.left < 2 ^ l.n) × (Cells l.n l.t → Imaging l.n (value l.t l.n l.a l.b) l.s l.left l.found)
-
-abbrev pub decreases-loop-left : goal.decreases-loop-left
-decreases-loop-left l = l.left
+abbrev pub invariant-loop-x : goal.invariant-loop-x
+invariant-loop-x l =
+    goal.iterator-loop-x.can_next l.x-iterator × goal.iterator-loop-x.is_finite l.x-iterator
+    × (l.x-iterator.left < 2 ^ l.n) × (Cells l.n l.t → Imaging l.n (value l.t l.n l.a l.b) l.s l.x-iterator.left l.found)

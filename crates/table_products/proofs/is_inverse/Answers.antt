@@ -5,16 +5,10 @@ use Rattle.laws.specs.Truth.{and-fails-left}
 use Rattle.subgroup_laws.specs.Groups.{is_inverse}
 use Rattle.table_products.proofs.is_inverse.Goals as goal
 
-pub cell-requires : goal.cell-requires
-cell-requires c = c.requires
-
 pub returns-then-cell-e : goal.returns-then-cell-e
 unfolding is_inverse
-returns-then-cell-e c = sym (and-fails-left _ _ (ne_eqb _ _ (λ q. c.if-cell-e.true (c.cell.ensures ∙ q))))
+returns-then-cell-e c = simp (← c.cell.ensures, eq-eqb _ _ c.if-cell-e.true, ← c.cell-then-cell-e.ensures)
 
-pub cell-requires-2 : goal.cell-requires-2
-cell-requires-2 c = (c.requires.0, c.requires.2, c.requires.1)
-
-pub returns : goal.returns
+pub returns-else-cell-e : goal.returns-else-cell-e
 unfolding is_inverse
-returns c = simp (← c.cell.ensures, eq-eqb _ _ c.if-cell-e.false, ← c.cell-2.ensures)
+returns-else-cell-e c = let h = ne_eqb _ _ c.if-cell-e.false in h ∙ sym (and-fails-left _ _ (ne_eqb _ _ (λ q. c.if-cell-e.false (c.cell.ensures ∙ q))))

@@ -11,13 +11,13 @@ returns-then-index-ge9 c = simp (le-ltb _ _ c.if-index-ge9.true)
 pub returns-then-flag : goal.returns-then-flag
 returns-then-flag c =
     let index = c.args.index in
-    ◌∙◌ {b = packed_flag c.new-magnetic.result.flags index}
+    ◌∙◌ {b = packed_flag c.new.result.flags index}
     (simp (lt-ltb _ _ c.if-index-ge9.false, c.if-flag.true))
-    (ap (λ (m : MagneticSymbol). packed_flag m.flags index) c.new-magnetic.ensures)
+    (ap (λ (m : MagneticSymbol). packed_flag m.flags index) c.new.ensures)
 
-pub returns : goal.returns
-returns c =
+pub returns-else-flag : goal.returns-else-flag
+returns-else-flag c =
     let index = c.args.index in
-    ◌∙◌ {b = packed_flag c.new-magnetic.result.flags index}
+    ◌∙◌ {b = packed_flag c.new.result.flags index}
     (simp (lt-ltb _ _ c.if-index-ge9.false, c.if-flag.false))
-    (ap (λ (m : MagneticSymbol). packed_flag m.flags index) c.new-magnetic.ensures)
+    (ap (λ (m : MagneticSymbol). packed_flag m.flags index) c.new.ensures)

@@ -4,13 +4,13 @@ use Rattle.operation.specs.Doubles.{grid_answer}
 use Rattle.test_off_grid.specs.Component.{off_grid_component}
 use Rattle.test_off_grid.proofs.off_grid_component.Goals as goal
 
-pub returns-in-Twelfths : goal.returns-in-Twelfths
+pub returns-in-Ok : goal.returns-in-Ok
 unfolding grid_answer
-returns-in-Twelfths c =
-    ap (off_grid_component c.args.x) (sym (ap grid_answer c.in-Twelfths.is) ∙ c.from_doubles.ensures)
+returns-in-Ok c =
+    ap (off_grid_component c.args.x) (sym (ap grid_answer c.in-Ok.is) ∙ c.from_doubles.ensures)
 
-pub returns-in-Off : goal.returns-in-Off
+pub returns-in-Err : goal.returns-in-Err
 unfolding grid_answer
-returns-in-Off c =
-    ap (off_grid_component c.args.x) (sym (ap grid_answer c.in-Off.is)
+returns-in-Err c =
+    ap (off_grid_component c.args.x) (sym (ap grid_answer c.in-Err.is)
     ∙ c.from_doubles.ensures)

@@ -3,8 +3,8 @@ use mathlib.Core.Path.{sym, ◌∙◌, ap}
 use Rattle.test_products.specs.Packed.{number_told}
 use Rattle.test_products.proofs.number_product.Goals as goal
 
-pub returns-in-Inside : goal.returns-in-Inside
-returns-in-Inside c = ap number_told (sym c.in-Inside.is ∙ c.product.ensures)
+pub returns-in-Some : goal.returns-in-Some
+returns-in-Some c = ap number_told (sym c.in-Some.is ∙ c.product.ensures)
 
-pub returns-in-Outside : goal.returns-in-Outside
-returns-in-Outside c = ap number_told (sym c.in-Outside.is ∙ c.product.ensures)
+pub returns-in-None : goal.returns-in-None
+returns-in-None c = ap number_told (sym c.in-None.is ∙ c.product.ensures)

@@ -1,12 +1,8 @@
 -- The tests of the definition, then zeros or the positions.
 use Rattle.std.proofs.lemmas.Bool.{not_from_false, not_from_true}
-use mathlib.Core.Path.{◌≡◌, sym, ap, ◌∙◌}
-use mathlib.Core.List.{List, ◌++◌, append-nil}
-use Prim.Native.Nat.{ℕ}
+use mathlib.Core.Path.{sym, ◌∙◌}
 use native.Mathlib.Omega.{arith}
 use lib.Count.{ones-le}
-use lib.ListN.{length, drop, replicate}
-use lib.Seq.{drop-length}
 use borrow.Author.Tests.{not-true, not-false, lt-ltb, le-ltb, eq-eqb, ne_eqb}
 use Rattle.subgroup_laws.specs.SubgroupLaws.{test-subgroup}
 use Rattle.conjugation.specs.Answers.{permutation_answer, permutation_bytes}
@@ -51,23 +47,10 @@ returns-then-list-count c =
     ∙ not-false _ (not_from_true _ c.if-not-is_subgroup.false) in
     let p = c.requires in
     let it = c.conjugate_set.ensures p (test-subgroup _ _ _
-    c.requires.group _ t).small c.if-n-g.false in
-    let none : replicate (length c.args.list.now) 0 ++ drop (length c.args.list.now) c.args.list.now ≡ replicate (length c.args.list.now) 0 =
-    ap (λ (l : List ℕ). replicate (length c.args.list.now) 0 ++ l) (drop-length c.args.list.now) ∙ append-nil _ in (
-      simp (
-        t,
-        lt-ltb _ _ c.if-n-g.false,
-        ← it,
-        eq-eqb _ _ c.if-conjugate_set-s.false,
-        lt-ltb _ _ c.if-list-count.true,
-      ),
-      simp (
-        t,
-        lt-ltb _ _ c.if-n-g.false,
-        ← it,
-        eq-eqb _ _ c.if-conjugate_set-s.false,
-        lt-ltb _ _ c.if-list-count.true,
-      ) (c.clear.ensures (omega arith) ∙ none),
+    c.requires.group _ t).small c.if-n-g.false in (
+      simp (t, lt-ltb _ _ c.if-n-g.false, ← it, eq-eqb _ _ c.if-conjugate_set-s.false, lt-ltb _ _ c.if-list-count.true),
+      simp (t, lt-ltb _ _ c.if-n-g.false, ← it, eq-eqb _ _ c.if-conjugate_set-s.false, lt-ltb _ _ c.if-list-count.true)
+          (c.fill.ensures.after (λ y k. cc)),
     )
 
 pub permute-requires : goal.permute-requires

@@ -1,16 +1,12 @@
 use Rattle.std.proofs.lemmas.Bool.{not_from_false, not_from_true}
 use mathlib.Core.Path.{sym, ◌∙◌}
-use mathlib.Core.Bool.{true}
-use Prim.Native.Nat.{◌<◌, ◌-◌}
+use Prim.Native.Nat.{◌<◌}
 use native.Mathlib.Omega.{arith}
 use borrow.Author.Count.{below_more}
 use borrow.Author.Tests.{not-true, not-false}
 use Rattle.subgroup_laws.specs.Bounded.{fails-every, passes-every}
 use Rattle.subgroup_laws.specs.Subsets.{holds_row}
 use Rattle.conjugation.proofs.subgroup.holds_row.Goals as goal
-
-pub loop-y-init : goal.loop-y-init
-loop-y-init c = (omega arith, λ i h. absurd (omega arith))
 
 pub returns-then-not-holds_product : goal.returns-then-not-holds_product
 unfolding holds_row
@@ -20,12 +16,9 @@ returns-then-not-holds_product c =
     sym (fails-every _ n c.loop-y.y h (sym c.holds_product.ensures ∙ not-true _ (not_from_false _ c.if-not-holds_product.true)))
 
 pub loop-y-preserved : goal.loop-y-preserved
-loop-y-preserved c = (
-  omega arith,
-  below_more _ _ c.loop-y.invariant.1 (sym c.holds_product.ensures
-      ∙ not-false _ (not_from_true _ c.if-not-holds_product.false)),
-)
+loop-y-preserved c = below_more _ _ c.loop-y.invariant (sym c.holds_product.ensures
+    ∙ not-false _ (not_from_true _ c.if-not-holds_product.false))
 
 pub returns : goal.returns
 unfolding holds_row
-returns c = sym (passes-every _ _ (λ i h. c.loop-y.invariant.1 i (omega arith)))
+returns c = sym (passes-every _ _ (λ i h. c.loop-y.invariant i (omega arith)))

@@ -1,8 +1,7 @@
 use mathlib.Core.Path.{◌≡◌, refl, sym, ap, ◌∙◌}
-use mathlib.Core.Logic.{⊎_elim}
 use mathlib.Core.Bool.{Bool}
 use mathlib.Core.List.{List}
-use Prim.Native.Nat.{ℕ, ◌-◌, ◌<◌}
+use Prim.Native.Nat.{ℕ, ◌<◌}
 use native.Mathlib.Omega.{arith}
 use lib.Dec.{eqb}
 use borrow.Author.Tests.{eq-eqb, ne_eqb}
@@ -18,7 +17,7 @@ keeps t n e s g = eqb (conjugate_of n (product n t) e s g) s
 
 pub loop-g-init : goal.loop-g-init
 unfolding set_of
-loop-g-init c = (omega arith, refl)
+loop-g-init c = refl
 
 pub overflow_shl-found : goal.overflow_shl-found
 overflow_shl-found c = omega arith
@@ -31,26 +30,24 @@ overflow_add-found c =
 pub loop-g-preserved : goal.loop-g-preserved
 loop-g-preserved c =
     let p = keeps c.args.t.now c.args.n c.args.e c.args.s in
-    let k : c.loop-g.g < 64 = omega arith in (
-      omega arith,
-      elim c.if-conjugate_set-s.branch [
-        | then-conjugate_set-s w ↦ omega (
-          arith,
-          w.found-is,
-          shifted_one 64 c.loop-g.g k,
-          set_of-in c.loop-g.g p (eq-eqb _ _ (sym (c.conjugate_set.ensures c.requires.0 c.requires.1 c.loop-g-test.true) ∙ w.if-conjugate_set-s.true)),
-        )
-        | else-conjugate_set-s w ↦ omega (
-          arith,
-          w.found-is,
-          shifted_one 64 c.loop-g.g k,
-          set_of-out c.loop-g.g p (ne_eqb _ _ (λ q. w.if-conjugate_set-s.false (c.conjugate_set.ensures c.requires.0 c.requires.1 c.loop-g-test.true ∙ q))),
-        )
-      ],
-    )
+    let k : c.loop-g.g < 64 = omega arith in
+    elim c.if-conjugate_set-s.branch [
+      | then-conjugate_set-s w ↦ omega (
+        arith,
+        w.found-is,
+        shifted_one 64 c.loop-g.g k,
+        set_of-in c.loop-g.g p (eq-eqb _ _ (sym (c.conjugate_set.ensures c.requires.0 c.requires.1 c.loop-g-test.true) ∙ w.if-conjugate_set-s.true)),
+      )
+      | else-conjugate_set-s w ↦ omega (
+        arith,
+        w.found-is,
+        shifted_one 64 c.loop-g.g k,
+        set_of-out c.loop-g.g p (ne_eqb _ _ (λ q. w.if-conjugate_set-s.false (c.conjugate_set.ensures c.requires.0 c.requires.1 c.loop-g-test.true ∙ q))),
+      )
+    ]
 
 pub returns : goal.returns
 unfolding normalizer_of
 returns c =
     let e : c.loop-g.g ≡ c.args.n = omega arith in
-    c.loop-g.invariant.1 ∙ ap (λ (k : ℕ). set_of k (keeps c.args.t.now c.args.n c.args.e c.args.s)) e
+    c.loop-g.invariant ∙ ap (λ (k : ℕ). set_of k (keeps c.args.t.now c.args.n c.args.e c.args.s)) e

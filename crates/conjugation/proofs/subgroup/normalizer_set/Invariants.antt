@@ -2,7 +2,7 @@
 use mathlib.Core.Path.{◌≡◌}
 use mathlib.Core.Bool.{Bool}
 use mathlib.Core.List.{List}
-use Prim.Native.Nat.{ℕ, ◌≤◌, ◌-◌}
+use Prim.Native.Nat.{ℕ}
 use lib.Dec.{eqb}
 use Rattle.laws.specs.Sets.{set_of}
 use Rattle.subgroup_laws.specs.Subsets.{conjugate_of}
@@ -14,7 +14,4 @@ abbrev keeps : List ℕ → ℕ → ℕ → ℕ → ℕ → Bool
 keeps t n e s g = eqb (conjugate_of n (product n t) e s g) s
 
 abbrev pub invariant-loop-g : goal.invariant-loop-g
-invariant-loop-g l = (l.g ≤ l.n) × (l.found ≡ set_of l.g (keeps l.t l.n l.e l.s))
-
-abbrev pub decreases-loop-g : goal.decreases-loop-g
-decreases-loop-g l = l.n - l.g
+invariant-loop-g l = l.found ≡ set_of l.g (keeps l.t l.n l.e l.s)

@@ -3,16 +3,16 @@ use mathlib.Core.Path.{sym, ◌∙◌, ap, refl}
 use Rattle.operation.specs.declared.Operation.{Operation}
 use Rattle.group_record.specs.ListedForm.{operation≡}
 use Rattle.group_record.specs.OperationItems.{operation_of_item, rotation_of_decoded}
+use Rattle.group_record.proofs.items.operation_of_item.Goals.{in-Some, in-None}
 use Rattle.group_record.proofs.items.operation_of_item.Goals as goal
-
-pub returns-in_default : goal.returns-in_default
-unfolding operation_of_item
-returns-in_default c =
-    let told = sym c.rotation_of_code.ensures ∙ c.in_default.is in
-    operation≡ (ap (λ (f : Operation). f.rotation) c.identity-unit.ensures ∙ sym (ap rotation_of_decoded told)) refl
 
 pub returns : goal.returns
 unfolding operation_of_item
 returns c =
-    let told = sym c.rotation_of_code.ensures ∙ c.in-Inside.is in
-    operation≡ (sym (ap rotation_of_decoded told)) refl
+    elim c.match-rotation_of_code.branch [
+      | in-Some w ↦ operation≡ (w.rotation-is ∙ sym (ap rotation_of_decoded (sym c.rotation_of_code.ensures ∙ w.in-Some.is))) refl
+      | in-None w ↦
+          operation≡
+          (w.rotation-is ∙ ap (λ (f : Operation). f.rotation) w.identity.ensures
+          ∙ sym (ap rotation_of_decoded (sym c.rotation_of_code.ensures ∙ w.in-None.is))) refl
+    ]

@@ -4,16 +4,16 @@ use native.Mathlib.Omega.{arith}
 use Rattle.group_table.specs.ReadTables.{record-by-value}
 use Rattle.group_table.proofs.record.from_record.Goals as goal
 
-pub returns-in-Is : goal.returns-in-Is
-returns-in-Is c =
+pub returns-in-Ok : goal.returns-in-Ok
+returns-in-Ok c =
     record-by-value c.args.bytes.now
     (λ i. omega (arith, c.shared_slice_known-1.given i)) _ _
-    (sym c.in-Is.is ∙ c.fill_cells-found.ensures.0)
+    (sym c.in-Ok.is ∙ c.fill_cells-found.ensures.0)
     c.fill_cells-found.ensures.1
 
-pub returns-in-Refused : goal.returns-in-Refused
-returns-in-Refused c =
+pub returns-in-Err : goal.returns-in-Err
+returns-in-Err c =
     record-by-value c.args.bytes.now
     (λ i. omega (arith, c.shared_slice_known-1.given i)) _ _
-    (sym c.in-Refused.is ∙ c.fill_cells-found.ensures.0)
+    (sym c.in-Err.is ∙ c.fill_cells-found.ensures.0)
     c.fill_cells-found.ensures.1

@@ -1,538 +1,95 @@
-use mathlib.Core.Path.{◌≡◌, refl, sym, ◌∙◌}
+use mathlib.Core.Path.{sym}
 use mathlib.Core.List.{List}
-use Prim.Native.Nat.{ℕ, ◌*◌, ◌+◌, ◌-◌, ◌≤◌, ◌<◌}
+use Prim.Native.Nat.{ℕ, ◌*◌, ◌+◌, ◌<◌}
 use native.Mathlib.Omega.{arith}
 use lib.ListN.{length, get_or}
 use Rattle.subgroup_laws.specs.TableCells.{cell-place}
-use Rattle.group_table.specs.Columns.{Widening, Composing, within_same, within-onward, correct-kept, sound-kept, composing-below}
+use Rattle.group_table.specs.Columns.{Correct, Kept, Within, Composing, Widening, within-onward, correct-kept, sound-kept, composing-below}
+use Rattle.group_table.specs.declared.record.FilledColumns.{FilledColumns}
 use Rattle.group_table.proofs.record.widen.Goals as goal
 
-pub loop-i-init : goal.loop-i-init
-loop-i-init c = (omega arith, refl, refl, (within_same c.args.n c.args.cells.now, λ table W. record { sound = W.sound; kept = λ k right. right }))
-
-pub overflow_add-i : goal.overflow_add-i
-overflow_add-i c =
-    -- There are 48 slots, and at most as many columns are filled.
-    let few-at : (length c.loop-i.known ≡ 48) × (length c.loop-i.members ≡ 48) × (c.loop-i.filled ≤ 48) =
-    let (table, W) = c.requires in
-    let S = (c.loop-i.invariant.3.1 table W).sound in
-    (S.broad, S.wide, S.few) in
-    omega (arith, (few-at).2)
-
-pub loop-i-smaller-then-m-j : goal.loop-i-smaller-then-m-j
-loop-i-smaller-then-m-j c =
-    let few-at : (length c.loop-i.known ≡ 48) × (length c.loop-i.members ≡ 48) × (c.loop-i.filled ≤ 48) =
-    let (table, W) = c.requires in
-    let S = (c.loop-i.invariant.3.1 table W).sound in
-    (S.broad, S.wide, S.few) in
-    omega (arith, (few-at).2)
-
-pub loop-i-preserved-then-m-j : goal.loop-i-preserved-then-m-j
-loop-i-preserved-then-m-j c = (omega arith, c.loop-i.invariant.1, c.loop-i.invariant.2, c.loop-i.invariant.3)
-
-pub bounds-members-i : goal.bounds-members-i
-bounds-members-i c =
-    let few-at : (length c.loop-i.known ≡ 48) × (length c.loop-i.members ≡ 48) × (c.loop-i.filled ≤ 48) =
-    let (table, W) = c.requires in
-    let S = (c.loop-i.invariant.3.1 table W).sound in
-    (S.broad, S.wide, S.few) in
-    omega (arith, (few-at).1, (few-at).2)
-
-pub overflow_cast-p : goal.overflow_cast-p
-overflow_cast-p c =
-    -- The columns of both factors are there, whatever table they belong to.
-    let composing : (table : List ℕ)
-    → Widening c.args.n table c.args.cells.now
-    c.args.known.now c.args.members.now
-    c.args.count c.args.generators.now
-    c.args.m
-    → Composing c.args.n table c.loop-i.cells
-    (get_or c.loop-i.members c.loop-i.i 0)
-    (get_or c.args.generators.now c.loop-i.j 0)
-    (get_or c.loop-i.cells
-    ((get_or c.loop-i.members c.loop-i.i 0) * c.args.n
-    + (get_or c.args.generators.now c.loop-i.j 0)) 0) =
-    λ table W. let p = get_or c.loop-i.members c.loop-i.i 0 in
-    let g = get_or c.args.generators.now c.loop-i.j 0 in
-    let D = c.loop-i.invariant.3.1 table W in
-    let first = D.sound.member c.loop-i.i (omega arith) in
-    let second = correct-kept table c.args.cells.now c.args.n c.loop-i.cells D.kept g (W.generator c.loop-i.j (omega arith)) in
+-- The columns of both factors are there.
+composing : (n : ℕ) (table before now : List ℕ) (filled : FilledColumns) (generators : List ℕ) (p s : ℕ) → Widening n table before filled generators
+    → Within n before now → Kept table before now → Correct n table now p → s < length generators
+    → Composing n table now p (get_or generators s 0) (get_or now (p * n + get_or generators s 0) 0)
+composing n table before now filled generators p s W within kept first lt =
+    let second = correct-kept table before n now kept (get_or generators s 0) (W.generator s lt) in
     record {
       products = W.products;
-      room = omega (arith, W.room, c.loop-i.invariant.3.0.long);
+      room = omega (arith, W.room, within.long);
       first = first;
       second = second;
       leads = sym (second.1 p first.0);
-    } in
-    -- So both are indices, their product has a slot, and it is an index.
-    let low-at : ((get_or c.loop-i.members c.loop-i.i 0) < 48)
-    × ((get_or c.args.generators.now c.loop-i.j 0) < 48)
-    × ((get_or c.loop-i.members c.loop-i.i 0) * c.args.n
-    + (get_or c.args.generators.now c.loop-i.j 0) < length
-    c.loop-i.cells)
-    × ((get_or c.loop-i.members c.loop-i.i 0) * c.args.n
-    + (get_or c.args.generators.now c.loop-i.j 0) < 2304)
-    × (get_or c.loop-i.cells
-    ((get_or c.loop-i.members c.loop-i.i 0) * c.args.n
-    + (get_or c.args.generators.now c.loop-i.j 0)) 0 < 48) =
-    let p = get_or c.loop-i.members c.loop-i.i 0 in
-    let g = get_or c.args.generators.now c.loop-i.j 0 in
-    let (table, W) = c.requires in
-    let D = composing table W in
-    let place = cell-place c.args.n p g D.products.few D.first.0 D.second.0 in (
-      omega (arith, D.products.few, D.first.0),
-      omega (arith, D.products.few, D.second.0),
-      omega (arith, place.0, D.room),
-      omega (arith, place.0, place.1),
-      omega (arith, D.products.few, composing-below c.args.n table c.loop-i.cells p g _ D),
-    ) in
-    omega (arith, (low-at).0)
+    }
 
-pub bounds-generators-j : goal.bounds-generators-j
-bounds-generators-j c = omega (arith, c.requires.1.narrow)
+-- So their product has a slot, and it is an index.
+slot : (n : ℕ) (table now : List ℕ) (p g q : ℕ) → Composing n table now p g q → p * n + g < length now
+slot n table now p g q D = omega (arith, (cell-place n p g D.products.few D.first.0 D.second.0).0, D.room)
 
-pub overflow_cast-g : goal.overflow_cast-g
-overflow_cast-g c =
-    let composing : (table : List ℕ)
-    → Widening c.args.n table c.args.cells.now
-    c.args.known.now c.args.members.now
-    c.args.count c.args.generators.now
-    c.args.m
-    → Composing c.args.n table c.loop-i.cells
-    (get_or c.loop-i.members c.loop-i.i 0)
-    (get_or c.args.generators.now c.loop-i.j 0)
-    (get_or c.loop-i.cells
-    ((get_or c.loop-i.members c.loop-i.i 0) * c.args.n
-    + (get_or c.args.generators.now c.loop-i.j 0)) 0) =
-    λ table W. let p = get_or c.loop-i.members c.loop-i.i 0 in
-    let g = get_or c.args.generators.now c.loop-i.j 0 in
-    let D = c.loop-i.invariant.3.1 table W in
-    let first = D.sound.member c.loop-i.i (omega arith) in
-    let second = correct-kept table c.args.cells.now c.args.n c.loop-i.cells D.kept g (W.generator c.loop-i.j (omega arith)) in
-    record {
-      products = W.products;
-      room = omega (arith, W.room, c.loop-i.invariant.3.0.long);
-      first = first;
-      second = second;
-      leads = sym (second.1 p first.0);
-    } in
-    let low-at : ((get_or c.loop-i.members c.loop-i.i 0) < 48)
-    × ((get_or c.args.generators.now c.loop-i.j 0) < 48)
-    × ((get_or c.loop-i.members c.loop-i.i 0) * c.args.n
-    + (get_or c.args.generators.now c.loop-i.j 0) < length
-    c.loop-i.cells)
-    × ((get_or c.loop-i.members c.loop-i.i 0) * c.args.n
-    + (get_or c.args.generators.now c.loop-i.j 0) < 2304)
-    × (get_or c.loop-i.cells
-    ((get_or c.loop-i.members c.loop-i.i 0) * c.args.n
-    + (get_or c.args.generators.now c.loop-i.j 0)) 0 < 48) =
-    let p = get_or c.loop-i.members c.loop-i.i 0 in
-    let g = get_or c.args.generators.now c.loop-i.j 0 in
-    let (table, W) = c.requires in
-    let D = composing table W in
-    let place = cell-place c.args.n p g D.products.few D.first.0 D.second.0 in (
-      omega (arith, D.products.few, D.first.0),
-      omega (arith, D.products.few, D.second.0),
-      omega (arith, place.0, D.room),
-      omega (arith, place.0, place.1),
-      omega (arith, D.products.few, composing-below c.args.n table c.loop-i.cells p g _ D),
-    ) in
-    omega (arith, (low-at).1)
+low : (n : ℕ) (table now : List ℕ) (p g q : ℕ) → Composing n table now p g q → q < 48
+low n table now p g q D = omega (arith, D.products.few, composing-below n table now p g q D)
 
-pub overflow_mul-q : goal.overflow_mul-q
-overflow_mul-q c =
-    let composing : (table : List ℕ)
-    → Widening c.args.n table c.args.cells.now
-    c.args.known.now c.args.members.now
-    c.args.count c.args.generators.now
-    c.args.m
-    → Composing c.args.n table c.loop-i.cells
-    (get_or c.loop-i.members c.loop-i.i 0)
-    (get_or c.args.generators.now c.loop-i.j 0)
-    (get_or c.loop-i.cells
-    ((get_or c.loop-i.members c.loop-i.i 0) * c.args.n
-    + (get_or c.args.generators.now c.loop-i.j 0)) 0) =
-    λ table W. let p = get_or c.loop-i.members c.loop-i.i 0 in
-    let g = get_or c.args.generators.now c.loop-i.j 0 in
-    let D = c.loop-i.invariant.3.1 table W in
-    let first = D.sound.member c.loop-i.i (omega arith) in
-    let second = correct-kept table c.args.cells.now c.args.n c.loop-i.cells D.kept g (W.generator c.loop-i.j (omega arith)) in
-    record {
-      products = W.products;
-      room = omega (arith, W.room, c.loop-i.invariant.3.0.long);
-      first = first;
-      second = second;
-      leads = sym (second.1 p first.0);
-    } in
-    let low-at : ((get_or c.loop-i.members c.loop-i.i 0) < 48)
-    × ((get_or c.args.generators.now c.loop-i.j 0) < 48)
-    × ((get_or c.loop-i.members c.loop-i.i 0) * c.args.n
-    + (get_or c.args.generators.now c.loop-i.j 0) < length
-    c.loop-i.cells)
-    × ((get_or c.loop-i.members c.loop-i.i 0) * c.args.n
-    + (get_or c.args.generators.now c.loop-i.j 0) < 2304)
-    × (get_or c.loop-i.cells
-    ((get_or c.loop-i.members c.loop-i.i 0) * c.args.n
-    + (get_or c.args.generators.now c.loop-i.j 0)) 0 < 48) =
-    let p = get_or c.loop-i.members c.loop-i.i 0 in
-    let g = get_or c.args.generators.now c.loop-i.j 0 in
-    let (table, W) = c.requires in
-    let D = composing table W in
-    let place = cell-place c.args.n p g D.products.few D.first.0 D.second.0 in (
-      omega (arith, D.products.few, D.first.0),
-      omega (arith, D.products.few, D.second.0),
-      omega (arith, place.0, D.room),
-      omega (arith, place.0, place.1),
-      omega (arith, D.products.few, composing-below c.args.n table c.loop-i.cells p g _ D),
-    ) in
-    omega (arith, (low-at).3)
+pub bounds-filled-i : goal.bounds-filled-i
+bounds-filled-i c = let (table, W) = c.requires in omega (arith, c.loop-i-test.true, (c.loop-i.invariant.1 table W).sound.few)
 
-pub overflow_add-q : goal.overflow_add-q
-overflow_add-q c =
-    let composing : (table : List ℕ)
-    → Widening c.args.n table c.args.cells.now
-    c.args.known.now c.args.members.now
-    c.args.count c.args.generators.now
-    c.args.m
-    → Composing c.args.n table c.loop-i.cells
-    (get_or c.loop-i.members c.loop-i.i 0)
-    (get_or c.args.generators.now c.loop-i.j 0)
-    (get_or c.loop-i.cells
-    ((get_or c.loop-i.members c.loop-i.i 0) * c.args.n
-    + (get_or c.args.generators.now c.loop-i.j 0)) 0) =
-    λ table W. let p = get_or c.loop-i.members c.loop-i.i 0 in
-    let g = get_or c.args.generators.now c.loop-i.j 0 in
-    let D = c.loop-i.invariant.3.1 table W in
-    let first = D.sound.member c.loop-i.i (omega arith) in
-    let second = correct-kept table c.args.cells.now c.args.n c.loop-i.cells D.kept g (W.generator c.loop-i.j (omega arith)) in
-    record {
-      products = W.products;
-      room = omega (arith, W.room, c.loop-i.invariant.3.0.long);
-      first = first;
-      second = second;
-      leads = sym (second.1 p first.0);
-    } in
-    let low-at : ((get_or c.loop-i.members c.loop-i.i 0) < 48)
-    × ((get_or c.args.generators.now c.loop-i.j 0) < 48)
-    × ((get_or c.loop-i.members c.loop-i.i 0) * c.args.n
-    + (get_or c.args.generators.now c.loop-i.j 0) < length
-    c.loop-i.cells)
-    × ((get_or c.loop-i.members c.loop-i.i 0) * c.args.n
-    + (get_or c.args.generators.now c.loop-i.j 0) < 2304)
-    × (get_or c.loop-i.cells
-    ((get_or c.loop-i.members c.loop-i.i 0) * c.args.n
-    + (get_or c.args.generators.now c.loop-i.j 0)) 0 < 48) =
-    let p = get_or c.loop-i.members c.loop-i.i 0 in
-    let g = get_or c.args.generators.now c.loop-i.j 0 in
-    let (table, W) = c.requires in
-    let D = composing table W in
-    let place = cell-place c.args.n p g D.products.few D.first.0 D.second.0 in (
-      omega (arith, D.products.few, D.first.0),
-      omega (arith, D.products.few, D.second.0),
-      omega (arith, place.0, D.room),
-      omega (arith, place.0, place.1),
-      omega (arith, D.products.few, composing-below c.args.n table c.loop-i.cells p g _ D),
-    ) in
-    omega (arith, (low-at).3)
+pub loop-generator-init : goal.loop-generator-init
+loop-generator-init c = (
+  c.loop-i.invariant.0,
+  λ table W. let D = c.loop-i.invariant.1 table W in (D, D.sound.member c.loop-i.i c.loop-i-test.true),
+)
 
 pub bounds-cells-p : goal.bounds-cells-p
 bounds-cells-p c =
-    let composing : (table : List ℕ)
-    → Widening c.args.n table c.args.cells.now
-    c.args.known.now c.args.members.now
-    c.args.count c.args.generators.now
-    c.args.m
-    → Composing c.args.n table c.loop-i.cells
-    (get_or c.loop-i.members c.loop-i.i 0)
-    (get_or c.args.generators.now c.loop-i.j 0)
-    (get_or c.loop-i.cells
-    ((get_or c.loop-i.members c.loop-i.i 0) * c.args.n
-    + (get_or c.args.generators.now c.loop-i.j 0)) 0) =
-    λ table W. let p = get_or c.loop-i.members c.loop-i.i 0 in
-    let g = get_or c.args.generators.now c.loop-i.j 0 in
-    let D = c.loop-i.invariant.3.1 table W in
-    let first = D.sound.member c.loop-i.i (omega arith) in
-    let second = correct-kept table c.args.cells.now c.args.n c.loop-i.cells D.kept g (W.generator c.loop-i.j (omega arith)) in
-    record {
-      products = W.products;
-      room = omega (arith, W.room, c.loop-i.invariant.3.0.long);
-      first = first;
-      second = second;
-      leads = sym (second.1 p first.0);
-    } in
-    let low-at : ((get_or c.loop-i.members c.loop-i.i 0) < 48)
-    × ((get_or c.args.generators.now c.loop-i.j 0) < 48)
-    × ((get_or c.loop-i.members c.loop-i.i 0) * c.args.n
-    + (get_or c.args.generators.now c.loop-i.j 0) < length
-    c.loop-i.cells)
-    × ((get_or c.loop-i.members c.loop-i.i 0) * c.args.n
-    + (get_or c.args.generators.now c.loop-i.j 0) < 2304)
-    × (get_or c.loop-i.cells
-    ((get_or c.loop-i.members c.loop-i.i 0) * c.args.n
-    + (get_or c.args.generators.now c.loop-i.j 0)) 0 < 48) =
-    let p = get_or c.loop-i.members c.loop-i.i 0 in
-    let g = get_or c.args.generators.now c.loop-i.j 0 in
     let (table, W) = c.requires in
-    let D = composing table W in
-    let place = cell-place c.args.n p g D.products.few D.first.0 D.second.0 in (
-      omega (arith, D.products.few, D.first.0),
-      omega (arith, D.products.few, D.second.0),
-      omega (arith, place.0, D.room),
-      omega (arith, place.0, place.1),
-      omega (arith, D.products.few, composing-below c.args.n table c.loop-i.cells p g _ D),
-    ) in
-    (low-at).2
+    let (D, first) = c.loop-generator.invariant.1 table W in
+    slot _ _ _ _ _ _ (composing c.args.n table c.args.cells.now c.loop-generator.cells c.args.filled.now c.args.generators.now _
+    c.loop-generator.generator-index W
+    c.loop-generator.invariant.0 D.kept first c.loop-generator-test.true)
 
-pub overflow_cast-q : goal.overflow_cast-q
-overflow_cast-q c =
-    let composing : (table : List ℕ)
-    → Widening c.args.n table c.args.cells.now
-    c.args.known.now c.args.members.now
-    c.args.count c.args.generators.now
-    c.args.m
-    → Composing c.args.n table c.loop-i.cells
-    (get_or c.loop-i.members c.loop-i.i 0)
-    (get_or c.args.generators.now c.loop-i.j 0)
-    (get_or c.loop-i.cells
-    ((get_or c.loop-i.members c.loop-i.i 0) * c.args.n
-    + (get_or c.args.generators.now c.loop-i.j 0)) 0) =
-    λ table W. let p = get_or c.loop-i.members c.loop-i.i 0 in
-    let g = get_or c.args.generators.now c.loop-i.j 0 in
-    let D = c.loop-i.invariant.3.1 table W in
-    let first = D.sound.member c.loop-i.i (omega arith) in
-    let second = correct-kept table c.args.cells.now c.args.n c.loop-i.cells D.kept g (W.generator c.loop-i.j (omega arith)) in
-    record {
-      products = W.products;
-      room = omega (arith, W.room, c.loop-i.invariant.3.0.long);
-      first = first;
-      second = second;
-      leads = sym (second.1 p first.0);
-    } in
-    let low-at : ((get_or c.loop-i.members c.loop-i.i 0) < 48)
-    × ((get_or c.args.generators.now c.loop-i.j 0) < 48)
-    × ((get_or c.loop-i.members c.loop-i.i 0) * c.args.n
-    + (get_or c.args.generators.now c.loop-i.j 0) < length
-    c.loop-i.cells)
-    × ((get_or c.loop-i.members c.loop-i.i 0) * c.args.n
-    + (get_or c.args.generators.now c.loop-i.j 0) < 2304)
-    × (get_or c.loop-i.cells
-    ((get_or c.loop-i.members c.loop-i.i 0) * c.args.n
-    + (get_or c.args.generators.now c.loop-i.j 0)) 0 < 48) =
-    let p = get_or c.loop-i.members c.loop-i.i 0 in
-    let g = get_or c.args.generators.now c.loop-i.j 0 in
+pub bounds-filled-q : goal.bounds-filled-q
+bounds-filled-q c =
     let (table, W) = c.requires in
-    let D = composing table W in
-    let place = cell-place c.args.n p g D.products.few D.first.0 D.second.0 in (
-      omega (arith, D.products.few, D.first.0),
-      omega (arith, D.products.few, D.second.0),
-      omega (arith, place.0, D.room),
-      omega (arith, place.0, place.1),
-      omega (arith, D.products.few, composing-below c.args.n table c.loop-i.cells p g _ D),
-    ) in
-    omega (arith, (low-at).4)
-
-pub overflow_add-j : goal.overflow_add-j
-overflow_add-j c = omega (arith, c.requires.1.narrow)
-
-pub bounds-known-q : goal.bounds-known-q
-bounds-known-q c =
-    let few-at : (length c.loop-i.known ≡ 48) × (length c.loop-i.members ≡ 48) × (c.loop-i.filled ≤ 48) =
-    let (table, W) = c.requires in
-    let S = (c.loop-i.invariant.3.1 table W).sound in
-    (S.broad, S.wide, S.few) in
-    let composing : (table : List ℕ)
-    → Widening c.args.n table c.args.cells.now
-    c.args.known.now c.args.members.now
-    c.args.count c.args.generators.now
-    c.args.m
-    → Composing c.args.n table c.loop-i.cells
-    (get_or c.loop-i.members c.loop-i.i 0)
-    (get_or c.args.generators.now c.loop-i.j 0)
-    (get_or c.loop-i.cells
-    ((get_or c.loop-i.members c.loop-i.i 0) * c.args.n
-    + (get_or c.args.generators.now c.loop-i.j 0)) 0) =
-    λ table W. let p = get_or c.loop-i.members c.loop-i.i 0 in
-    let g = get_or c.args.generators.now c.loop-i.j 0 in
-    let D = c.loop-i.invariant.3.1 table W in
-    let first = D.sound.member c.loop-i.i (omega arith) in
-    let second = correct-kept table c.args.cells.now c.args.n c.loop-i.cells D.kept g (W.generator c.loop-i.j (omega arith)) in
-    record {
-      products = W.products;
-      room = omega (arith, W.room, c.loop-i.invariant.3.0.long);
-      first = first;
-      second = second;
-      leads = sym (second.1 p first.0);
-    } in
-    let low-at : ((get_or c.loop-i.members c.loop-i.i 0) < 48)
-    × ((get_or c.args.generators.now c.loop-i.j 0) < 48)
-    × ((get_or c.loop-i.members c.loop-i.i 0) * c.args.n
-    + (get_or c.args.generators.now c.loop-i.j 0) < length
-    c.loop-i.cells)
-    × ((get_or c.loop-i.members c.loop-i.i 0) * c.args.n
-    + (get_or c.args.generators.now c.loop-i.j 0) < 2304)
-    × (get_or c.loop-i.cells
-    ((get_or c.loop-i.members c.loop-i.i 0) * c.args.n
-    + (get_or c.args.generators.now c.loop-i.j 0)) 0 < 48) =
-    let p = get_or c.loop-i.members c.loop-i.i 0 in
-    let g = get_or c.args.generators.now c.loop-i.j 0 in
-    let (table, W) = c.requires in
-    let D = composing table W in
-    let place = cell-place c.args.n p g D.products.few D.first.0 D.second.0 in (
-      omega (arith, D.products.few, D.first.0),
-      omega (arith, D.products.few, D.second.0),
-      omega (arith, place.0, D.room),
-      omega (arith, place.0, place.1),
-      omega (arith, D.products.few, composing-below c.args.n table c.loop-i.cells p g _ D),
-    ) in
-    omega (arith, (low-at).4, (few-at).0)
-
-pub loop-i-smaller-then-known-q-eq1 : goal.loop-i-smaller-then-known-q-eq1
-loop-i-smaller-then-known-q-eq1 c = omega (arith, c.requires.1.narrow)
-
-pub loop-i-preserved-then-known-q-eq1 : goal.loop-i-preserved-then-known-q-eq1
-loop-i-preserved-then-known-q-eq1 c = (omega arith, c.loop-i.invariant.1, c.loop-i.invariant.2, c.loop-i.invariant.3)
+    let (D, first) = c.loop-generator.invariant.1 table W in
+    low _ _ _ _ _ _ (composing c.args.n table c.args.cells.now c.loop-generator.cells c.args.filled.now c.args.generators.now _
+    c.loop-generator.generator-index W
+    c.loop-generator.invariant.0 D.kept first c.loop-generator-test.true)
 
 pub compose-requires : goal.compose-requires
 compose-requires c =
-    let composing : (table : List ℕ)
-    → Widening c.args.n table c.args.cells.now
-    c.args.known.now c.args.members.now
-    c.args.count c.args.generators.now
-    c.args.m
-    → Composing c.args.n table c.loop-i.cells
-    (get_or c.loop-i.members c.loop-i.i 0)
-    (get_or c.args.generators.now c.loop-i.j 0)
-    (get_or c.loop-i.cells
-    ((get_or c.loop-i.members c.loop-i.i 0) * c.args.n
-    + (get_or c.args.generators.now c.loop-i.j 0)) 0) =
-    λ table W. let p = get_or c.loop-i.members c.loop-i.i 0 in
-    let g = get_or c.args.generators.now c.loop-i.j 0 in
-    let D = c.loop-i.invariant.3.1 table W in
-    let first = D.sound.member c.loop-i.i (omega arith) in
-    let second = correct-kept table c.args.cells.now c.args.n c.loop-i.cells D.kept g (W.generator c.loop-i.j (omega arith)) in
-    record {
-      products = W.products;
-      room = omega (arith, W.room, c.loop-i.invariant.3.0.long);
-      first = first;
-      second = second;
-      leads = sym (second.1 p first.0);
-    } in
     let (table, W) = c.requires in
-    (table, composing table W)
+    let (D, first) = c.loop-generator.invariant.1 table W in (
+      table,
+      composing c.args.n table c.args.cells.now c.loop-generator.cells c.args.filled.now c.args.generators.now _ c.loop-generator.generator-index W
+          c.loop-generator.invariant.0 D.kept first c.loop-generator-test.true,
+    )
 
-pub note-filled-requires : goal.note-filled-requires
-note-filled-requires c =
-    let few-at : (length c.loop-i.known ≡ 48) × (length c.loop-i.members ≡ 48) × (c.loop-i.filled ≤ 48) =
+pub note-requires : goal.note-requires
+note-requires c =
     let (table, W) = c.requires in
-    let S = (c.loop-i.invariant.3.1 table W).sound in
-    (S.broad, S.wide, S.few) in
-    let composing : (table : List ℕ)
-    → Widening c.args.n table c.args.cells.now
-    c.args.known.now c.args.members.now
-    c.args.count c.args.generators.now
-    c.args.m
-    → Composing c.args.n table c.loop-i.cells
-    (get_or c.loop-i.members c.loop-i.i 0)
-    (get_or c.args.generators.now c.loop-i.j 0)
-    (get_or c.loop-i.cells
-    ((get_or c.loop-i.members c.loop-i.i 0) * c.args.n
-    + (get_or c.args.generators.now c.loop-i.j 0)) 0) =
-    λ table W. let p = get_or c.loop-i.members c.loop-i.i 0 in
-    let g = get_or c.args.generators.now c.loop-i.j 0 in
-    let D = c.loop-i.invariant.3.1 table W in
-    let first = D.sound.member c.loop-i.i (omega arith) in
-    let second = correct-kept table c.args.cells.now c.args.n c.loop-i.cells D.kept g (W.generator c.loop-i.j (omega arith)) in
-    record {
-      products = W.products;
-      room = omega (arith, W.room, c.loop-i.invariant.3.0.long);
-      first = first;
-      second = second;
-      leads = sym (second.1 p first.0);
-    } in
-    let low-at : ((get_or c.loop-i.members c.loop-i.i 0) < 48)
-    × ((get_or c.args.generators.now c.loop-i.j 0) < 48)
-    × ((get_or c.loop-i.members c.loop-i.i 0) * c.args.n
-    + (get_or c.args.generators.now c.loop-i.j 0) < length
-    c.loop-i.cells)
-    × ((get_or c.loop-i.members c.loop-i.i 0) * c.args.n
-    + (get_or c.args.generators.now c.loop-i.j 0) < 2304)
-    × (get_or c.loop-i.cells
-    ((get_or c.loop-i.members c.loop-i.i 0) * c.args.n
-    + (get_or c.args.generators.now c.loop-i.j 0)) 0 < 48) =
-    let p = get_or c.loop-i.members c.loop-i.i 0 in
-    let g = get_or c.args.generators.now c.loop-i.j 0 in
-    let (table, W) = c.requires in
-    let D = composing table W in
-    let place = cell-place c.args.n p g D.products.few D.first.0 D.second.0 in (
-      omega (arith, D.products.few, D.first.0),
-      omega (arith, D.products.few, D.second.0),
-      omega (arith, place.0, D.room),
-      omega (arith, place.0, place.1),
-      omega (arith, D.products.few, composing-below c.args.n table c.loop-i.cells p g _ D),
-    ) in
-    let (broad, wide, few) =
-    few-at in
-    ((low-at).4, few, broad, wide)
+    let (D, first) = c.loop-generator.invariant.1 table W in (
+      low _ _ _ _ _ _ (composing c.args.n table c.args.cells.now c.loop-generator.cells c.args.filled.now c.args.generators.now _
+          c.loop-generator.generator-index W
+          c.loop-generator.invariant.0 D.kept first c.loop-generator-test.true),
+      D.sound.few,
+    )
+
+pub loop-generator-preserved : goal.loop-generator-preserved
+loop-generator-preserved c = (
+  within-onward c.args.n c.args.cells.now c.loop-generator.cells _ c.loop-generator.invariant.0 c.compose.ensures.0,
+  λ table W.
+      let (D, first) = c.loop-generator.invariant.1 table W in
+      let (onward, column) = c.compose.ensures.1 table (composing c.args.n table c.args.cells.now c.loop-generator.cells c.args.filled.now
+      c.args.generators.now _ c.loop-generator.generator-index W c.loop-generator.invariant.0 D.kept first c.loop-generator-test.true) in (
+        record {
+          sound = c.note.ensures c.args.n table _ (sound-kept table c.loop-generator.cells c.args.n _ onward c.loop-generator.filled D.sound) column;
+          kept = λ k right. onward k (D.kept k right);
+        },
+        correct-kept table c.loop-generator.cells c.args.n _ onward _ first,
+      ),
+)
 
 pub loop-i-smaller : goal.loop-i-smaller
-loop-i-smaller c =
-    omega (
-      arith,
-      c.requires.1.narrow,
-    )
+loop-i-smaller c = let (table, W) = c.requires in omega (arith, c.loop-i-test.true, (c.loop-i.invariant.1 table W).sound.few)
 
 pub loop-i-preserved : goal.loop-i-preserved
-loop-i-preserved c =
-    let composing : (table : List ℕ)
-    → Widening c.args.n table c.args.cells.now
-    c.args.known.now c.args.members.now
-    c.args.count c.args.generators.now
-    c.args.m
-    → Composing c.args.n table c.loop-i.cells
-    (get_or c.loop-i.members c.loop-i.i 0)
-    (get_or c.args.generators.now c.loop-i.j 0)
-    (get_or c.loop-i.cells
-    ((get_or c.loop-i.members c.loop-i.i 0) * c.args.n
-    + (get_or c.args.generators.now c.loop-i.j 0)) 0) =
-    λ table W. let p = get_or c.loop-i.members c.loop-i.i 0 in
-    let g = get_or c.args.generators.now c.loop-i.j 0 in
-    let D = c.loop-i.invariant.3.1 table W in
-    let first = D.sound.member c.loop-i.i (omega arith) in
-    let second = correct-kept table c.args.cells.now c.args.n c.loop-i.cells D.kept g (W.generator c.loop-i.j (omega arith)) in
-    record {
-      products = W.products;
-      room = omega (arith, W.room, c.loop-i.invariant.3.0.long);
-      first = first;
-      second = second;
-      leads = sym (second.1 p first.0);
-    } in (
-      omega arith,
-      c.note-filled.ensures.broad ∙ c.loop-i.invariant.1,
-      c.note-filled.ensures.wide ∙ c.loop-i.invariant.2,
-      (
-        within-onward c.args.n c.args.cells.now c.loop-i.cells _ c.loop-i.invariant.3.0 c.compose.ensures.0,
-        λ table W.
-            let D = c.loop-i.invariant.3.1 table W in
-            let (onward, column) =
-            c.compose.ensures.1 table
-            (composing
-            table W) in
-            record {
-              sound = c.note-filled.ensures.sound c.args.n table _ (sound-kept table c.loop-i.cells c.args.n _ onward c.loop-i.known c.loop-i.members
-                  c.loop-i.filled D.sound) column;
-              kept = λ k right. onward k (D.kept k right);
-            },
-      ),
-    )
-
-pub shape_of-cells : goal.shape_of-cells
-shape_of-cells c = c.loop-i.invariant.3.0.long
-
-pub shape_of-known : goal.shape_of-known
-shape_of-known c = c.loop-i.invariant.1
-
-pub shape_of-members : goal.shape_of-members
-shape_of-members c = c.loop-i.invariant.2
-
-pub returns : goal.returns
-returns c = c.loop-i.invariant.3
+loop-i-preserved c = (c.loop-generator.invariant.0, λ table W. (c.loop-generator.invariant.1 table W).0)

@@ -1,7 +1,7 @@
 -- The invariant: of any table that goes by the steps the cells hold the rows before row i.
 use mathlib.Core.Path.{◌≡◌}
 use mathlib.Core.List.{List}
-use Prim.Native.Nat.{ℕ, ◌≤◌, ◌*◌, ◌-◌}
+use Prim.Native.Nat.{ℕ, ◌*◌}
 use lib.ListN.{length}
 use Rattle.group_table.specs.StepTables.{GoesBy}
 use Rattle.group_table.specs.Overlay.{begun}
@@ -9,8 +9,5 @@ use Rattle.group_table.proofs.symbol.fill_rows.Given as goal
 
 abbrev pub invariant-loop-i : goal.invariant-loop-i
 invariant-loop-i l =
-    (l.i ≤ l.count) × (length l.cells ≡ length l.initial.cells) × ((table : List ℕ) → GoesBy l.count l.generators l.steps table → l.cells
+    (length l.cells ≡ length l.initial.cells) × ((table : List ℕ) → GoesBy l.count l.generators l.steps table → l.cells
     ≡ begun (l.i * l.count) table l.initial.cells)
-
-abbrev pub decreases-loop-i : goal.decreases-loop-i
-decreases-loop-i l = l.count - l.i

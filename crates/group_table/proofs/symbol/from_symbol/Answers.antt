@@ -3,14 +3,14 @@ use mathlib.Core.Path.{sym, ◌∙◌}
 use Rattle.group_table.specs.SymbolSteps.{symbol-by-value}
 use Rattle.group_table.proofs.symbol.from_symbol.Goals as goal
 
-pub returns-in-Is : goal.returns-in-Is
-returns-in-Is c =
+pub returns-in-Ok : goal.returns-in-Ok
+returns-in-Ok c =
     symbol-by-value c.args.text.now _ _
-    (sym c.in-Is.is ∙ c.fill_cells-found.ensures.0)
+    (sym c.in-Ok.is ∙ c.fill_cells-found.ensures.0)
     c.fill_cells-found.ensures.1
 
-pub returns-in-Refused : goal.returns-in-Refused
-returns-in-Refused c =
+pub returns-in-Err : goal.returns-in-Err
+returns-in-Err c =
     symbol-by-value c.args.text.now _ _
-    (sym c.in-Refused.is ∙ c.fill_cells-found.ensures.0)
+    (sym c.in-Err.is ∙ c.fill_cells-found.ensures.0)
     c.fill_cells-found.ensures.1

@@ -1,18 +1,17 @@
--- The number of fold and axis holds their rotation; its octal digits are the entries.
-use mathlib.Core.Path.{ap}
-use borrow.Author.Tests.{eq-eqb, ne_eqb}
+-- The number of fold and axis, where they have one, holds their rotation; its octal digits are the entries.
+use Rattle.std.specs.Prelude.{Some}
+use Rattle.std.proofs.Common.{ap}
 use Rattle.operation.specs.Meaning.{rotation≡}
-use Rattle.hall_axes.specs.declared.Turn.TheVariants.{Matrix}
 use Rattle.hall_axes.specs.Packed.{turn-packed}
 use Rattle.hall_axes.proofs.matrices.rotation_about.Goals as goal
 
-pub returns-then-turn-eq0 : goal.returns-then-turn-eq0
-returns-then-turn-eq0 c = rw (turn-packed, ← c.packed_turn-turn.ensures, eq-eqb _ _ c.if-turn-eq0.true)
+pub returns-in_default : goal.returns-in_default
+returns-in_default c = rw (turn-packed, ← c.packed_turn.ensures, c.in_default.is)
 
 pub returns : goal.returns
 returns c =
-    rw (turn-packed, ← c.packed_turn-turn.ensures, ne_eqb _ _ c.if-turn-eq0.false)
-    (ap Matrix (rotation≡
+    rw (turn-packed, ← c.packed_turn.ensures, c.in-Some.is)
+    (ap Some (rotation≡
     c.octal_digit.ensures
     c.octal_digit-2.ensures
     c.octal_digit-3.ensures

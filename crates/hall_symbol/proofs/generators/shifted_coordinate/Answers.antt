@@ -1,14 +1,13 @@
 -- The sum of the unsigned terms is the coordinate.
-use mathlib.Core.Path.{sym, ◌∙◌, ap}
-use Prim.Native.Nat.{ℕ, ◌%◌}
+use Rattle.std.proofs.Common.{ℕ, ◌%◌, ◌∙◌, sym, ap}
 use Rattle.hall_symbol.specs.Shifting.{shifted_sum}
 use Rattle.hall_symbol.proofs.generators.shifted_coordinate.Goals as goal
 
 pub returns : goal.returns
 returns c =
     ap (λ (n : ℕ). n % 12) (cc (
-      c.wide.ensures,
-      c.wide-2.ensures,
+      c.from.ensures,
+      c.from-2.ensures,
       c.turned_back.ensures.0,
       c.turned_back-2.ensures.0,
       c.turned_back-3.ensures.0,

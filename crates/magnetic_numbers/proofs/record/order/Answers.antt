@@ -1,16 +1,18 @@
 -- By what was read.
+use Rattle.std.specs.Prelude.{Result, ℕ}
 use mathlib.Core.Path.{sym, ◌∙◌, ap}
 use Rattle.magnetic_record.specs.Answers.{magnetic_order_answer}
-use Rattle.magnetic_record.specs.declared.MagneticReading.{MagneticReading}
 use Rattle.answer_numbers.specs.Packing.{packed}
 use Rattle.magnetic_numbers.proofs.record.order.Goals as goal
+use Rattle.centering.specs.declared.Centering.{Centering}
+use Rattle.group_record.specs.declared.Refusal.{Refusal}
 
-pub returns-in-Is : goal.returns-in-Is
-returns-in-Is c =
-    ap (λ (a : MagneticReading). packed (magnetic_order_answer a)) (sym c.in-Is.is ∙ c.read_record.ensures)
+pub returns-in-Ok : goal.returns-in-Ok
+returns-in-Ok c =
+    ap (λ (a : Result (Centering × ℕ) Refusal). packed (magnetic_order_answer a)) (sym c.in-Ok.is ∙ c.read_record.ensures)
 
-pub returns-in-Refused : goal.returns-in-Refused
-returns-in-Refused c =
+pub returns-in-Err : goal.returns-in-Err
+returns-in-Err c =
     c.refused_record.ensures
-    ∙ ap (λ (a : MagneticReading). packed (magnetic_order_answer a))
-    (sym c.in-Refused.is ∙ c.read_record.ensures)
+    ∙ ap (λ (a : Result (Centering × ℕ) Refusal). packed (magnetic_order_answer a))
+    (sym c.in-Err.is ∙ c.read_record.ensures)

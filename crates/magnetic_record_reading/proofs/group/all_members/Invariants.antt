@@ -1,6 +1,5 @@
--- The loop's invariant: the items passed are members, so what is left decides. The measure is what is left.
+-- The loop's invariant: the items passed are members, so what is left decides.
 use mathlib.Core.Path.{◌≡◌}
-use Prim.Native.Nat.{◌-◌, ◌≤◌}
 use lib.ListN.{drop}
 use Rattle.laws.specs.Truth.{all}
 use Rattle.magnetic_record.specs.Reading.{flagged_member}
@@ -9,8 +8,5 @@ use Rattle.magnetic_record_reading.proofs.group.all_members.Given as goal
 
 abbrev pub invariant-loop-i : goal.invariant-loop-i
 invariant-loop-i l =
-    (l.i ≤ l.n) × (all (flagged_member l.c (items_of l.n l.bytes)) (drop l.i (items_of l.n l.bytes))
-    ≡ all (flagged_member l.c (items_of l.n l.bytes)) (items_of l.n l.bytes))
-
-abbrev pub decreases-loop-i : goal.decreases-loop-i
-decreases-loop-i l = l.n - l.i
+    all (flagged_member l.c (items_of l.n l.bytes)) (drop l.i (items_of l.n l.bytes))
+    ≡ all (flagged_member l.c (items_of l.n l.bytes)) (items_of l.n l.bytes)

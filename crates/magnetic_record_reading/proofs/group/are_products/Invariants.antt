@@ -1,6 +1,5 @@
--- The loop's invariant: the products passed are listed, so what is left decides. The measure is what is left.
+-- The loop's invariant: the products passed are listed, so what is left decides.
 use mathlib.Core.Path.{◌≡◌}
-use Prim.Native.Nat.{◌-◌, ◌≤◌}
 use lib.ListN.{drop}
 use Rattle.laws.specs.Truth.{all}
 use Rattle.magnetic_record.specs.Reading.{flagged_pair_listed}
@@ -9,8 +8,5 @@ use Rattle.magnetic_record_reading.proofs.group.are_products.Given as goal
 
 abbrev pub invariant-loop-j : goal.invariant-loop-j
 invariant-loop-j l =
-    (l.j ≤ l.n) × (all (flagged_pair_listed (items_of l.n l.bytes) l.c (item_at l.bytes l.i)) (drop l.j (items_of l.n l.bytes))
-    ≡ all (flagged_pair_listed (items_of l.n l.bytes) l.c (item_at l.bytes l.i)) (items_of l.n l.bytes))
-
-abbrev pub decreases-loop-j : goal.decreases-loop-j
-decreases-loop-j l = l.n - l.j
+    all (flagged_pair_listed (items_of l.n l.bytes) l.c (item_at l.bytes l.i)) (drop l.j (items_of l.n l.bytes))
+    ≡ all (flagged_pair_listed (items_of l.n l.bytes) l.c (item_at l.bytes l.i)) (items_of l.n l.bytes)

@@ -25,7 +25,7 @@ pub returns : goal.returns
 returns c =
     let items = items_of c.args.n c.args.bytes.now in
     let flag = (flag_of c.args.f + flag_of c.args.g) % 2 in
-    let inside = sym c.product.ensures ∙ c.in-Inside.is in
+    let inside = sym c.product.ensures ∙ c.in-Some.is in
     let (says, bit) = inside-says (said_by c.args.f) (said_by c.args.g) flag _ (omega arith) inside in
     let said = c.said.ensures in
     let flagged = c.flag.ensures.0 ∙ bit in

@@ -1,4 +1,3 @@
-use Prim.Native.Nat.{◌-◌}
 use native.Mathlib.Omega.{arith}
 use Rattle.magnetic_record_reading.specs.Search.{lower-half, upper-half}
 use Rattle.magnetic_record_reading.proofs.group.place_of_key.Goals as goal

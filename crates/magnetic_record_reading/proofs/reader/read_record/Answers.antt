@@ -23,5 +23,5 @@ pub returns : goal.returns
 returns c =
     let long = c.if-size-lt10.false in
     let byte = ap letter_of (sym c.from_end-2.ensures) in
-    let letter = byte ∙ sym c.from_byte.ensures ∙ c.in-Is.is in
+    let letter = byte ∙ sym c.from_byte.ensures ∙ c.in-Some.is in
     c.read_counted.ensures ∙ sym (by-letter c.args.bytes.now _ (omega (arith, long)) c.from_end.ensures c.if-from_end-ne2.false _ letter)

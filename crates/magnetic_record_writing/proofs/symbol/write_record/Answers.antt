@@ -1,13 +1,14 @@
 -- The symbol's answer decides, then whether there was room; an accepted symbol's numbers may be written.
+use Rattle.std.specs.Prelude.{Err, Ok}
 use mathlib.Core.Path.{◌≡◌, sym, ◌∙◌}
 use mathlib.Core.Bool.{Bool, true, false, cond}
 use native.Mathlib.Omega.{arith}
 use lib.Seq.{length-take-le}
 use Rattle.magnetic_group.specs.Numbers.{Listed, slots-listed}
-use Rattle.record_writing.specs.declared.SymbolRecord.TheVariants.{Written, NoRoom}
 use Rattle.magnetic_record.specs.TextRecords.{magnetic_record_of, magnetic_buffer_of}
 use Rattle.magnetic_record_writing.specs.Writing.{slots-long, numbers-listing, refused-record, accepted-record}
 use Rattle.magnetic_record_writing.proofs.symbol.write_record.Goals as goal
+use Rattle.record_writing.specs.declared.Unwritten.TheVariants.{NoRoom}
 
 pub slice_bounds-numbers-end : goal.slice_bounds-numbers-end
 slice_bounds-numbers-end c =
@@ -43,7 +44,7 @@ returns-then-not-place_group c =
     c.list-group.ensures.0 c.list-group.ensures.1 in
     -- What is answered, by what the writer answered.
     let placed-answer : (b : Bool) → c.place_group.result ≡ b
-    → (cond b (Written c.list-group.result.count) NoRoom
+    → (cond b (Ok c.list-group.result.count) (Err NoRoom)
     ≡ magnetic_record_of c.args.text.now
     c.args.out.now
     c.args.start)
@@ -65,7 +66,7 @@ returns-else-not-place_group c =
     slots-listed c.args.text.now c.list-group.result c.list-group.new.numbers c.in-Group.is
     c.list-group.ensures.0 c.list-group.ensures.1 in
     let placed-answer : (b : Bool) → c.place_group.result ≡ b
-    → (cond b (Written c.list-group.result.count) NoRoom
+    → (cond b (Ok c.list-group.result.count) (Err NoRoom)
     ≡ magnetic_record_of c.args.text.now
     c.args.out.now
     c.args.start)

@@ -7,6 +7,6 @@ pub returns-then-byte-eq39 : goal.returns-then-byte-eq39
 unfolding prime
 returns-then-byte-eq39 c = rw (eq-eqb _ _ c.if-byte-eq39.true)
 
-pub returns : goal.returns
+pub returns-else-byte-eq39 : goal.returns-else-byte-eq39
 unfolding prime
-returns c = rw (ne_eqb _ _ c.if-byte-eq39.false)
+returns-else-byte-eq39 c = rw (ne_eqb _ _ c.if-byte-eq39.false)

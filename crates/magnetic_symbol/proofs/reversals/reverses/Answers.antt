@@ -1,14 +1,12 @@
--- Each arm is the case of its mode.
+-- The arm of the N token, by the test of the byte.
 use borrow.Author.Tests.{eq-eqb, ne_eqb}
 use Rattle.magnetic_symbol.specs.TimeReversals.{prime}
 use Rattle.magnetic_symbol.proofs.reversals.reverses.Goals as goal
 
-pub returns-then-byte-ne39 : goal.returns-then-byte-ne39
+pub returns-then-byte-eq39 : goal.returns-then-byte-eq39
 unfolding prime
-returns-then-byte-ne39 c =
-    let other = ne_eqb _ _ c.if-byte-ne39.true in rw (c.in-Unmarked.is, other)
+returns-then-byte-eq39 c = rw (c.in-Unmarked.is, eq-eqb _ _ c.if-byte-eq39.true)
 
-pub returns-else-byte-ne39 : goal.returns-else-byte-ne39
+pub returns-else-byte-eq39 : goal.returns-else-byte-eq39
 unfolding prime
-returns-else-byte-ne39 c =
-    let same = eq-eqb _ _ c.if-byte-ne39.false in rw (c.in-Unmarked.is, same)
+returns-else-byte-eq39 c = rw (c.in-Unmarked.is, ne_eqb _ _ c.if-byte-eq39.false)

@@ -7,6 +7,6 @@ pub returns-then-byte-eq40 : goal.returns-then-byte-eq40
 unfolding opening
 returns-then-byte-eq40 c = rw (eq-eqb _ _ c.if-byte-eq40.true)
 
-pub returns : goal.returns
+pub returns-else-byte-eq40 : goal.returns-else-byte-eq40
 unfolding opening
-returns c = rw (ne_eqb _ _ c.if-byte-eq40.false) c.marked.ensures
+returns-else-byte-eq40 c = rw (ne_eqb _ _ c.if-byte-eq40.false) c.marked.ensures

@@ -3,10 +3,10 @@ use mathlib.Core.Path.{sym, ◌∙◌}
 use Rattle.motion_group.specs.Accepted.{symbol-identity-first}
 use Rattle.motion_group.proofs.symbol.identity.Goals as goal
 
-pub returns-in-Is : goal.returns-in-Is
-returns-in-Is c =
-    let is = sym c.order.ensures ∙ c.in-Is.is in
+pub returns-in-Ok : goal.returns-in-Ok
+returns-in-Ok c =
+    let is = sym c.order.ensures ∙ c.in-Ok.is in
     simp (is, symbol-identity-first _ _ is)
 
-pub returns-in-Refused : goal.returns-in-Refused
-returns-in-Refused c = simp (sym c.order.ensures ∙ c.in-Refused.is, c.in_numbers.ensures)
+pub returns-in-Err : goal.returns-in-Err
+returns-in-Err c = simp (sym c.order.ensures ∙ c.in-Err.is, c.in_numbers.ensures)

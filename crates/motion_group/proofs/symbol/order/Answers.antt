@@ -2,8 +2,8 @@
 use mathlib.Core.Path.{sym, ◌∙◌}
 use Rattle.motion_group.proofs.symbol.order.Goals as goal
 
-pub returns-in-Is : goal.returns-in-Is
-returns-in-Is c = simp (sym c.order.ensures ∙ c.in-Is.is)
+pub returns-in-Ok : goal.returns-in-Ok
+returns-in-Ok c = simp (sym c.order.ensures ∙ c.in-Ok.is)
 
-pub returns-in-Refused : goal.returns-in-Refused
-returns-in-Refused c = simp (sym c.order.ensures ∙ c.in-Refused.is, c.in_numbers.ensures)
+pub returns-in-Err : goal.returns-in-Err
+returns-in-Err c = simp (sym c.order.ensures ∙ c.in-Err.is, c.in_numbers.ensures)

@@ -3,9 +3,9 @@ use mathlib.Core.Path.{refl, ◌∙◌, ap}
 use Rattle.motion_tables.specs.Answers.{of_table}
 use Rattle.motion_tables.proofs.table.classes_in.Goals as goal
 
-pub returns-in-Group : goal.returns-in-Group
-returns-in-Group c =
-    rw c.in-Group.is (c.told.ensures ∙ ap of_table c.conjugacy_classes.ensures.0, c.conjugacy_classes.ensures.1)
+pub returns-in-Ok : goal.returns-in-Ok
+returns-in-Ok c =
+    rw c.in-Ok.is (c.told.ensures ∙ ap of_table c.conjugacy_classes.ensures.0, c.conjugacy_classes.ensures.1)
 
-pub returns-in-Refused : goal.returns-in-Refused
-returns-in-Refused c = rw c.in-Refused.is (refl, refl)
+pub returns-in-Err : goal.returns-in-Err
+returns-in-Err c = rw c.in-Err.is (refl, refl)

@@ -2,9 +2,9 @@
 use Rattle.finite_group.specs.Answers.{place_of}
 use Rattle.motion_tables.proofs.table.told.Goals as goal
 
-pub returns-in-Value : goal.returns-in-Value
-returns-in-Value c = rw c.in-Value.is
+pub returns-in-Ok : goal.returns-in-Ok
+returns-in-Ok c = rw c.in-Ok.is
 
-pub returns-in-Refused : goal.returns-in-Refused
+pub returns-in-Err : goal.returns-in-Err
 unfolding place_of
-returns-in-Refused c = rw (c.in-Refused.is, c.number.ensures)
+returns-in-Err c = rw (c.in-Err.is, c.number.ensures)

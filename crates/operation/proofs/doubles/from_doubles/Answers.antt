@@ -1,42 +1,29 @@
 -- `from_doubles` asks of each component in turn. Assumes nothing.
-use borrow.Author.Tests.{le-ltb, lt-ltb}
-use Rattle.operation.specs.Doubles.{on_grid, grid_answer}
+use mathlib.Core.Path.{sym, ◌∙◌}
+use Rattle.operation.specs.Doubles.{on_grid, grid_answer, number-on-grid, number-off-grid}
 use Rattle.operation.proofs.doubles.from_doubles.Goals as goal
 
-pub returns-then-x-ge12 : goal.returns-then-x-ge12
+pub returns-in_default : goal.returns-in_default
 unfolding on_grid grid_answer
-returns-then-x-ge12 c = simp (← c.grid_number-x.ensures, le-ltb _ _ c.if-x-ge12.true)
+returns-in_default c = simp (number-off-grid _ (sym c.grid_number.ensures ∙ c.in_default.is))
 
-pub returns-then-y-ge12 : goal.returns-then-y-ge12
+pub returns-in_default-grid_number : goal.returns-in_default-grid_number
 unfolding on_grid grid_answer
-returns-then-y-ge12 c =
-    simp (
-      ← c.grid_number-x.ensures,
-      ← c.grid_number-y.ensures,
-      lt-ltb _ _ c.if-x-ge12.false,
-      le-ltb _ _ c.if-y-ge12.true,
-    )
+returns-in_default-grid_number c =
+    let x = number-on-grid _ _ (sym c.grid_number.ensures ∙ c.in-Some.is) in
+    simp (x.0, number-off-grid _ (sym c.grid_number-2.ensures ∙ c.in_default-grid_number.is))
 
-pub returns-then-z-ge12 : goal.returns-then-z-ge12
+pub returns-in_default-grid_number-2 : goal.returns-in_default-grid_number-2
 unfolding on_grid grid_answer
-returns-then-z-ge12 c =
-    simp (
-      ← c.grid_number-x.ensures,
-      ← c.grid_number-y.ensures,
-      ← c.grid_number-z.ensures,
-      lt-ltb _ _ c.if-x-ge12.false,
-      lt-ltb _ _ c.if-y-ge12.false,
-      le-ltb _ _ c.if-z-ge12.true,
-    )
+returns-in_default-grid_number-2 c =
+    let x = number-on-grid _ _ (sym c.grid_number.ensures ∙ c.in-Some.is) in
+    let y = number-on-grid _ _ (sym c.grid_number-2.ensures ∙ c.in-Some-grid_number.is) in
+    simp (x.0, y.0, number-off-grid _ (sym c.grid_number-3.ensures ∙ c.in_default-grid_number-2.is))
 
 pub returns : goal.returns
 unfolding on_grid grid_answer
 returns c =
-    simp (
-      ← c.grid_number-x.ensures,
-      ← c.grid_number-y.ensures,
-      ← c.grid_number-z.ensures,
-      lt-ltb _ _ c.if-x-ge12.false,
-      lt-ltb _ _ c.if-y-ge12.false,
-      lt-ltb _ _ c.if-z-ge12.false,
-    )
+    let x = number-on-grid _ _ (sym c.grid_number.ensures ∙ c.in-Some.is) in
+    let y = number-on-grid _ _ (sym c.grid_number-2.ensures ∙ c.in-Some-grid_number.is) in
+    let z = number-on-grid _ _ (sym c.grid_number-3.ensures ∙ c.in-Some-grid_number-2.is) in
+    simp (x.0, y.0, z.0, x.1, y.1, z.1)

@@ -1,82 +1,82 @@
 -- `grid_number`: each pattern of the match stands at its place in `patterns`, and a NaN's bits or any other stand at none. Assumes nothing.
-use mathlib.Core.Path.{◌≡◌, sym, ap, subst}
-use mathlib.Core.Bool.{false, not}
+use mathlib.Core.Path.{◌≡◌, sym, ap, refl}
+use mathlib.Core.Bool.{true, cond}
 use Prim.Native.Nat.{ℕ}
 use borrow.Author.Tests.{ne_eqb}
-use lib.Dec.{T}
-use lib.Ieee.{Float, nan, inf, fin, binary64, to_bits, is_nan, ne, eq}
-use lib.Ieee.Compare.{differs_from_itself}
-use Rattle.operation.specs.Doubles.{patterns, place_in, twelfths_of}
+use lib.Dec.{ltb}
+use lib.Ieee.{Float, nan, inf, fin, binary64, to_bits, is_nan}
+use Rattle.std.proofs.Common.{Option, Some, None, ◌∙◌}
+use Rattle.operation.specs.Doubles.{patterns, place_in, twelfths_of, grid_number}
 use Rattle.operation.proofs.doubles.grid_number.Goals as goal
 
--- Bits that match a pattern have its place.
-hit : {bits : ℕ} (pattern : ℕ) → bits ≡ pattern → place_in patterns pattern ≡ place_in patterns bits
-hit pattern e = sym (ap (place_in patterns) e)
+-- The number that some bits stand for.
+abbrev number_at : ℕ → Option ℕ
+number_at bits = cond (ltb (place_in patterns bits) 12) (Some (place_in patterns bits)) None
 
--- What equals itself is a number.
-not-nan : (v : Float) → ne v v ≡ false → T (not (is_nan v))
-unfolding ne eq is_nan
-not-nan nan h = absurd (subst T h tt)
-not-nan (inf s) h = tt
-not-nan (fin s m e) h = tt
+-- Bits that match a pattern have its number.
+hit : {bits : ℕ} (pattern : ℕ) → bits ≡ pattern → number_at pattern ≡ number_at bits
+hit pattern e = sym (ap number_at e)
 
-pub returns-then-component : goal.returns-then-component
-unfolding to_bits twelfths_of patterns place_in
-returns-then-component c = sym (ap twelfths_of (differs_from_itself _ (subst T (sym c.if-component.true) tt)))
+-- A NaN's bits are none of the patterns.
+nan-off : (v : Float) → is_nan v ≡ true → None ≡ grid_number v
+unfolding to_bits is_nan grid_number twelfths_of patterns place_in
+nan-off nan h = refl
+nan-off (inf s) h = cc
+nan-off (fin s m e) h = cc
 
-pub float_to_bits-bits : goal.float_to_bits-bits
-float_to_bits-bits c = not-nan _ c.if-component.false
+pub returns-then-is_nan : goal.returns-then-is_nan
+returns-then-is_nan c = nan-off _ (sym c.is_nan.ensures.value ∙ c.if-is_nan.true)
 
 pub returns-in-0 : goal.returns-in-0
-unfolding twelfths_of patterns place_in
+unfolding grid_number twelfths_of patterns place_in
 returns-in-0 c = hit _ c.in-0.is
 
 pub returns-in-4590669220166325589 : goal.returns-in-4590669220166325589
-unfolding twelfths_of patterns place_in
+unfolding grid_number twelfths_of patterns place_in
 returns-in-4590669220166325589 c = hit _ c.in-4590669220166325589.is
 
 pub returns-in-4595172819793696085 : goal.returns-in-4595172819793696085
-unfolding twelfths_of patterns place_in
+unfolding grid_number twelfths_of patterns place_in
 returns-in-4595172819793696085 c = hit _ c.in-4595172819793696085.is
 
 pub returns-in-4598175219545276416 : goal.returns-in-4598175219545276416
-unfolding twelfths_of patterns place_in
+unfolding grid_number twelfths_of patterns place_in
 returns-in-4598175219545276416 c = hit _ c.in-4598175219545276416.is
 
 pub returns-in-4599676419421066581 : goal.returns-in-4599676419421066581
-unfolding twelfths_of patterns place_in
+unfolding grid_number twelfths_of patterns place_in
 returns-in-4599676419421066581 c = hit _ c.in-4599676419421066581.is
 
 pub returns-in-4601177619296856747 : goal.returns-in-4601177619296856747
-unfolding twelfths_of patterns place_in
+unfolding grid_number twelfths_of patterns place_in
 returns-in-4601177619296856747 c = hit _ c.in-4601177619296856747.is
 
 pub returns-in-4602678819172646912 : goal.returns-in-4602678819172646912
-unfolding twelfths_of patterns place_in
+unfolding grid_number twelfths_of patterns place_in
 returns-in-4602678819172646912 c = hit _ c.in-4602678819172646912.is
 
 pub returns-in-4603429419110541995 : goal.returns-in-4603429419110541995
-unfolding twelfths_of patterns place_in
+unfolding grid_number twelfths_of patterns place_in
 returns-in-4603429419110541995 c = hit _ c.in-4603429419110541995.is
 
 pub returns-in-4604180019048437077 : goal.returns-in-4604180019048437077
-unfolding twelfths_of patterns place_in
+unfolding grid_number twelfths_of patterns place_in
 returns-in-4604180019048437077 c = hit _ c.in-4604180019048437077.is
 
 pub returns-in-4604930618986332160 : goal.returns-in-4604930618986332160
-unfolding twelfths_of patterns place_in
+unfolding grid_number twelfths_of patterns place_in
 returns-in-4604930618986332160 c = hit _ c.in-4604930618986332160.is
 
 pub returns-in-4605681218924227243 : goal.returns-in-4605681218924227243
-unfolding twelfths_of patterns place_in
+unfolding grid_number twelfths_of patterns place_in
 returns-in-4605681218924227243 c = hit _ c.in-4605681218924227243.is
 
 pub returns-in-4606431818862122325 : goal.returns-in-4606431818862122325
-unfolding twelfths_of patterns place_in
+unfolding grid_number twelfths_of patterns place_in
 returns-in-4606431818862122325 c = hit _ c.in-4606431818862122325.is
 
 pub returns-in_default : goal.returns-in_default
-unfolding twelfths_of patterns place_in
+unfolding grid_number twelfths_of patterns place_in
 returns-in_default c =
     let bits = to_bits binary64 c.args.component in
     let none = c.in_default.in_default-own.rest in

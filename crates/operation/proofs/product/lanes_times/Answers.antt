@@ -10,12 +10,12 @@ pub overflow_mul-result : goal.overflow_mul-result
 overflow_mul-result c =
     record {
       fits =
-          omega (arith, mul-le-mul {n₁ = c.lanes.result} {m₁ = c.wide.result} {n₂ = 1121502395105535} {m₂ = 255} (omega arith) (omega arith));
+          omega (arith, mul-le-mul {n₁ = c.lanes.result} {m₁ = c.from.result} {n₂ = 1121502395105535} {m₂ = 255} (omega arith) (omega arith));
     }
 
 pub returns : goal.returns
 returns c =
     let a = c.args in (
-      ap₂ ◌*◌ c.lanes.ensures c.wide.ensures ∙ lanes-times a.x a.y a.z a.a,
+      ap₂ ◌*◌ c.lanes.ensures.0 c.from.ensures ∙ lanes-times a.x a.y a.z a.a,
       mul-le-mul {n₂ = 1121502395105535} {m₂ = 255} (omega arith) (omega arith),
     )

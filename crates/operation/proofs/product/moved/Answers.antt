@@ -17,8 +17,8 @@ reduced-requires c =
     let u = a.u in
     let t = a.t in
     lanes-small-lanes _ _ _ _
-    ((λ i. c.rows_times.ensures.0 i + c.lanes.ensures i +
-    (c.wide.ensures i + c.wide-2.ensures i + c.wide-3.ensures i) * 48378534690827) ∙ moved-lanes _ _ _ _ _ _ _)
+    ((λ i. c.rows_times.ensures.0 i + c.lanes.ensures.0 i +
+    (c.from.ensures i + c.from-2.ensures i + c.from-3.ensures i) * 48378534690827) ∙ moved-lanes _ _ _ _ _ _ _)
     (moved-small r.xx r.xy r.xz u.x u.y u.z t.x (omega arith) (omega arith) (omega arith) (omega arith) (omega arith) (omega arith)
     (omega arith))
     (moved-small r.yx r.yy r.yz u.x u.y u.z t.y (omega arith) (omega arith) (omega arith) (omega arith) (omega arith) (omega arith)
@@ -43,8 +43,8 @@ returns c =
     moved-small r.yx r.yy r.yz u.x u.y u.z t.y (omega arith) (omega arith) (omega arith) (omega arith) (omega arith) (omega arith)
     (omega arith) in
     let sum =
-    (λ i. c.rows_times.ensures.0 i + c.lanes.ensures i +
-    (c.wide.ensures i + c.wide-2.ensures i + c.wide-3.ensures i) * 48378534690827)
+    (λ i. c.rows_times.ensures.0 i + c.lanes.ensures.0 i +
+    (c.from.ensures i + c.from-2.ensures i + c.from-3.ensures i) * 48378534690827)
     ∙ moved-lanes _ _ _ _ _ _ _ in
     let px =
     ap (λ n. n % 2097152 % 12) sum ∙ ap (λ n. n % 12) (first_lane x y z (omega arith) (omega arith))

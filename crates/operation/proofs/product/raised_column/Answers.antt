@@ -9,7 +9,7 @@ pub returns : goal.returns
 returns c =
     let a = c.args in (
       (λ i. c.rows_times-2.ensures.0 i + (9024795744143364 - c.rows_times.ensures.0 i) -
-          (c.wide.ensures i + c.wide-2.ensures i + c.wide-3.ensures i) * 4398048608257) ∙
+          (c.from.ensures i + c.from-2.ensures i + c.from-3.ensures i) * 4398048608257) ∙
           raised-lanes a.r a.a a.b a.c (omega arith) (omega arith) (omega arith) (omega arith) (omega arith) (omega arith) (omega arith)
           (omega arith) (omega arith) (omega arith) (omega arith) (omega arith),
       omega arith,

@@ -1,16 +1,14 @@
--- `are_digits`: each early answer is one test that fails. Assumes nothing.
+-- `are_digits`: the tests in turn. Assumes nothing.
+use Rattle.std.proofs.Common.{arith}
+use Rattle.std.proofs.lemmas.Grind.{common_steps}
 use borrow.Author.Tests.{le-leb, lt-leb}
 use Rattle.operation.specs.DigitDeterminant.{are_digits}
 use Rattle.operation.proofs.rotation_type.are_digits.Goals as goal
 
-pub returns-then-a-gt2 : goal.returns-then-a-gt2
+pub returns-then-b-le2 : goal.returns-then-b-le2
 unfolding are_digits
-returns-then-a-gt2 c = simp (lt-leb _ _ c.if-a-gt2.true)
+returns-then-b-le2 c = simp (le-leb _ _ c.if-b-le2.true.0, le-leb _ _ c.if-b-le2.true.1)
 
-pub returns-then-b-gt2 : goal.returns-then-b-gt2
+pub returns-else-b-le2 : goal.returns-else-b-le2
 unfolding are_digits
-returns-then-b-gt2 c = simp (le-leb _ _ c.if-a-gt2.false, lt-leb _ _ c.if-b-gt2.true)
-
-pub returns : goal.returns
-unfolding are_digits
-returns c = simp (le-leb _ _ c.if-a-gt2.false, le-leb _ _ c.if-b-gt2.false)
+returns-else-b-le2 c = grind (arith, common_steps, le-leb, lt-leb)

@@ -5,8 +5,8 @@ use Rattle.record_items.proofs.allowed.alike.Goals as goal
 
 pub returns-then-code-item : goal.returns-then-code-item
 unfolding alike_items
-returns-then-code-item c = simp (← c.item_at-item.ensures, ne_eqb _ _ c.if-code-item.true)
+returns-then-code-item c = simp (← c.item_at-item.ensures, eq-eqb _ _ c.if-code-item.true) c.congruent.ensures
 
-pub returns : goal.returns
+pub returns-else-code-item : goal.returns-else-code-item
 unfolding alike_items
-returns c = simp (← c.item_at-item.ensures, eq-eqb _ _ c.if-code-item.false) c.congruent.ensures
+returns-else-code-item c = simp (← c.item_at-item.ensures, ne_eqb _ _ c.if-code-item.false)

@@ -1,7 +1,7 @@
 use mathlib.Core.Path.{◌≡◌, refl, sym, ◌∙◌, subst}
 use mathlib.Core.Bool.{true≢false}
 use mathlib.Core.List.{Memᴰ as Mem}
-use Prim.Native.Nat.{◌-◌, ◌+◌, ◌*◌, ◌≤◌}
+use Prim.Native.Nat.{◌+◌, ◌*◌, ◌≤◌}
 use native.Mathlib.Omega.{arith}
 use lib.ListN.{length, length-map}
 use Rattle.operation.specs.Product.{identity_operation}
@@ -24,7 +24,6 @@ loop-j-init c =
     -- The listed operations are as many as the items.
     let count-is : length (operations_of c.args.edition c.args.n c.args.bytes.now) ≡ c.args.n =
     length-map (items_of c.args.edition c.args.n c.args.bytes.now) operation_of_item ∙ items-count c.args.edition c.args.n c.args.bytes.now in (
-      omega arith,
       refl,
       λ i h. absurd (omega arith),
       only-sound c.args.c (operations_of c.args.edition c.args.n c.args.bytes.now) c.args.e
@@ -35,32 +34,28 @@ loop-j-init c =
 pub bounds-known-j : goal.bounds-known-j
 bounds-known-j c = omega (arith, c.requires.0)
 
-pub overflow_add-j : goal.overflow_add-j
-overflow_add-j c = omega (arith, c.requires.0)
-
 pub loop-j-preserved-then-known-j-eq1 : goal.loop-j-preserved-then-known-j-eq1
 loop-j-preserved-then-known-j-eq1 c =
     let count-is : length (operations_of c.args.edition c.args.n c.args.bytes.now) ≡ c.args.n =
     length-map (items_of c.args.edition c.args.n c.args.bytes.now) operation_of_item ∙ items-count c.args.edition c.args.n c.args.bytes.now in
-    let right = c.loop-j.invariant.3.sure c.loop-j.j (omega (arith, count-is)) c.if-known-j-eq1.true in (
-      omega arith,
+    let right = c.loop-j.invariant.2.sure c.loop-j.j (omega (arith, count-is)) c.if-known-j-eq1.true in (
+      c.loop-j.invariant.0,
       c.loop-j.invariant.1,
       c.loop-j.invariant.2,
-      c.loop-j.invariant.3,
       right-next c.args.c
           (operations_of c.args.edition c.args.n
-          c.args.bytes.now) c.loop-j.j c.loop-j.invariant.4 right,
+          c.args.bytes.now) c.loop-j.j c.loop-j.invariant.3 right,
     )
 
 pub slice_bounds-make_column-end : goal.slice_bounds-make_column-end
-slice_bounds-make_column-end c = sym c.loop-j.invariant.1
+slice_bounds-make_column-end c = sym c.loop-j.invariant.0
 
 pub overflow_mul-slot : goal.overflow_mul-slot
-overflow_mul-slot c = omega (arith, c.next_slot-slot.ensures.1)
+overflow_mul-slot c = omega (arith, c.min-slot.ensures)
 
 pub make_column-requires : goal.make_column-requires
 make_column-requires c =
-    (c.requires.0, c.requires.1, omega arith, omega (arith, c.next_slot-slot.ensures.1), c.loop-j.invariant.1, c.requires.2)
+    (c.requires.0, c.requires.1, omega arith, omega (arith, c.min-slot.ensures), c.loop-j.invariant.0, c.requires.2)
 
 pub returns-then-not-make_column : goal.returns-then-not-make_column
 returns-then-not-make_column c =
@@ -77,13 +72,13 @@ returns-then-not-make_column c =
     )
 
 pub overflow_add-stored : goal.overflow_add-stored
-overflow_add-stored c = omega (arith, c.next_slot-slot.ensures.1)
+overflow_add-stored c = omega (arith, c.min-slot.ensures)
 
 pub slice_bounds-widen-end : goal.slice_bounds-widen-end
-slice_bounds-widen-end c = sym c.loop-j.invariant.3.broad
+slice_bounds-widen-end c = sym c.loop-j.invariant.2.broad
 
 pub slice_bounds-widen-end-in-loop-j : goal.slice_bounds-widen-end-in-loop-j
-slice_bounds-widen-end-in-loop-j c = sym c.loop-j.invariant.3.wide
+slice_bounds-widen-end-in-loop-j c = sym c.loop-j.invariant.2.wide
 
 pub widen-count-requires : goal.widen-count-requires
 widen-count-requires c =
@@ -96,7 +91,7 @@ widen-count-requires c =
     c.args.bytes.now)
     c.loop-j.known c.loop-j.members
     c.loop-j.count c.make_column.new.columns
-    (c.next_slot-slot.result + 1) =
+    (c.min-slot.result + 1) =
     let made = c.make_column in
     let short : length
     (operations_of c.args.edition
@@ -105,11 +100,11 @@ widen-count-requires c =
     record {
       short = short;
       into = c.requires.3;
-      sound = c.loop-j.invariant.3;
-      narrow = omega (arith, c.next_slot-slot.ensures.1);
+      sound = c.loop-j.invariant.2;
+      narrow = omega (arith, c.min-slot.ensures);
       made =
-          stored_next c.args.c _ _ c.next_slot-slot.result c.loop-j.columns _ c.make_column.result short
-          (λ i h. c.loop-j.invariant.2 i (omega (arith, c.next_slot-slot.ensures.0))) c.make_column.ensures
+          stored_next c.args.c _ _ c.min-slot.result c.loop-j.columns _ c.make_column.result short
+          (λ i h. c.loop-j.invariant.1 i (omega (arith, c.min-slot.ensures))) c.make_column.ensures
           c.if-not-make_column.false;
     } in (
       c.args.c,
@@ -118,9 +113,6 @@ widen-count-requires c =
           c.args.bytes.now),
       widening-at,
     )
-
-pub overflow_add-j-in-loop-j : goal.overflow_add-j-in-loop-j
-overflow_add-j-in-loop-j c = omega (arith, c.requires.0)
 
 pub loop-j-preserved : goal.loop-j-preserved
 loop-j-preserved c =
@@ -132,7 +124,7 @@ loop-j-preserved c =
     c.args.bytes.now)
     c.loop-j.known c.loop-j.members
     c.loop-j.count c.make_column.new.columns
-    (c.next_slot-slot.result + 1) =
+    (c.min-slot.result + 1) =
     let made = c.make_column in
     let short : length
     (operations_of c.args.edition
@@ -141,11 +133,11 @@ loop-j-preserved c =
     record {
       short = short;
       into = c.requires.3;
-      sound = c.loop-j.invariant.3;
-      narrow = omega (arith, c.next_slot-slot.ensures.1);
+      sound = c.loop-j.invariant.2;
+      narrow = omega (arith, c.min-slot.ensures);
       made =
-          stored_next c.args.c _ _ c.next_slot-slot.result c.loop-j.columns _ c.make_column.result short
-          (λ i h. c.loop-j.invariant.2 i (omega (arith, c.next_slot-slot.ensures.0))) c.make_column.ensures
+          stored_next c.args.c _ _ c.min-slot.result c.loop-j.columns _ c.make_column.result short
+          (λ i h. c.loop-j.invariant.1 i (omega (arith, c.min-slot.ensures))) c.make_column.ensures
           c.if-not-make_column.false;
     } in
     let W = widening-at in
@@ -158,14 +150,13 @@ loop-j-preserved c =
     let right =
     subst (Right c.args.c listed) here
     (column-right c.args.c listed (operation_of_item (item_at c.args.edition c.args.bytes.now c.loop-j.j)) c.make_column.new.columns
-    (48 * c.next_slot-slot.result) column) in (
-      omega arith,
-      c.make_column.ensures.long ∙ c.loop-j.invariant.1,
+    (48 * c.min-slot.result) column) in (
+      c.make_column.ensures.long ∙ c.loop-j.invariant.0,
       W.made,
       c.widen-count.ensures c.args.c listed W,
-      right-next c.args.c listed c.loop-j.j c.loop-j.invariant.4 right,
+      right-next c.args.c listed c.loop-j.j c.loop-j.invariant.3 right,
     )
 
 pub returns : goal.returns
 returns c =
-    ((λ e k h. c.loop-j.invariant.4 k (omega arith)), λ e. absurd (true≢false e))
+    ((λ e k h. c.loop-j.invariant.3 k (omega arith)), λ e. absurd (true≢false e))

@@ -22,28 +22,29 @@ returns-then-not-all_keep c =
     lost c.args.c (items_of c.args.edition c.args.n c.args.bytes.now) (sym c.all_keep.ensures
     ∙ not-true c.all_keep.result (not_from_false _ c.if-not-all_keep.true))
 
-pub product_at-e-requires : goal.product_at-e-requires
-product_at-e-requires c = (c.requires.0, c.requires.1)
+pub product_at-requires : goal.product_at-requires
+product_at-requires c = (c.requires.0, c.requires.1)
 
-pub returns-then-n-e : goal.returns-then-n-e
-returns-then-n-e c =
+pub returns-in_default : goal.returns-in_default
+returns-in_default c =
+    let missing = rw c.in_default.is at c.product_at.ensures in
     -- What was sought is the identity.
-    let unit-at : c.product_at-e.result ≡ place (alike_items c.args.c) (item_of identity_operation)
+    let unit-at : c.args.n ≡ place (alike_items c.args.c) (item_of identity_operation)
     (items_of c.args.edition c.args.n
     c.args.bytes.now) =
     let items = items_of c.args.edition c.args.n c.args.bytes.now in
-    c.product_at-e.ensures ∙ ap₂ (λ (f g : Operation). product_at c.args.c items (product_of f g)) c.identity.ensures
+    missing.0 ∙ ap₂ (λ (f g : Operation). product_at c.args.c items (product_of f g)) c.identity.ensures
     c.identity-2.ensures ∙ unit-place c.args.c items in
     without-identity c.args.c (items_of c.args.edition c.args.n c.args.bytes.now) _ (unit-at)
-    (omega (arith, items-count c.args.edition c.args.n c.args.bytes.now, c.if-n-e.true))
+    (omega (arith, items-count c.args.edition c.args.n c.args.bytes.now))
 
 pub every_product-requires : goal.every_product-requires
 every_product-requires c =
-    let unit-at : c.product_at-e.result ≡ place (alike_items c.args.c) (item_of identity_operation)
+    let unit-at : c.in-Some.e ≡ place (alike_items c.args.c) (item_of identity_operation)
     (items_of c.args.edition c.args.n
     c.args.bytes.now) =
     let items = items_of c.args.edition c.args.n c.args.bytes.now in
-    c.product_at-e.ensures ∙ ap₂ (λ (f g : Operation). product_at c.args.c items (product_of f g)) c.identity.ensures
+    c.in-Some.ensures.0 ∙ ap₂ (λ (f g : Operation). product_at c.args.c items (product_of f g)) c.identity.ensures
     c.identity-2.ensures ∙ unit-place c.args.c items in
     -- All rotations keep the lattice.
     let kept_at : all (keeps_item c.args.c)
@@ -55,17 +56,17 @@ every_product-requires c =
       c.requires.1,
       c.requires.2,
       into,
-      omega (arith, c.if-n-e.false),
-      unit-right c.args.c items c.requires.2 into _ (unit-at) (omega (arith, items-count c.args.edition c.args.n c.args.bytes.now, c.if-n-e.false)),
+      omega (arith, c.in-Some.ensures.1),
+      unit-right c.args.c items c.requires.2 into _ (unit-at) (omega (arith, items-count c.args.edition c.args.n c.args.bytes.now, c.in-Some.ensures.1)),
     )
 
 pub returns : goal.returns
 returns c =
-    let unit-at : c.product_at-e.result ≡ place (alike_items c.args.c) (item_of identity_operation)
+    let unit-at : c.in-Some.e ≡ place (alike_items c.args.c) (item_of identity_operation)
     (items_of c.args.edition c.args.n
     c.args.bytes.now) =
     let items = items_of c.args.edition c.args.n c.args.bytes.now in
-    c.product_at-e.ensures ∙ ap₂ (λ (f g : Operation). product_at c.args.c items (product_of f g)) c.identity.ensures
+    c.in-Some.ensures.0 ∙ ap₂ (λ (f g : Operation). product_at c.args.c items (product_of f g)) c.identity.ensures
     c.identity-2.ensures ∙ unit-place c.args.c items in
     let kept_at : all (keeps_item c.args.c)
     (items_of c.args.edition c.args.n c.args.bytes.now) ≡ true =
@@ -73,5 +74,5 @@ returns c =
     let count = items-count c.args.edition c.args.n c.args.bytes.now in
     let (right, lacks) = c.every_product.ensures in
     decided c.args.c (items_of c.args.edition c.args.n c.args.bytes.now) c.requires.2 (kept_at) _
-    (unit-at) (omega (arith, count, c.if-n-e.false))
+    (unit-at) (omega (arith, count, c.in-Some.ensures.1))
     c.every_product.result ((λ e k h. right e k (omega (arith, count))), lacks)

@@ -1,6 +1,6 @@
--- The loop's invariant: none of the items passed is alike, so the place is among what is left. The measure is what is left.
+-- The loop's invariant: none of the items passed is alike, so the place is among what is left.
 use mathlib.Core.Path.{◌≡◌}
-use Prim.Native.Nat.{◌+◌, ◌-◌, ◌≤◌}
+use Prim.Native.Nat.{◌+◌}
 use lib.ListN.{drop}
 use Rattle.laws.specs.Growth.{place}
 use Rattle.group_record.specs.Record.{item_of}
@@ -10,8 +10,5 @@ use Rattle.record_items.proofs.allowed.listed_at.Given as goal
 
 abbrev pub invariant-loop-i : goal.invariant-loop-i
 invariant-loop-i l =
-    (l.i ≤ l.n) × (l.i + place (alike_items l.c) (item_of l.f) (drop l.i (items_of l.edition l.n l.bytes))
+    (l.i + place (alike_items l.c) (item_of l.f) (drop l.i (items_of l.edition l.n l.bytes))
     ≡ place (alike_items l.c) (item_of l.f) (items_of l.edition l.n l.bytes))
-
-abbrev pub decreases-loop-i : goal.decreases-loop-i
-decreases-loop-i l = l.n - l.i

@@ -1,7 +1,7 @@
 use mathlib.Core.Path.{◌≡◌, refl, sym, ◌∙◌, subst}
 use mathlib.Core.Bool.{true, false, true≢false}
 use mathlib.Core.List.{map}
-use Prim.Native.Nat.{◌+◌, ◌-◌}
+use Prim.Native.Nat.{◌+◌}
 use native.Mathlib.Omega.{arith}
 use lib.ListN.{length-map, length-set}
 use lib.Seq.{get_or-set_other}
@@ -16,35 +16,36 @@ pub operation_at-g-requires : goal.operation_at-g-requires
 operation_at-g-requires c = item-inside c.args.edition c.args.j c.args.n _ c.requires.2 c.requires.1
 
 pub loop-i-init : goal.loop-i-init
-loop-i-init c = (omega arith, refl, λ t h. refl, λ k h. absurd (omega arith))
+loop-i-init c = (refl, λ t h. refl, λ k h. absurd (omega arith))
 
 pub operation_at-requires : goal.operation_at-requires
 operation_at-requires c = item-inside c.args.edition c.loop-i.i c.args.n _ (omega arith) c.requires.1
 
-pub product_at-k-requires : goal.product_at-k-requires
-product_at-k-requires c = (c.requires.0, c.requires.1)
+pub product_at-requires : goal.product_at-requires
+product_at-requires c = (c.requires.0, c.requires.1)
 
-pub shape_of-columns-then-n-k : goal.shape_of-columns-then-n-k
-shape_of-columns-then-n-k c = c.loop-i.invariant.1
+pub shape_of-columns-in_default : goal.shape_of-columns-in_default
+shape_of-columns-in_default c = c.loop-i.invariant.0
 
-pub returns-then-n-k : goal.returns-then-n-k
-returns-then-n-k c =
+pub returns-in_default : goal.returns-in_default
+returns-in_default c =
+    let missing = rw c.in_default.is at c.product_at.ensures in
     let items = items_of c.args.edition c.args.n c.args.bytes.now in
     let count = items-count c.args.edition c.args.n c.args.bytes.now in
     let here = c.operation_at.ensures ∙ operation-listed c.args.edition c.args.n c.args.bytes.now c.loop-i.i (omega arith) in
     subst (λ (x : Operation). Made c.args.c (map operation_of_item items) x c.args.at c.args.columns.now c.loop-i.columns false)
     c.operation_at-g.ensures
     (record {
-      long = c.loop-i.invariant.1;
-      front = c.loop-i.invariant.2;
+      long = c.loop-i.invariant.0;
+      front = c.loop-i.invariant.1;
       column = λ e. absurd (true≢false (sym e));
       lacks =
-          λ e. index-lacks c.args.c items c.requires.5 c.operation_at.result _ c.loop-i.i here _ c.product_at-k.ensures
-          (omega (arith, count)) (omega (arith, count, c.if-n-k.true));
+          λ e. index-lacks c.args.c items c.requires.5 c.operation_at.result _ c.loop-i.i here _ missing.0
+          (omega (arith, count)) (omega (arith, count));
     })
 
 pub overflow_cast-columns : goal.overflow_cast-columns
-overflow_cast-columns c = omega (arith, c.if-n-k.false, c.requires.0)
+overflow_cast-columns c = omega (arith, c.in-Some.ensures.1, c.requires.0)
 
 pub overflow_add-columns : goal.overflow_add-columns
 overflow_add-columns c =
@@ -61,7 +62,7 @@ bounds-columns-at c =
       c.requires.0,
       c.requires.3,
       c.requires.4,
-      c.loop-i.invariant.1,
+      c.loop-i.invariant.0,
     )
 
 pub loop-i-preserved : goal.loop-i-preserved
@@ -71,25 +72,24 @@ loop-i-preserved c =
     let here = c.operation_at.ensures ∙ operation-listed c.args.edition c.args.n c.args.bytes.now c.loop-i.i (omega arith) in
     let found =
     index-found c.args.c items c.requires.5 c.operation_at.result c.operation_at-g.result c.loop-i.i here _
-    c.product_at-k.ensures (omega (arith, count, c.if-n-k.false)) in (
-      omega arith,
-      length-set c.loop-i.columns (c.args.at + c.loop-i.i) _ ∙ c.loop-i.invariant.1,
-      λ t h. get_or-set_other c.loop-i.columns (c.args.at + c.loop-i.i) t _ 0 (λ (q : t ≡ c.args.at + c.loop-i.i). omega arith) ∙ c.loop-i.invariant.2 t h,
+    c.in-Some.ensures.0 (omega (arith, count, c.in-Some.ensures.1)) in (
+      length-set c.loop-i.columns (c.args.at + c.loop-i.i) _ ∙ c.loop-i.invariant.0,
+      λ t h. get_or-set_other c.loop-i.columns (c.args.at + c.loop-i.i) t _ 0 (λ (q : t ≡ c.args.at + c.loop-i.i). omega arith) ∙ c.loop-i.invariant.1 t h,
       column-next c.args.c (map operation_of_item items) _ c.loop-i.columns c.args.at c.loop-i.i _
-          (omega (arith, c.requires.0, c.requires.3, c.requires.4, c.loop-i.invariant.1)) c.loop-i.invariant.3
-          (omega (arith, count, length-map items operation_of_item, c.if-n-k.false)) found,
+          (omega (arith, c.requires.0, c.requires.3, c.requires.4, c.loop-i.invariant.0)) c.loop-i.invariant.2
+          (omega (arith, count, length-map items operation_of_item, c.in-Some.ensures.1)) found,
     )
 
 pub shape_of-columns : goal.shape_of-columns
-shape_of-columns c = c.loop-i.invariant.1
+shape_of-columns c = c.loop-i.invariant.0
 
 pub returns : goal.returns
 returns c =
     let items = items_of c.args.edition c.args.n c.args.bytes.now in
     subst (λ (x : Operation). Made c.args.c (map operation_of_item items) x c.args.at c.args.columns.now c.loop-i.columns true) c.operation_at-g.ensures
     (record {
-      long = c.loop-i.invariant.1;
-      front = c.loop-i.invariant.2;
-      column = λ e k h. c.loop-i.invariant.3 k (omega (arith, items-count c.args.edition c.args.n c.args.bytes.now, length-map items operation_of_item));
+      long = c.loop-i.invariant.0;
+      front = c.loop-i.invariant.1;
+      column = λ e k h. c.loop-i.invariant.2 k (omega (arith, items-count c.args.edition c.args.n c.args.bytes.now, length-map items operation_of_item));
       lacks = λ e. absurd (true≢false e);
     })

@@ -8,9 +8,9 @@ pub returns-in_default : goal.returns-in_default
 returns-in_default c =
     let items = items_of c.args.edition c.args.n c.args.bytes.now in
     let outside = sym c.mul.ensures ∙ c.in_default.is in
-    sym (items-count c.args.edition c.args.n c.args.bytes.now) ∙ ap (product_at c.args.c items) (sym outside)
+    (sym (items-count c.args.edition c.args.n c.args.bytes.now) ∙ ap (product_at c.args.c items) (sym outside), tt)
 
 pub returns : goal.returns
 returns c =
-    let inside = sym c.in-Inside.is ∙ c.mul.ensures in
-    c.listed_at.ensures ∙ ap (product_at c.args.c (items_of c.args.edition c.args.n c.args.bytes.now)) inside
+    let inside = sym c.in-Some.is ∙ c.mul.ensures in
+    (c.listed_at.ensures.0 ∙ ap (product_at c.args.c (items_of c.args.edition c.args.n c.args.bytes.now)) inside, c.listed_at.ensures.1)

@@ -1,13 +1,11 @@
--- A conjunction: the first test, or the second where the first holds.
-use Rattle.std.proofs.lemmas.Bool.{not_from_false, not_from_true}
-use borrow.Author.Tests.{not-true, not-false}
+-- A conjunction: the first test, and the second where the first holds.
 use Rattle.group_record.specs.Reading.{are_items}
 use Rattle.record_items.proofs.rules.are_items.Goals as goal
 
-pub returns-then-not-items_fit : goal.returns-then-not-items_fit
+pub returns-then-items_fit : goal.returns-then-items_fit
 unfolding are_items
-returns-then-not-items_fit c = simp (← c.items_fit.ensures, not-true c.items_fit.result (not_from_false _ c.if-not-items_fit.true))
+returns-then-items_fit c = simp (← c.items_fit.ensures, c.if-items_fit.true) c.codes_ascend.ensures
 
-pub returns : goal.returns
+pub returns-else-items_fit : goal.returns-else-items_fit
 unfolding are_items
-returns c = simp (← c.items_fit.ensures, not-false c.items_fit.result (not_from_true _ c.if-not-items_fit.false)) c.codes_ascend.ensures
+returns-else-items_fit c = simp (← c.items_fit.ensures, c.if-items_fit.false)

@@ -1,6 +1,5 @@
 use Rattle.std.proofs.lemmas.Bool.{not_from_false, not_from_true}
 use mathlib.Core.Path.{refl, sym, ◌∙◌, ap}
-use Prim.Native.Nat.{◌-◌}
 use native.Mathlib.Omega.{arith}
 use borrow.Author.Tests.{not-true, not-false}
 use Rattle.group_record.specs.BothEditions.{edition_of, width_in, item-inside}
@@ -10,7 +9,7 @@ use Rattle.record_items.specs.Items.{item_at}
 use Rattle.record_items.proofs.rules.items_fit.Goals as goal
 
 pub loop-i-init : goal.loop-i-init
-loop-i-init c = (omega arith, refl)
+loop-i-init c = refl
 
 pub item_at-requires : goal.item_at-requires
 item_at-requires c =
@@ -22,18 +21,16 @@ unfolding item_at
 returns-then-not-is_item c =
     let said = sym (c.is_item.ensures ∙ ap (is_item c.args.c) c.item_at.ensures) in
     sym (all-stop (width_in c.args.edition) (edition_of c.args.edition).read c.args.n c.args.bytes.now (is_item c.args.c) c.loop-i.i (omega arith)
-    (said ∙ not-true c.is_item.result (not_from_false _ c.if-not-is_item.true))) ∙ c.loop-i.invariant.1
+    (said ∙ not-true c.is_item.result (not_from_false _ c.if-not-is_item.true))) ∙ c.loop-i.invariant
 
 pub loop-i-preserved : goal.loop-i-preserved
 unfolding item_at
 loop-i-preserved c =
-    let said = sym (c.is_item.ensures ∙ ap (is_item c.args.c) c.item_at.ensures) in (
-      omega arith,
-      sym (all-next (width_in c.args.edition) (edition_of c.args.edition).read c.args.n c.args.bytes.now (is_item c.args.c) c.loop-i.i (omega arith)
-          (said ∙ not-false c.is_item.result (not_from_true _ c.if-not-is_item.false))) ∙ c.loop-i.invariant.1,
-    )
+    let said = sym (c.is_item.ensures ∙ ap (is_item c.args.c) c.item_at.ensures) in
+    sym (all-next (width_in c.args.edition) (edition_of c.args.edition).read c.args.n c.args.bytes.now (is_item c.args.c) c.loop-i.i (omega arith)
+    (said ∙ not-false c.is_item.result (not_from_true _ c.if-not-is_item.false))) ∙ c.loop-i.invariant
 
 pub returns : goal.returns
 returns c =
     sym (all_end (width_in c.args.edition) (edition_of c.args.edition).read c.args.n c.args.bytes.now (is_item c.args.c) c.loop-i.i (omega arith)
-    (omega arith)) ∙ c.loop-i.invariant.1
+    (omega arith)) ∙ c.loop-i.invariant

@@ -1,6 +1,5 @@
--- The loop's invariant: the operations passed are of a layer, so what is left decides. The measure is what is left.
+-- The loop's invariant: the operations passed are of a layer, so what is left decides.
 use mathlib.Core.Path.{◌≡◌}
-use Prim.Native.Nat.{◌-◌, ◌≤◌}
 use lib.ListN.{drop}
 use Rattle.laws.specs.Truth.{all}
 use Rattle.layer_group.specs.Layers.{is_layer}
@@ -11,9 +10,5 @@ use Rattle.record_reading.proofs.reader.all_layers.Given as goal
 
 abbrev pub invariant-loop-i : goal.invariant-loop-i
 invariant-loop-i l =
-    (l.i ≤ l.n)
-    × (all (λ (j : Item). is_layer (operation_of_item j)) (drop l.i (items_of l.edition l.n l.bytes))
+    (all (λ (j : Item). is_layer (operation_of_item j)) (drop l.i (items_of l.edition l.n l.bytes))
     ≡ all (λ (j : Item). is_layer (operation_of_item j)) (items_of l.edition l.n l.bytes))
-
-abbrev pub decreases-loop-i : goal.decreases-loop-i
-decreases-loop-i l = l.n - l.i

@@ -4,8 +4,5 @@ use Rattle.layer_group.specs.Layers.{is_layer}
 use Rattle.record_reading.specs.Slots.{all-operations}
 use Rattle.record_reading.proofs.reader.are_layers.Goals as goal
 
-pub returns-then-not-small : goal.returns-then-not-small
-returns-then-not-small c = rw c.if-not-small.true
-
-pub returns : goal.returns
-returns c = rw c.if-not-small.false (c.all_layers.ensures ∙ sym (all-operations is_layer _))
+pub returns-else-not-small : goal.returns-else-not-small
+returns-else-not-small c = rw c.if-not-small.false (c.all_layers.ensures ∙ sym (all-operations is_layer _))

@@ -4,23 +4,23 @@ use Rattle.record_reading.specs.Found.{nothing-found, stands-as}
 use native.Mathlib.Omega.{arith}
 use Rattle.record_reading.proofs.reader.find.Goals as goal
 
-pub returns-then-size-lt9 : goal.returns-then-size-lt9
-returns-then-size-lt9 c = nothing-found c.nothing.ensures (read_short c.args.bytes.now c.if-size-lt9.true)
+pub returns-then-bytes-lt9 : goal.returns-then-bytes-lt9
+returns-then-bytes-lt9 c = nothing-found c.nothing.ensures (read_short c.args.bytes.now c.if-bytes-lt9.true)
 
-pub returns-then-number-eq1 : goal.returns-then-number-eq1
-returns-then-number-eq1 c =
+pub returns-in-1 : goal.returns-in-1
+returns-in-1 c =
     stands-as c.find_lettered.ensures
-    (read-as-first c.args.bytes.now _ (omega (arith, c.if-size-lt9.false))
-    c.from_end-number.ensures c.if-number-eq1.true)
+    (read-as-first c.args.bytes.now _ (omega (arith, c.if-bytes-lt9.false))
+    c.from_end.ensures c.in-1.is)
 
-pub returns-then-number-eq3 : goal.returns-then-number-eq3
-returns-then-number-eq3 c =
-    stands-as c.find_lettered-then-number-eq3.ensures
-    (read-as-third c.args.bytes.now _ (omega (arith, c.if-size-lt9.false))
-    c.from_end-number.ensures c.if-number-eq1.false c.if-number-eq3.true)
+pub returns-in-3 : goal.returns-in-3
+returns-in-3 c =
+    stands-as c.find_lettered-in-3.ensures
+    (read-as-third c.args.bytes.now _ (omega (arith, c.if-bytes-lt9.false))
+    c.from_end.ensures (λ e. absurd (omega (arith, c.in-3.is))) c.in-3.is)
 
-pub returns : goal.returns
-returns c =
-    nothing-found c.nothing-2.ensures
-    (read-other-edition c.args.bytes.now _ (omega (arith, c.if-size-lt9.false))
-    c.from_end-number.ensures c.if-number-eq1.false c.if-number-eq3.false)
+pub returns-in_default : goal.returns-in_default
+returns-in_default c =
+    nothing-found c.nothing-in_default.ensures
+    (read-other-edition c.args.bytes.now _ (omega (arith, c.if-bytes-lt9.false))
+    c.from_end.ensures (λ e. absurd (omega arith)) (λ e. absurd (omega arith)))

@@ -28,7 +28,7 @@ returns-in_default c =
 pub returns : goal.returns
 returns c =
     let same = c.from_end-letter.ensures in
-    let letter = ap letter_of (sym same) ∙ sym c.from_byte.ensures ∙ c.in-Is.is in
+    let letter = ap letter_of (sym same) ∙ sym c.from_byte.ensures ∙ c.in-Some.is in
     stands-as c.find_counted-2.ensures
     (lettered-plain c.args.edition (from_end c.args.bytes.now 5) c.args.bytes.now
     (λ e. c.if-letter-eq112.false (same ∙ e)) (λ e. c.if-letter-eq99.false (same ∙ e)) _

@@ -1,5 +1,4 @@
 use mathlib.Core.Path.{sym, ◌∙◌}
-use Prim.Native.Nat.{◌-◌}
 use native.Mathlib.Omega.{arith}
 use Rattle.record_items.specs.Items.{operation-there}
 use Rattle.record_reading.specs.Found.{laid_out}
@@ -7,23 +6,18 @@ use Rattle.record_reading.specs.Slots.{filled_next, filled-start, filled-end}
 use Rattle.record_reading.proofs.reader.laid_out.Goals as goal
 
 pub loop-i-init : goal.loop-i-init
-loop-i-init c = (
-  omega arith,
-  rw c.identity-operations.ensures (sym (filled-start c.args.edition c.args.n c.args.bytes.now)),
-)
+loop-i-init c = rw c.identity-operations.ensures (sym (filled-start c.args.edition c.args.n c.args.bytes.now))
 
 pub loop-i-preserved : goal.loop-i-preserved
 loop-i-preserved c =
     let wide = c.requires.1 in
-    let there = operation-there c.args.edition c.args.n c.loop-i.i c.args.bytes.now (omega arith) wide in (
-      omega arith,
-      rw (c.loop-i.invariant.1, c.operation_in.ensures ∙ there) (filled_next c.args.edition c.args.n c.args.bytes.now c.loop-i.i (omega arith) (omega arith)),
-    )
+    let there = operation-there c.args.edition c.args.n c.loop-i.i c.args.bytes.now (omega arith) wide in
+    rw (c.loop-i.invariant, c.operation_in.ensures ∙ there) (filled_next c.args.edition c.args.n c.args.bytes.now c.loop-i.i (omega arith) (omega arith))
 
 pub returns : goal.returns
 unfolding laid_out
 returns c =
-    let done = c.loop-i.invariant.1 ∙ filled-end c.args.edition c.args.n c.args.bytes.now c.loop-i.i (omega arith) (omega arith) in
+    let done = c.loop-i.invariant ∙ filled-end c.args.edition c.args.n c.args.bytes.now c.loop-i.i (omega arith) (omega arith) in
     λ k. record {
       answer = c.args.answer;
       edition = c.args.edition;

@@ -19,7 +19,7 @@ pub returns-in-Accepted : goal.returns-in-Accepted
 returns-in-Accepted c =
     let g = c.read_record-group.result in
     let read = c.read_record-group.ensures in
-    let chosen = c.chosen-target.ensures in
+    let chosen = c.chosen.ensures in
     let told = c.in-Accepted.is in (
       c.place_read.ensures.0 ∙ ap (λ (e : Edition). copied_by Accepted e c.read_record-group.result.count c.args.start (length c.args.out.now)) chosen
           ∙ copied-by c.args.moved c.args.bytes.now c.args.out.now c.args.start g read Accepted told,

@@ -1,4 +1,5 @@
 -- The symbol's answer decides, then whether there was room; an accepted symbol's operations may be written.
+use Rattle.std.specs.Prelude.{Err, Ok}
 use Rattle.group_record.specs.Record.{record_in, record_of}
 use Rattle.group_record.specs.FirstEdition.{first_edition}
 use Rattle.record_writing.specs.Places.{placed_in}
@@ -8,8 +9,8 @@ use lib.ListN.{take}
 use mathlib.Core.Bool.{Bool, true, false, cond}
 use Rattle.record_writing.specs.SymbolRecords.{symbol_record_of, symbol_buffer_of, refused-by, accepted-by}
 use Rattle.record_writing.specs.AcceptedSymbols.{symbol-writable}
-use Rattle.record_writing.specs.declared.SymbolRecord.TheVariants.{Written, NoRoom}
 use Rattle.record_writing.proofs.symbol.write_record.Goals as goal
+use Rattle.record_writing.specs.declared.Unwritten.TheVariants.{NoRoom}
 
 pub place_group-requires : goal.place_group-requires
 place_group-requires c =
@@ -22,7 +23,7 @@ unfolding record_of
 returns-then-not-place_group c =
     -- What is answered, by what the writer answered.
     let placed-answer : (b : Bool) → c.place_group.result ≡ b
-    → (cond b (Written c.new-group.result.count) NoRoom
+    → (cond b (Ok c.new-group.result.count) (Err NoRoom)
     ≡ symbol_record_of c.args.text.now
     c.args.out.now
     c.args.start)
@@ -44,7 +45,7 @@ pub returns-else-not-place_group : goal.returns-else-not-place_group
 unfolding record_of
 returns-else-not-place_group c =
     let placed-answer : (b : Bool) → c.place_group.result ≡ b
-    → (cond b (Written c.new-group.result.count) NoRoom
+    → (cond b (Ok c.new-group.result.count) (Err NoRoom)
     ≡ symbol_record_of c.args.text.now
     c.args.out.now
     c.args.start)

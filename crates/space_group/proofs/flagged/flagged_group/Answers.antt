@@ -1,21 +1,20 @@
--- The first n of nine generators, or all of them; what is behind the list is cleared.
-use native.Mathlib.Omega.{arith}
-use lib.ListN.{length-set}
-use lib.Seq.{get_or-set_same}
-use Rattle.space_group.specs.FlaggedSlots.{all-cleared}
+-- The first n of nine generators, or all of them; the identity is written behind the list.
+use Rattle.std.proofs.Common.{set, sym, ◌∙◌, ap, rules, length-set}
+use Rattle.space_group.specs.FlaggedSlots.{answered, flagged-told}
 use Rattle.space_group.proofs.flagged.flagged_group.Goals as goal
 
-pub listed-answer-requires : goal.listed-answer-requires
-listed-answer-requires c =
-    let slots = c.args.numbers.now in
-    let long = c.listed-arg-1.given.0.1 in
-    (c.at_most_nine.ensures.1, long, get_or-set_same slots 0 _ 0 (omega (arith, length-set slots 0 9152337073407010)))
+pub returns-in-Ok : goal.returns-in-Ok
+returns-in-Ok c =
+    let part = c.fill.ensures.after (λ y h. search rules) in
+    let both = flagged-told c.args.c c.args.n c.args.generators c.args.flags (search rules) (search rules) c.min-used.result c.min-used.ensures _
+    c.flagged_numbers.ensures c.listed-ended.result (set c.args.numbers.now 0 9152337073407010) c.listed-ended.new.numbers _ _ c.listed-ended.ensures
+    (simp length-set (search rules)) (search rules) c.unwrap_or.result c.unwrap_or.ensures _ part in
+    (sym (ap answered c.in-Ok.is) ∙ both.0, both.1)
 
-pub clear_from-requires : goal.clear_from-requires
-clear_from-requires c = omega (arith, c.listed_count.ensures, c.listed-answer.ensures.long, c.listed-answer.ensures.within)
-
-pub returns : goal.returns
-returns c =
-    let told = c.listed-answer.ensures in
-    all-cleared c.args.c c.args.n c.args.generators c.args.flags c.well_formed.1.1.0.1.0.1 c.well_formed.1.1.1.0.1.0.1
-    _ c.at_most_nine.ensures.0 _ _ told _ c.listed_count.ensures _ c.clear_from.ensures
+pub returns-in-Err : goal.returns-in-Err
+returns-in-Err c =
+    let part = c.fill.ensures.after (λ y h. search rules) in
+    let both = flagged-told c.args.c c.args.n c.args.generators c.args.flags (search rules) (search rules) c.min-used.result c.min-used.ensures _
+    c.flagged_numbers.ensures c.listed-ended.result (set c.args.numbers.now 0 9152337073407010) c.listed-ended.new.numbers _ _ c.listed-ended.ensures
+    (simp length-set (search rules)) (search rules) c.unwrap_or.result c.unwrap_or.ensures _ part in
+    (sym (ap answered c.in-Err.is) ∙ both.0, both.1)

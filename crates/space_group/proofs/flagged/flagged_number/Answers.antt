@@ -9,5 +9,5 @@ overflow_add-result c = let free = flag-free _ _ c.generator_number-plain.ensure
 pub returns-then-flag : goal.returns-then-flag
 returns-then-flag c = with-flag _ _ _ c.generator_number-plain.ensures c.if-flag.true
 
-pub returns : goal.returns
-returns c = without-flag _ _ _ c.generator_number-plain.ensures c.if-flag.false
+pub returns-else-flag : goal.returns-else-flag
+returns-else-flag c = without-flag _ _ _ c.generator_number-plain.ensures c.if-flag.false

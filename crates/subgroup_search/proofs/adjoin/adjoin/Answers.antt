@@ -1,9 +1,8 @@
 use mathlib.Core.Path.{◌≡◌}
 use mathlib.Core.Bool.{true}
-use Prim.Native.Nat.{ℕ, ◌+◌, ◌-◌, ◌<◌, ◌^◌}
+use Prim.Native.Nat.{ℕ, ◌+◌, ◌<◌, ◌^◌}
 use native.Mathlib.Omega.{arith}
 use lib.Count.{ones, ones-le}
-use borrow.Author.Tests.{not-true, not-false}
 use Rattle.laws.specs.Sets.{member, member_below, bounded, shifted_one}
 use Rattle.laws.specs.Truth.{not-passing}
 use Rattle.subgroup_laws.specs.Adjoin.{growing-start}
@@ -18,41 +17,34 @@ fewer n k waiting r rest small inside i W =
     without-ones waiting r rest W n (member_below n k r small (inside r i))
     (bounded n rest (λ x l. not-passing _ (λ m. let j = member_below n k x small (inside x (without-old waiting r rest W x m)) in omega arith)))
 
-pub overflow_shl-waiting : goal.overflow_shl-waiting
-overflow_shl-waiting c = omega arith
-
-pub loop-waiting-init : goal.loop-waiting-init
-loop-waiting-init c =
-    let h : c.args.e < 64 = omega arith in
+pub loop-grown-init : goal.loop-grown-init
+loop-grown-init c =
+    let h : c.args.e < 64 = let i = c.requires.0.group.identity-below in let j = c.requires.0.cells.limit in omega arith in
     rw (shifted_one 64 c.args.e h) (growing-start _ _ _ _ c.args.g c.requires.0.group c.requires.1 c.args.g)
 
-pub swept-next-requires : goal.swept-next-requires
-swept-next-requires c =
-    let r = c.lowest-r.result in (
+pub swept-requires : goal.swept-requires
+swept-requires c =
+    let r = c.lowest-r.result in
+    let held = (c.lowest-r.ensures c.loop-grown-test.true).0 in (
       c.requires.0,
       c.requires.1,
       c.requires.2,
-      c.loop-waiting.invariant.forced r (c.loop-waiting.invariant.waiting-inside r (c.lowest-r.ensures c.loop-waiting-test.true).0),
-      growing-next _ _ _ _ _ _ c.requires.0.group c.requires.1 c.loop-waiting.set c.loop-waiting.waiting r c.without-rest.result (c.without-rest.ensures
-          (c.lowest-r.ensures c.loop-waiting-test.true).0) c.loop-waiting.invariant,
+      c.loop-grown.invariant.forced r (c.loop-grown.invariant.waiting-inside r held),
+      growing-next _ _ _ _ _ _ c.requires.0.group c.requires.1 c.loop-grown.grown.set c.loop-grown.grown.waiting r c.without.result
+          (c.without.ensures held) c.loop-grown.invariant,
     )
 
-pub returns-then-not-next : goal.returns-then-not-next
-returns-then-not-next c = record { none = λ q. c.swept-next.ensures.barred (not-true _ c.if-not-next.true); extension = λ h. absurd (omega arith) }
+pub loop-grown-smaller : goal.loop-grown-smaller
+loop-grown-smaller c =
+    let held = (c.lowest-r.ensures c.loop-grown-test.true).0 in
+    let f = fewer _ c.loop-grown.grown.set c.loop-grown.grown.waiting c.lowest-r.result c.without.result c.loop-grown.invariant.small
+    c.loop-grown.invariant.waiting-inside held (c.without.ensures held) in
+    omega (arith, c.in_ok-grown.ensures.1, f, ones-le _ _ c.in_ok-grown.ensures.0.small, ones-le _ _ c.loop-grown.invariant.small)
 
-pub loop-waiting-smaller : goal.loop-waiting-smaller
-loop-waiting-smaller c =
-    let g = c.swept-next.ensures.grown (not-false _ c.if-not-next.false) in
-    let f = fewer _ c.loop-waiting.set c.loop-waiting.waiting c.lowest-r.result c.without-rest.result c.loop-waiting.invariant.small
-    c.loop-waiting.invariant.waiting-inside (c.lowest-r.ensures c.loop-waiting-test.true).0
-    (c.without-rest.ensures
-    (c.lowest-r.ensures c.loop-waiting-test.true).0) in
-    omega (arith, g.1, f, ones-le _ _ g.0.small, ones-le _ _ c.loop-waiting.invariant.small)
-
-pub loop-waiting-preserved : goal.loop-waiting-preserved
-loop-waiting-preserved c = (c.swept-next.ensures.grown (not-false _ c.if-not-next.false)).0
+pub loop-grown-preserved : goal.loop-grown-preserved
+loop-grown-preserved c = c.in_ok-grown.ensures.0
 
 pub returns : goal.returns
 returns c =
-    let none : c.loop-waiting.waiting ≡ 0 = omega arith in
-    adjoined-end _ _ _ _ _ _ c.requires.0.group c.requires.1 c.requires.2 c.loop-waiting.set c.loop-waiting.waiting none c.loop-waiting.invariant
+    let none : c.loop-grown.grown.waiting ≡ 0 = omega arith in
+    adjoined-end _ _ _ _ _ _ c.requires.0.group c.requires.1 c.requires.2 c.loop-grown.grown.set c.loop-grown.grown.waiting none c.loop-grown.invariant

@@ -6,8 +6,8 @@ use Rattle.subgroup_laws.specs.Adjoin.{Growing}
 use Rattle.subgroup_laws.specs.Table.{product}
 use Rattle.subgroup_search.proofs.adjoin.adjoin.Given as goal
 
-abbrev pub invariant-loop-waiting : goal.invariant-loop-waiting
-invariant-loop-waiting l = Growing l.n (product l.n l.t) l.e l.h l.g l.g l.set l.waiting (λ x. ⊥)
+abbrev pub invariant-loop-grown : goal.invariant-loop-grown
+invariant-loop-grown l = Growing l.n (product l.n l.t) l.e l.h l.g l.g l.grown.set l.grown.waiting (λ x. ⊥)
 
-abbrev pub decreases-loop-waiting : goal.decreases-loop-waiting
-decreases-loop-waiting l = ones l.waiting + (l.n - ones l.set)
+abbrev pub decreases-loop-grown : goal.decreases-loop-grown
+decreases-loop-grown l = ones l.grown.waiting + (l.n - ones l.grown.set)

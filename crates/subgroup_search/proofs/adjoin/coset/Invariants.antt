@@ -9,8 +9,7 @@ use Rattle.subgroup_search.proofs.adjoin.coset.Given as goal
 abbrev value : List ℕ → ℕ → ℕ → ℕ → ℕ
 value t n b x = product n t x b
 
-abbrev pub invariant-loop-left : goal.invariant-loop-left
-invariant-loop-left l = Imaging l.n (value l.t l.n l.b) l.s l.left l.found
-
-abbrev pub decreases-loop-left : goal.decreases-loop-left
-decreases-loop-left l = l.left
+abbrev pub invariant-loop-x : goal.invariant-loop-x
+invariant-loop-x l =
+    goal.iterator-loop-x.can_next l.x-iterator × goal.iterator-loop-x.is_finite l.x-iterator
+    × Imaging l.n (value l.t l.n l.b) l.s l.x-iterator.left l.found

@@ -1,88 +1,78 @@
-use mathlib.Core.Path.{◌≡◌}
+use mathlib.Core.Path.{◌≡◌, ap, ◌∙◌}
 use native.Mathlib.Omega.{arith}
-use borrow.Author.Tests.{not-true, not-false}
+use Rattle.element_sets.specs.declared.sets.Members.{Members}
 use Rattle.laws.specs.Sets.{member_below}
 use Rattle.subgroup_laws.specs.Adjoin.{product-forced, new-forced, old-forced}
-use Rattle.subgroup_laws.specs.Removal.{without-less}
 use Rattle.subgroup_laws.specs.Table.{product}
-use Rattle.subgroup_search.specs.Growth.{taken-grown, taken-barred, swept-barred, sweeping-start, sweeping-step, sweeping-end}
+use Rattle.subgroup_search.specs.Growth.{taken-grown, taken-barred, sweeping-start, sweeping-step, sweeping-end}
 use Rattle.subgroup_search.proofs.adjoin.swept.Goals as goal
 
 pub cell-requires : goal.cell-requires
 cell-requires c = (c.requires.0.cells, c.requires.3.below, c.requires.2)
 
-pub taken-first-requires : goal.taken-first-requires
-taken-first-requires c = (c.requires.0, c.requires.1.small, c.cell.ensures.1, omega arith)
+pub taken-requires : goal.taken-requires
+taken-requires c = (c.requires.0, c.requires.1.small, c.cell.ensures.1, omega arith)
 
-pub returns-then-not-first : goal.returns-then-not-first
-returns-then-not-first c =
+pub returns-in_err-grown : goal.returns-in_err-grown
+returns-in_err-grown c =
     let times = product c.args.n c.args.t.now in
     let F = product-forced c.args.n times c.args.e c.args.h c.args.g c.requires.0.group c.requires.1 c.args.g c.args.r c.args.g c.requires.3
-    (new-forced c.args.n times c.args.e c.args.h
-    c.args.g c.requires.0.group c.requires.1 c.args.g c.requires.2) in
-    let q = not-true _ c.if-not-first.true in
-    swept-barred _ _ _ _ _ _ _ _ q
-    (taken-barred c.args.n times c.args.e c.args.h c.args.g c.args.g c.requires.0.group c.requires.1 (λ x. x ≡ c.args.r) c.args.k c.args.waiting
-    (times c.args.r c.args.g) c.requires.4 F
-    (rw c.cell.ensures.0 at c.taken-first.ensures) q)
+    (new-forced c.args.n times c.args.e c.args.h c.args.g c.requires.0.group c.requires.1 c.args.g c.requires.2) in
+    rw c.from_residual.ensures (taken-barred c.args.n times c.args.e c.args.h c.args.g c.args.g c.requires.0.group c.requires.1
+    (λ x. x ≡ c.args.r) c.args.old.set c.args.old.waiting (times c.args.r c.args.g) c.requires.4 F
+    (rw (c.in_err-grown.was, c.cell.ensures.0) at c.taken.ensures))
 
-pub loop-left-init : goal.loop-left-init
-loop-left-init c =
+pub loop-x-init : goal.loop-x-init
+loop-x-init c =
     let times = product c.args.n c.args.t.now in
+    let e : c.into_iter-x-iterator.result.left ≡ c.args.h =
+    ap (λ (m : Members). m.left) c.into_iter-x-iterator.ensures.into_iter_gives ∙ c.of-x-items.ensures in
     let F = product-forced c.args.n times c.args.e c.args.h c.args.g c.requires.0.group c.requires.1 c.args.g c.args.r c.args.g c.requires.3
-    (new-forced c.args.n times c.args.e c.args.h
-    c.args.g c.requires.0.group c.requires.1 c.args.g c.requires.2) in
-    let q = not-false _ c.if-not-first.false in
-    sweeping-start _ _ _ _ _ _ _ _ _
-    (taken-grown c.args.n times c.args.e c.args.h c.args.g c.args.g c.requires.0.group c.requires.1 (λ x. x ≡ c.args.r) c.args.k c.args.waiting
-    (times c.args.r c.args.g) c.requires.4 F
-    (rw c.cell.ensures.0 at c.taken-first.ensures) q)
+    (new-forced c.args.n times c.args.e c.args.h c.args.g c.requires.0.group c.requires.1 c.args.g c.requires.2) in
+    rw e (
+      tt,
+      tt,
+      sweeping-start _ _ _ _ _ _ _ _ _
+          (taken-grown c.args.n times c.args.e c.args.h c.args.g c.args.g c.requires.0.group c.requires.1 (λ x. x ≡ c.args.r) c.args.old.set c.args.old.waiting
+          (times c.args.r c.args.g) c.requires.4 F
+          (rw (c.in_ok-grown.was, c.cell.ensures.0) at c.taken.ensures)),
+    )
 
-pub cell-requires-in-loop-left : goal.cell-requires-in-loop-left
-cell-requires-in-loop-left c = (
-  c.requires.0.cells,
-  c.requires.3.below,
-  member_below _ _ _ c.requires.1.small (c.loop-left.invariant.inside _ (c.lowest-x.ensures c.loop-left-test.true).0),
-)
+pub cell-requires-in-loop-x : goal.cell-requires-in-loop-x
+cell-requires-in-loop-x c =
+    (c.requires.0.cells, c.requires.3.below, member_below _ _ _ c.requires.1.small (c.loop-x.invariant.2.inside _ c.in-Some.ensures.steps.held))
 
-pub taken-next-requires : goal.taken-next-requires
-taken-next-requires c = (c.requires.0, c.requires.1.small, c.cell-in-loop-left.ensures.1, omega arith)
+pub taken-requires-in-loop-x : goal.taken-requires-in-loop-x
+taken-requires-in-loop-x c = (c.requires.0, c.requires.1.small, c.cell-in-loop-x.ensures.1, omega arith)
 
-pub returns-then-not-next : goal.returns-then-not-next
-returns-then-not-next c =
-    let x = c.lowest-x.result in
+pub returns-in_err-grown-2 : goal.returns-in_err-grown-2
+returns-in_err-grown-2 c =
+    let x = c.in-Some.x in
     let times = product c.args.n c.args.t.now in
     let F = product-forced c.args.n times c.args.e c.args.h c.args.g c.requires.0.group c.requires.1 c.args.g c.args.r x c.requires.3
     (old-forced c.args.n times c.args.e c.args.h c.args.g c.requires.0.group c.requires.1 c.args.g x
-    (c.loop-left.invariant.inside x (c.lowest-x.ensures c.loop-left-test.true).0)) in
-    let q = not-true _ c.if-not-next.true in
-    swept-barred _ _ _ _ _ _ _ _ q
-    (taken-barred c.args.n times c.args.e c.args.h c.args.g c.args.g c.requires.0.group c.requires.1 (λ x. x ≡ c.args.r) c.loop-left.set c.loop-left.rest
-    (times c.args.r x) c.loop-left.invariant.state F
-    (rw c.cell-in-loop-left.ensures.0 at c.taken-next.ensures) q)
+    (c.loop-x.invariant.2.inside x c.in-Some.ensures.steps.held)) in
+    rw c.from_residual-in_err-grown-2.ensures (taken-barred c.args.n times c.args.e c.args.h c.args.g c.args.g c.requires.0.group c.requires.1
+    (λ x. x ≡ c.args.r) c.loop-x.grown.set c.loop-x.grown.waiting (times c.args.r x) c.loop-x.invariant.2.state F
+    (rw (c.in_err-grown-2.was, c.cell-in-loop-x.ensures.0) at c.taken-in-loop-x.ensures))
 
-pub loop-left-smaller : goal.loop-left-smaller
-loop-left-smaller c = without-less _ _ _ (c.without-less.ensures
-    (c.lowest-x.ensures c.loop-left-test.true).0)
-
-pub loop-left-preserved : goal.loop-left-preserved
-loop-left-preserved c =
-    let x = c.lowest-x.result in
+pub loop-x-preserved : goal.loop-x-preserved
+loop-x-preserved c =
+    let x = c.in-Some.x in
     let times = product c.args.n c.args.t.now in
     let F = product-forced c.args.n times c.args.e c.args.h c.args.g c.requires.0.group c.requires.1 c.args.g c.args.r x c.requires.3
     (old-forced c.args.n times c.args.e c.args.h c.args.g c.requires.0.group c.requires.1 c.args.g x
-    (c.loop-left.invariant.inside x (c.lowest-x.ensures
-    c.loop-left-test.true).0)) in
-    let q = not-false _ c.if-not-next.false in
-    sweeping-step c.args.n times c.args.e c.args.h c.args.g c.args.g c.args.k c.args.waiting c.args.r c.loop-left.set c.loop-left.rest c.loop-left.left x
-    c.without-less.result c.loop-left.invariant
-    (c.without-less.ensures (c.lowest-x.ensures
-    c.loop-left-test.true).0)
-    (taken-grown c.args.n times c.args.e c.args.h c.args.g c.args.g c.requires.0.group c.requires.1 (λ x. x ≡ c.args.r) c.loop-left.set c.loop-left.rest
-    (times c.args.r x) c.loop-left.invariant.state F
-    (rw c.cell-in-loop-left.ensures.0 at c.taken-next.ensures) q)
+    (c.loop-x.invariant.2.inside x c.in-Some.ensures.steps.held)) in (
+      tt,
+      tt,
+      sweeping-step c.args.n times c.args.e c.args.h c.args.g c.args.g c.args.old.set c.args.old.waiting c.args.r c.loop-x.grown.set
+          c.loop-x.grown.waiting c.loop-x.x-iterator.left x c.next.new.self.left c.loop-x.invariant.2 c.in-Some.ensures.steps.rest
+          (taken-grown c.args.n times c.args.e c.args.h c.args.g c.args.g c.requires.0.group c.requires.1 (λ x. x ≡ c.args.r) c.loop-x.grown.set
+          c.loop-x.grown.waiting (times c.args.r x) c.loop-x.invariant.2.state F
+          (rw (c.in_ok-grown-2.was, c.cell-in-loop-x.ensures.0) at c.taken-in-loop-x.ensures)),
+    )
 
 pub returns : goal.returns
 returns c =
-    let none : c.loop-left.left ≡ 0 = omega arith in
-    sweeping-end _ _ _ _ _ _ _ _ _ c.requires.0.group c.requires.1 c.loop-left.set c.loop-left.rest c.loop-left.left none c.loop-left.invariant
+    sweeping-end _ _ _ _ _ _ _ _ _ c.requires.0.group c.requires.1 c.loop-x.grown.set c.loop-x.grown.waiting c.loop-x.x-iterator.left
+    c.in-None.ensures.steps c.loop-x.invariant.2

@@ -3,8 +3,7 @@ use Rattle.subgroup_laws.specs.Table.{product}
 use Rattle.subgroup_search.specs.Growth.{Sweeping}
 use Rattle.subgroup_search.proofs.adjoin.swept.Given as goal
 
-abbrev pub invariant-loop-left : goal.invariant-loop-left
-invariant-loop-left l = Sweeping l.n (product l.n l.t) l.e l.h l.g l.g l.k l.waiting l.r l.set l.rest l.left
-
-abbrev pub decreases-loop-left : goal.decreases-loop-left
-decreases-loop-left l = l.left
+abbrev pub invariant-loop-x : goal.invariant-loop-x
+invariant-loop-x l =
+    goal.iterator-loop-x.can_next l.x-iterator × goal.iterator-loop-x.is_finite l.x-iterator
+    × Sweeping l.n (product l.n l.t) l.e l.h l.g l.g l.fn.old.set l.fn.old.waiting l.r l.grown.set l.grown.waiting l.x-iterator.left

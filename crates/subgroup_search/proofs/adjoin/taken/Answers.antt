@@ -1,6 +1,6 @@
 -- Three returns, one for each case of `Taken`. The members of the coset below the bound are its remainder by 2 ^ bound.
 use Rattle.std.proofs.lemmas.Bool.{not_from_false, not_from_true}
-use mathlib.Core.Path.{◌≡◌, refl, sym, ◌∙◌}
+use mathlib.Core.Path.{◌≡◌, sym, ◌∙◌}
 use mathlib.Core.Bool.{true, false}
 use mathlib.Core.List.{List}
 use Prim.Native.Nat.{ℕ, ◌%◌, ◌^◌, ◌<◌, ◌≤◌}
@@ -36,7 +36,7 @@ returns-then-not-within c =
     let test : eqb (bit_and (coset % 2 ^ c.args.bound) c.args.h) (coset % 2 ^ c.args.bound) ≡ false =
     rw (← (c.coset-joined.ensures ∙ plain), ← shifted_one 64 c.args.bound h) (sym c.within.ensures ∙ not-true _ (not_from_false _ c.if-not-within.true)) in
     let (i, l, m, new) = within-fails c.args.bound coset c.args.h test in
-    barred refl i l m new
+    barred i l m new
 
 pub returns : goal.returns
 returns c =
@@ -50,7 +50,7 @@ returns c =
     ∙ not-false _ (not_from_true _ c.if-not-within.false)) in
     rw (
       c.coset-joined.ensures ∙ plain,
-      c.with_element-more.ensures (word c.requires),
+      c.with_element.ensures (word c.requires),
     ) (joins (sym
     (c.contains.ensures (word c.requires))
     ∙ c.if-contains.false) (within-passes c.args.bound coset c.args.h test))

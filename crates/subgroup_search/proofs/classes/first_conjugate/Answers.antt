@@ -8,8 +8,8 @@ pub loop-left-init : goal.loop-left-init
 loop-left-init c = rw (c.rest_of-left.ensures (omega arith)) (trying_start _ _ _
     c.requires.0.group _ c.requires.1)
 
-pub coset-done-requires : goal.coset-done-requires
-coset-done-requires c = (
+pub coset-requires : goal.coset-requires
+coset-requires c = (
   c.requires.0.cells,
   c.requires.1.small,
   trying-below _ _ _ c.requires.0.group _ c.requires.1 c.loop-left.left c.loop-left.best c.loop-left.invariant c.lowest-g.result
@@ -23,8 +23,8 @@ loop-left-smaller c =
     (c.lowest-g.ensures c.loop-left-test.true).0 in
     let plain = coset-plain _ _ _ c.requires.0.group _ c.lowest-g.result c.requires.1.small below in
     rw (
-      c.outside-rest.ensures,
-      c.coset-done.ensures
+      c.outside-left.ensures,
+      c.coset.ensures
           ∙ plain,
     ) (trying-less _ _ _ c.requires.0.group _ c.requires.1 c.loop-left.left c.loop-left.best c.loop-left.invariant c.lowest-g.result
     (c.lowest-g.ensures c.loop-left-test.true).0)
@@ -36,10 +36,10 @@ loop-left-preserved c =
     (c.lowest-g.ensures c.loop-left-test.true).0 in
     let plain = coset-plain _ _ _ c.requires.0.group _ c.lowest-g.result c.requires.1.small below in
     rw (
-      c.outside-rest.ensures,
-      c.coset-done.ensures ∙ plain,
-      c.earlier_of-first.ensures,
-      c.conjugate_set-c.ensures c.requires.0 c.requires.1.small below,
+      c.outside-left.ensures,
+      c.coset.ensures ∙ plain,
+      c.earlier_of-best.ensures,
+      c.conjugate_set.ensures c.requires.0 c.requires.1.small below,
     )
     (trying-next _ _ _ c.requires.0.group _ c.requires.1 c.loop-left.left c.loop-left.best c.loop-left.invariant c.lowest-g.result
     (c.lowest-g.ensures c.loop-left-test.true).0 c.requires.0.cells.limit)

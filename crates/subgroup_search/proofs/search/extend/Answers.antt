@@ -1,5 +1,4 @@
 use mathlib.Core.Path.{◌≡◌, refl, ◌∙◌}
-use mathlib.Core.Bool.{true}
 use native.Mathlib.Omega.{arith}
 use lib.ListN.{length}
 use Rattle.laws.specs.Sets.{member_below}
@@ -8,7 +7,7 @@ use Rattle.subgroup_laws.specs.Removal.{outside-less, outside-old, rest_below, r
 use Rattle.subgroup_laws.specs.Table.{product}
 use Rattle.subgroup_search.specs.RightCosets.{coset-plain}
 use Rattle.subgroup_search.specs.SearchLoop.{extended-start, extended-next, extended-overflow, extended-end}
-use Rattle.element_sets.specs.declared.slots.Found.TheVariants.{Count, Full}
+use Rattle.std.specs.Prelude.{Some, None}
 use Rattle.subgroup_search.proofs.search.extend.Goals as goal
 
 pub loop-left-init : goal.loop-left-init
@@ -21,8 +20,8 @@ loop-left-init c =
           c.requires.2,
     )
 
-pub coset-done-requires : goal.coset-done-requires
-coset-done-requires c =
+pub coset-requires : goal.coset-requires
+coset-requires c =
     (c.requires.0.cells, c.requires.1.small, member_below _ _ _ c.loop-left.invariant.1 (c.lowest-g.ensures c.loop-left-test.true).0)
 
 pub extend_by-requires : goal.extend_by-requires
@@ -30,19 +29,17 @@ extend_by-requires c =
     let i = (c.lowest-g.ensures c.loop-left-test.true).0 in
     (c.requires.0, c.requires.1, member_below _ _ _ c.loop-left.invariant.1 i, c.loop-left.invariant.2 _ i, c.loop-left.invariant.3.room)
 
-pub shape_of-sets-in_default : goal.shape_of-sets-in_default
-shape_of-sets-in_default c = omega arith
-
-pub returns-in_default : goal.returns-in_default
-returns-in_default c =
+pub returns-in_err-found : goal.returns-in_err-found
+returns-in_err-found c =
     let low = c.lowest-g.ensures c.loop-left-test.true in
     let below = member_below c.args.n c.loop-left.left c.lowest-g.result c.loop-left.invariant.1 low.0 in
     let X = extended-next c.args.n (product c.args.n c.args.t.now) c.args.e c.args.classes c.requires.0.group c.args.h c.requires.1 c.loop-left.left
-    c.lowest-g.result c.args.count c.loop-left.c
-    c.args.sets.now c.loop-left.sets c.extend_by.new.sets Full
-    c.loop-left.invariant.0 below (c.loop-left.invariant.2 _ low.0) low.2 c.loop-left.invariant.3 (rw c.in_default.is at c.extend_by.ensures) in
-    extended-overflow c.args.n (product c.args.n c.args.t.now) c.args.e c.args.classes c.requires.0.group c.args.h c.requires.1 _ c.args.count c.args.sets.now
-    _ X
+    c.lowest-g.result c.args.count c.loop-left.found
+    c.args.sets.now c.loop-left.sets c.extend_by.new.sets None
+    c.loop-left.invariant.0 below (c.loop-left.invariant.2 _ low.0) low.2 c.loop-left.invariant.3 (rw c.in_err-found.was at c.extend_by.ensures) in
+    rw c.from_residual.ensures (extended-overflow c.args.n (product c.args.n c.args.t.now) c.args.e c.args.classes c.requires.0.group c.args.h c.requires.1 _
+    c.args.count c.args.sets.now
+    _ X)
 
 pub loop-left-smaller : goal.loop-left-smaller
 loop-left-smaller c =
@@ -53,8 +50,8 @@ loop-left-smaller c =
     coset-plain c.args.n (product c.args.n c.args.t.now) c.args.e c.requires.0.group c.args.h
     c.lowest-g.result c.requires.1.small below in
     rw (
-      c.outside-rest.ensures,
-      c.coset-done.ensures ∙ plain,
+      c.outside-left.ensures,
+      c.coset.ensures ∙ plain,
     )
     (outside-less c.loop-left.left _ _ i (coset-new c.args.n (product c.args.n c.args.t.now) c.args.e c.requires.0.group c.args.h c.requires.1 _
     (member_below _ _ _ c.loop-left.invariant.1 i)))
@@ -64,9 +61,9 @@ loop-left-preserved c =
     let low = c.lowest-g.ensures c.loop-left-test.true in
     let below = member_below c.args.n c.loop-left.left c.lowest-g.result c.loop-left.invariant.1 low.0 in
     let X = extended-next c.args.n (product c.args.n c.args.t.now) c.args.e c.args.classes c.requires.0.group c.args.h c.requires.1 c.loop-left.left
-    c.lowest-g.result c.args.count c.loop-left.c
-    c.args.sets.now c.loop-left.sets c.extend_by.new.sets (Count c.in-Count.k)
-    c.loop-left.invariant.0 below (c.loop-left.invariant.2 _ low.0) low.2 c.loop-left.invariant.3 (rw c.in-Count.is at
+    c.lowest-g.result c.args.count c.loop-left.found
+    c.args.sets.now c.loop-left.sets c.extend_by.new.sets (Some c.in_ok-found.found)
+    c.loop-left.invariant.0 below (c.loop-left.invariant.2 _ low.0) low.2 c.loop-left.invariant.3 (rw c.in_ok-found.was at
     c.extend_by.ensures) in
     let same : length c.extend_by.new.sets ≡ length c.loop-left.sets = omega arith in
     let plain = coset-plain c.args.n (product c.args.n c.args.t.now) c.args.e c.requires.0.group c.args.h c.lowest-g.result c.requires.1.small below in
@@ -75,8 +72,8 @@ loop-left-preserved c =
     c.args.h c.requires.1
     c.lowest-g.result below) in
     rw (
-      c.outside-rest.ensures,
-      c.coset-done.ensures ∙ plain,
+      c.outside-left.ensures,
+      c.coset.ensures ∙ plain,
     )
     (same ∙ c.loop-left.invariant.0, omega (arith, less, c.loop-left.invariant.1), λ j i. c.loop-left.invariant.2 j (outside-old c.loop-left.left coset j i), X)
 
@@ -87,5 +84,5 @@ pub returns : goal.returns
 returns c =
     let none : c.loop-left.left ≡ 0 = omega arith in
     extended-end c.args.n (product c.args.n c.args.t.now) c.args.e c.args.classes c.requires.0.group c.args.h c.requires.1 c.loop-left.left c.args.count
-    c.loop-left.c c.args.sets.now c.loop-left.sets none
+    c.loop-left.found c.args.sets.now c.loop-left.sets none
     c.loop-left.invariant.3

@@ -16,5 +16,5 @@ returns-in_default c =
 
 pub returns : goal.returns
 returns c =
-    answer-count c.args.n (product c.args.n c.args.t.now) c.args.e c.args.classes c.args.sets.now _ _ (rw c.in-Count.is at
+    answer-count c.args.n (product c.args.n c.args.t.now) c.args.e c.args.classes c.args.sets.now _ _ (rw c.in-Some.is at
     c.search.ensures)

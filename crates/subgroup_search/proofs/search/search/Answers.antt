@@ -1,11 +1,11 @@
 use mathlib.Core.Path.{◌≡◌, refl, ◌∙◌}
-use Prim.Native.Nat.{◌<◌, ◌-◌}
+use Prim.Native.Nat.{◌<◌}
 use native.Mathlib.Omega.{arith}
 use lib.ListN.{length}
 use Rattle.laws.specs.Sets.{shifted_one}
 use Rattle.subgroup_laws.specs.Table.{product}
 use Rattle.subgroup_search.specs.SearchLoop.{none-result, searching-subgroup, searching-next, searching-overflow, searching-end, restart, restart-start}
-use Rattle.element_sets.specs.declared.slots.Found.TheVariants.{Count, Full}
+use Rattle.std.specs.Prelude.{Some, None}
 use Rattle.subgroup_search.proofs.search.search.Goals as goal
 
 pub returns-then-sets-lt8 : goal.returns-then-sets-lt8
@@ -35,27 +35,24 @@ extend-requires c =
       omega arith,
     )
 
-pub shape_of-sets-in_default : goal.shape_of-sets-in_default
-shape_of-sets-in_default c = omega arith
-
-pub returns-in_default : goal.returns-in_default
-returns-in_default c =
+pub returns-in_err-count : goal.returns-in_err-count
+returns-in_err-count c =
     let X = rw (
-      c.in_default.is,
+      c.in_err-count.was,
       c.slot-h.ensures
           (omega (
             arith,
             c.loop-done-test.true,
           )),
     ) at c.extend.ensures in
-    restart c.args.n (product c.args.n c.args.t.now) c.args.e c.args.classes c.requires.group c.requires.cells.limit c.args.sets.now
+    rw c.from_residual.ensures (restart c.args.n (product c.args.n c.args.t.now) c.args.e c.args.classes c.requires.group c.requires.cells.limit c.args.sets.now
     c.set_slot.new.sets _
     (c.set_slot.ensures
     c.if-sets-lt8.false)
-    c.if-sets-lt8.false _ Full
+    c.if-sets-lt8.false _ None
     (searching-overflow c.args.n (product c.args.n c.args.t.now) c.args.e c.args.classes c.requires.group c.requires.cells.limit _ c.loop-done.sets
     c.loop-done.count c.loop-done.done c.loop-done.invariant.1
-    c.loop-done-test.true _ c.loop-done.invariant.0 X)
+    c.loop-done-test.true _ c.loop-done.invariant.0 X))
 
 pub overflow_add-done : goal.overflow_add-done
 overflow_add-done c = omega arith
@@ -66,7 +63,7 @@ loop-done-smaller c = omega arith
 pub loop-done-preserved : goal.loop-done-preserved
 loop-done-preserved c =
     let X = rw (
-      c.in-Count.is,
+      c.in_ok-count.was,
       c.slot-h.ensures
           (omega (
             arith,
@@ -87,7 +84,7 @@ returns c =
     restart c.args.n (product c.args.n c.args.t.now) c.args.e c.args.classes c.requires.group c.requires.cells.limit c.args.sets.now
     c.set_slot.new.sets _
     (c.set_slot.ensures c.if-sets-lt8.false)
-    c.if-sets-lt8.false _ (Count c.loop-done.count)
+    c.if-sets-lt8.false _ (Some c.loop-done.count)
     (searching-end c.args.n (product c.args.n c.args.t.now) c.args.e c.args.classes c.requires.group c.requires.cells.limit _ c.loop-done.sets
     c.loop-done.count c.loop-done.done c.loop-done.invariant.1
     c.loop-done-test.false)

@@ -15,8 +15,8 @@ loop-left-init c =
     rw (c.rest_of-left.ensures (let y = c.requires.0.limit in omega arith), shifted_one 64 c.args.e h)
     (generating-start _ _ _ c.requires.1 (product-below _ _ c.requires.0))
 
-pub widen-wider-requires : goal.widen-wider-requires
-widen-wider-requires c = (
+pub widen-reached-requires : goal.widen-reached-requires
+widen-reached-requires c = (
   c.requires.0,
   c.loop-left.invariant.small,
   c.requires.1.below,
@@ -26,17 +26,17 @@ widen-wider-requires c = (
 
 pub loop-left-smaller : goal.loop-left-smaller
 loop-left-smaller c =
-    rw c.outside-fewer.ensures (fewer-left c.loop-left.left
-    c.lowest-j.result c.without-rest.result c.widen-wider.result
+    rw c.outside-left.ensures (fewer-left c.loop-left.left
+    c.lowest-j.result c.without-rest.result c.widen-reached.result
     (c.without-rest.ensures
     (c.lowest-j.ensures c.loop-left-test.true).0))
 
 pub loop-left-preserved : goal.loop-left-preserved
 loop-left-preserved c =
     rw (
-      c.outside-fewer.ensures,
-      c.widen-wider.ensures,
-      c.with_element-more.ensures (c.lowest-j.ensures
+      c.outside-left.ensures,
+      c.widen-reached.ensures,
+      c.with_element-found.ensures (c.lowest-j.ensures
           c.loop-left-test.true).1,
     )
     (generating-next _ _ _ c.requires.1 (product-below _ _ c.requires.0) c.loop-left.found c.loop-left.reached c.loop-left.left c.lowest-j.result

@@ -1,0 +1,18 @@
+-- Nothing for the entry 0; otherwise the sign, then the letter.
+use mathlib.Core.Path.{sym, ap}
+use native.Mathlib.Omega.{arith}
+use lib.Dec.{eqb}
+use Rattle.placed_text.specs.Placing.{put-nothing, put_then, put-named}
+use Rattle.operation_line.specs.Building.{letter_bytes, letter-signed, sign-short}
+use Rattle.line_writing.proofs.Line.put_letter.Goals as goal
+
+pub returns-then-digit-eq1 : goal.returns-then-digit-eq1
+returns-then-digit-eq1 c = put-named (sym (ap (letter_bytes c.args.first c.args.letter) c.if-digit-eq1.true)) (put-nothing _ _)
+
+pub push-requires : goal.push-requires
+push-requires c = omega (arith, c.put_sign.ensures.place, sign-short c.args.first (eqb c.args.digit 0))
+
+pub returns : goal.returns
+returns c =
+    put-named (letter-signed c.args.first c.args.letter c.args.digit c.if-digit-eq1.false)
+    (put_then c.put_sign.ensures c.push.ensures)

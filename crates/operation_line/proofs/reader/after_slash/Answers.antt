@@ -1,5 +1,0 @@
--- Each arm by the symbol that it is of.
-use Rattle.operation_line.proofs.reader.after_slash.Goals as goal
-
-pub returns-in-Digit : goal.returns-in-Digit
-returns-in-Digit c = rw c.in-Digit.is c.over_digit.ensures
