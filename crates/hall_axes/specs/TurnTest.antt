@@ -81,7 +81,7 @@ isometric-exact G A =
     let both = and-eq-true_iff (same_matrix (times (transposed A) (times G A)) G) (same_integer (determinant A) one) in
     ((λ e. (metric-test.0 (both.0 e).0, hand-test.0 (both.0 e).1)), λ h. both.1 (metric-test.1 h.0, hand-test.1 h.1))
 
--- Unmarked of the powers 1 to n is the identity.
+-- None of the powers 1 to n is the identity.
 unfoldable pub none_unit : ℕ → Matrix → Bool
 none_unit zero A = true
 none_unit (suc n) A = not (same_matrix (power (suc n) A) unit) && none_unit n A

@@ -40,7 +40,7 @@ module _ (text : List ℕ) where
       ∙ capitalised-blank (take (run whitespace text) text) (drop (run whitespace text) text) (run-every whitespace text) (run-stops whitespace text)
 
   -- A place past the end has no letter.
-  letter-none : (at : ℕ) → length text ≤ at → letter_here (drop at text) ≡ false
+  pub letter-none : (at : ℕ) → length text ≤ at → letter_here (drop at text) ≡ false
   letter-none at h = rw (drop_of_length-le text h)
 
   -- Such a byte is p or c.

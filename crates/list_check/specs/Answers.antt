@@ -216,25 +216,36 @@ abbrev pub used : SymbolGroup → List Operation
 used g = take g.count g.operations
 
 module _ (text list : List ℕ) (g : SymbolGroup) (e : g ≡ symbol_answer text) where
-  -- What the comparison asks of a group.
-  pub group-once : g.answer ≡ Group → (length (used g) ≤ 48) × Once (length (used g)) (slot_at (used g)) × Coded (length (used g)) (slot_at (used g))
-  group-once a = rw e (group-given text (accepted-text text (sym (ap (λ (h : SymbolGroup). h.answer) e) ∙ a)))
+  accepted : g.answer ≡ Group → AcceptedText text
+  accepted a = accepted-text text (sym (ap (λ (h : SymbolGroup). h.answer) e) ∙ a)
+
+  -- What the comparison asks of a group, said of its slots
+  pub group-once : g.answer ≡ Group → (g.count ≤ 48) × Once g.count (slot_at g.operations)
+  group-once a = rw e ((symbol-slots text).0, slots-once text (accepted a))
+
+  -- and of the operations in use.
+  pub used-once : g.answer ≡ Group → (length (used g) ≤ 48) × Once (length (used g)) (slot_at (used g)) × Coded (length (used g)) (slot_at (used g))
+  used-once a = rw e (group-given text (accepted a))
 
   -- The symbol's refusal, or the list's answer.
   pub symbol-answer : (r : symbol-refusal.Refusal) → g.answer ≡ NoGroup r → Err (Symbol r) ≡ checked_of text list
   unfolding checked_of
   symbol-answer r a = rw (← e, a)
 
-  group-answer : g.answer ≡ Group → list_answer g.centering g.count (slot_at g.operations) list ≡ checked_of text list
+  pub list-answer : g.answer ≡ Group → list_answer g.centering g.count (slot_at g.operations) list ≡ checked_of text list
   unfolding checked_of
-  group-answer a = rw (← e, a)
+  list-answer a = rw (← e, a)
 
-  pub list-answer : g.answer ≡ Group → list_answer g.centering (length (used g)) (slot_at (used g)) list ≡ checked_of text list
-  list-answer a =
+  pub list-answer-used : g.answer ≡ Group → list_answer g.centering (length (used g)) (slot_at (used g)) list ≡ checked_of text list
+  list-answer-used a =
       let short : list_answer g.centering (length (used g)) (slot_at (used g)) list ≡ list_answer g.centering g.count (slot_at g.operations) list =
       rw e (used-answer text list) in
-      short ∙ group-answer a
+      short ∙ list-answer a
 
   -- The operations in use are within the slots.
   pub used-within : g.count ≤ 48
   used-within = rw e (symbol-slots text).0
+
+  -- The operations in use are among them.
+  pub used-there : g.count ≤ length g.operations
+  used-there = rw e (slots-within text)

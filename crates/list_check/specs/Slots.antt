@@ -160,10 +160,21 @@ pub seen-stays : (seen : ℕ) (operations : List Operation) (k : ℕ) → member
 unfolding lowest
 seen-stays seen operations k e = rw (add-one k, e) refl
 
-pub unseen-next : (seen : ℕ) (operations : List Operation) (k : ℕ) → member seen k ≡ false
+pub unseen-lowers : (seen : ℕ) (operations : List Operation) (k : ℕ) → member seen k ≡ false
     → min (turn_of (slot_at operations k)) (unseen_below seen operations k) ≡ unseen_below seen operations (k + 1)
 unfolding lowest
-unseen-next seen operations k e = rw (add-one k, e) refl
+unseen-lowers seen operations k e = rw (add-one k, e) refl
+
+-- The same of a number that is the lowest so far, whatever stands for a slot that is not there.
+pub unseen-next : (seen : ℕ) (operations : List Operation) (k best : ℕ) (d : Operation) → k < length operations
+    → best ≡ lowest (λ j. not (member seen j)) (λ j. turn_of (slot_at operations j)) k
+    → cond (member seen k) best (min (turn_of (get_or operations k d)) best) ≡ lowest (λ j. not (member seen j)) (λ j. turn_of (slot_at operations j)) (k + 1)
+unseen-next seen operations k best d h e = rw (slot_is operations k d h, e) (by-test (member seen k) refl)
+  where
+    by-test : (b : Bool) → member seen k ≡ b
+        → cond b (unseen_below seen operations k) (min (turn_of (slot_at operations k)) (unseen_below seen operations k)) ≡ unseen_below seen operations (k + 1)
+    by-test true t = seen-stays seen operations k t
+    by-test false t = unseen-lowers seen operations k t
 
 -- The lower of a code and one that was found, or that code if none was.
 pub lower-found : (code low r : ℕ) (o : Option ℕ) → code < no_code → o ≡ code_found low → MatchOption o (r ≡ code) (λ best. r ≡ min best code)

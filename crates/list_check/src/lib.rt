@@ -32,7 +32,11 @@ pub fn check_list(text: &[u8], list: &[u8]) -> Result<Verdict, Refusal>
     let g = SymbolGroup::new(text);
     match g.answer {
         Answer::Refused(refusal) => Err(Refusal::Symbol(refusal)),
-        Answer::Group => check_bytes(g.centering, &g.operations[..g.count], list),
+        Answer::Group => {
+            // A part of the group would be lent from a copy of the whole.
+            let operations = g.operations;
+            check_bytes(g.centering, &operations[..g.count], list)
+        }
     }
 }
 

@@ -1,5 +1,5 @@
 // What is read from one buffer, written at a stated place of another: the bytes of the record themselves.
-ghost use Rattle.std.specs.Prelude.{◌≡◌, length};
+ghost use Rattle.std.specs.Prelude.{◌≡◌, ◌++◌, ◌≤◌, length, drop};
 ghost use Rattle.record_writing.specs.Places.{room_from, placed_in};
 ghost use Rattle.magnetic_record.specs.Copying.{magnetic_copied_of, magnetic_copy_buffer};
 
@@ -36,6 +36,16 @@ fn place_bytes(bytes: &[u8], out: &mut [u8], start: usize) -> bool
     if size < start || size - start < bytes.len() {
         return false;
     }
-    out[start..start + bytes.len()].copy_from_slice(bytes);
+    copy_bytes(bytes, &mut out[start..]);
     true
+}
+
+// Bytes at the start of out: by a loop, since `copy_from_slice` would have the unit ask for the C library's `memmove`.
+fn copy_bytes(bytes: &[u8], out: &mut [u8])
+    requires { length bytes.now ≤ length out.old }
+    ensures { out.new ≡ bytes.now ++ drop (length bytes.now) out.old }
+{
+    for (i, &byte) in bytes.iter().enumerate() {
+        out[i] = byte;
+    }
 }

@@ -128,15 +128,16 @@ fn copied_byte(byte: u8, reversed: bool) -> u8
     if reversed { b' ' } else { byte }
 }
 
-// A flag noted if it is given, and if there is room.
-fn noted(mut list: Flags, given: bool, flag: bool) -> Flags
-    ensures { result ≡ noted list given flag }
-{
-    if given && list.count < 9 {
-        list.flags[list.count] = flag;
-        list.count += 1;
+impl Flags {
+    // A flag noted if it is given, and if there is room.
+    fn note(&mut self, given: bool, flag: bool)
+        ensures { self.new ≡ noted self.old given flag }
+    {
+        if given && self.count < 9 {
+            self.flags[self.count] = flag;
+            self.count += 1;
+        }
     }
-    list
 }
 
 // The copy of a text of at most 80 bytes, in the first places of eighty, and the flags.
@@ -156,7 +157,7 @@ pub(crate) fn blanked(text: &[u8]) -> Copied
         let reversed = reverses(mode, byte, last);
         let given = gives(mode, byte, last);
         bytes[i] = copied_byte(byte, reversed);
-        list = noted(list, given, reversed);
+        list.note(given, reversed);
         mode = after(mode, byte);
     }
     let flags = list.flags;

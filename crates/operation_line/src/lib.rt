@@ -6,6 +6,8 @@ ghost use Rattle.operation_line.specs.Answers.{number_of, place_of};
 
 pub mod reader;
 
+use operation::Operation;
+
 // A letter of a line.
 #[derive(Clone, Copy)]
 pub enum Letter {
@@ -48,5 +50,25 @@ impl ReadingRefusal {
             ReadingRefusal::Misspelt(place) => place,
             _ => 0,
         }
+    }
+}
+
+// The refusal's number of what is answered to a line, 0 where an operation is read.
+pub fn number(answer: Result<Operation, ReadingRefusal>) -> u8
+    ensures { result ≡ number_of answer }
+{
+    match answer {
+        Ok(_) => 0,
+        Err(refusal) => refusal.number(),
+    }
+}
+
+// The refusal's place, 0 where an operation is read.
+pub fn place(answer: Result<Operation, ReadingRefusal>) -> usize
+    ensures { result ≡ place_of answer }
+{
+    match answer {
+        Err(ReadingRefusal::Misspelt(place)) => place,
+        _ => 0,
     }
 }

@@ -16,7 +16,7 @@ use Rattle.centering.specs.declared.Centering.{Centering}
 use Rattle.space_group.specs.Generated.{first_off}
 use Rattle.space_group.specs.Resuming.{first-nine}
 use Rattle.space_group.specs.NumberGrowth.{unit_number, number_growth}
-use Rattle.space_group.specs.NumberSlots.{of_growth, Ends, held-front}
+use Rattle.space_group.specs.NumberSlots.{of_growth, Lists, held-front}
 use Rattle.space_group.specs.Listings.{numbers_listing, listing-off, listing-grown}
 use Rattle.space_group.specs.FlaggedGenerators.{with_flags, flagged_number, with-length, plain-with}
 use Rattle.space_group.specs.FlaggedOutcomes.{ListOutcome, group, refused, of_verdict, plain_of, number_outcome, answer_by, slots_by}
@@ -80,21 +80,21 @@ module _ (c : Centering) (gens : List (Flagged Operation)) where
       long = length-map gens (λ (g : Flagged Operation). g.element)
 
 module _ (o : Result (Growth ℕ) Refusal) (ended : Result ℕ Refusal) (before numbers noughts steps : List ℕ)
-    (E : Ends o ended before numbers noughts steps) (wide : length before ≡ 96) where
+    (E : Lists o ended before numbers noughts steps) (wide : length before ≡ 96) where
   -- The answer is told,
   pub answer-told : answered ended ≡ answer_by (outcome_by o)
   answer-told = by_answer o E
     where
-      by_answer : (o : Result (Growth ℕ) Refusal) → Ends o ended before numbers noughts steps → answered ended ≡ answer_by (outcome_by o)
-      by_answer (Ok s) e = ap answered e.counted
+      by_answer : (o : Result (Growth ℕ) Refusal) → Lists o ended before numbers noughts steps → answered ended ≡ answer_by (outcome_by o)
+      by_answer (Ok s) e = ap answered e.0
       by_answer (Err r) e = ap answered e
 
   -- the list fits the slots,
   pub count-within : result_unwrap_or ended 0 ≤ 96
   count-within = by_answer o E
     where
-      by_answer : (o : Result (Growth ℕ) Refusal) → Ends o ended before numbers noughts steps → result_unwrap_or ended 0 ≤ 96
-      by_answer (Ok s) e = rw e.counted (omega (arith, e.few, wide))
+      by_answer : (o : Result (Growth ℕ) Refusal) → Lists o ended before numbers noughts steps → result_unwrap_or ended 0 ≤ 96
+      by_answer (Ok s) e = rw e.0 (omega (arith, e.1.few, wide))
       by_answer (Err r) e = rw e (omega arith)
 
   -- and cleared behind it they are those of the outcome.
@@ -102,9 +102,9 @@ module _ (o : Result (Growth ℕ) Refusal) (ended : Result ℕ Refusal) (before 
   unfolding cleared
   slots-cleared long = by_answer o E
     where
-      by_answer : (o : Result (Growth ℕ) Refusal) → Ends o ended before numbers noughts steps
+      by_answer : (o : Result (Growth ℕ) Refusal) → Lists o ended before numbers noughts steps
           → cleared (result_unwrap_or ended 0) numbers ≡ slots_by (outcome_by o)
-      by_answer (Ok s) e = rw (e.counted, held-front s ended before numbers noughts steps e, long) refl
+      by_answer (Ok s) e = rw (e.0, held-front s ended before numbers noughts steps e.1, long) refl
       by_answer (Err r) e = rw (e, long) refl
 
 -- ---- the first n of nine generators
@@ -126,15 +126,15 @@ module _ (c : Centering) (n : ℕ) (generators : List Operation) (flags : List B
 
     -- So are the answer, and the slots, the identity written behind the list.
     pub flagged-told : (ended : Result ℕ Refusal) (before numbers noughts steps : List ℕ)
-        → Ends (numbers_listing c (length before) (take used generators) (take used factors)) ended before numbers noughts steps → length before ≡ 96
+        → Lists (numbers_listing c (length before) (take used generators) (take used factors)) ended before numbers noughts steps → length before ≡ 96
         → length numbers ≡ 96 → (from : ℕ) → from ≡ result_unwrap_or ended 0 → (part : List ℕ)
         → part ≡ replicate (length (take (96 - from) (drop from numbers))) unit_number
         → (answered ended ≡ answer_by (number_outcome c (with_flags (take n generators) (take n flags))))
         × (put_mid from (96 - from) numbers part ≡ slots_by (number_outcome c (with_flags (take n generators) (take n flags))))
     flagged-told ended before numbers noughts steps E wide long from f part e =
         let o = numbers_listing c 96 (take used generators) (take used factors) in
-        let own : Ends o ended before numbers noughts steps =
-        subst (λ (w : ℕ). Ends (numbers_listing c w (take used generators) (take used factors)) ended before numbers noughts steps) wide E in
+        let own : Lists o ended before numbers noughts steps =
+        subst (λ (w : ℕ). Lists (numbers_listing c w (take used generators) (take used factors)) ended before numbers noughts steps) wide E in
         let put : put_mid from (96 - from) numbers part ≡ cleared from numbers =
         subst (λ (w : ℕ). part ≡ replicate (length (take (w - from) (drop from numbers))) unit_number
         → put_mid from (w - from) numbers part ≡ cleared from numbers)

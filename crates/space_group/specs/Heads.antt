@@ -17,7 +17,7 @@ use Rattle.centering.specs.declared.Centering.TheVariants.{P}
 use Rattle.space_group.specs.Generated.{first_off, Outcome, group, refused, of_verdict, outcome_of}
 use Rattle.space_group.specs.Traversal.{padded}
 use Rattle.space_group.specs.NumberGrowth.{unit_number, number_growth, generator_number, growth-numbers}
-use Rattle.space_group.specs.NumberSlots.{of_growth, Ends, front-padded, held-front}
+use Rattle.space_group.specs.NumberSlots.{of_growth, Lists, front-padded, held-front}
 use Rattle.space_group.specs.Listings.{numbers_listing, listing-off, listing-grown}
 use Rattle.space_group.specs.Slots.{answer_of, group_answer, none-off-digits, outcome-off, outcome-growth}
 use Rattle.space_group.specs.declared.refusal.Refusal.{Refusal}
@@ -157,33 +157,33 @@ module _ (c : Centering) (gens : List Operation) where
   ]
 
 module _ (o : Result (Growth ℕ) Refusal) (ended : Result ℕ Refusal) (before numbers noughts steps : List ℕ)
-    (E : Ends o ended before numbers noughts steps) (slots : before ≡ replicate 48 unit_number) (clear : noughts ≡ replicate 432 0) where
+    (E : Lists o ended before numbers noughts steps) (slots : before ≡ replicate 48 unit_number) (clear : noughts ≡ replicate 432 0) where
   -- A refusal, the indices cleared.
   pub laid-refused : is_err ended ≡ true → (left : List ℕ) → left ≡ replicate 432 0 → Laid (outcome_by o) ended numbers left
   laid-refused t left noted = by_answer o E
     where
-      by_answer : (o : Result (Growth ℕ) Refusal) → Ends o ended before numbers noughts steps → Laid (outcome_by o) ended numbers left
-      by_answer (Ok s) e = absurd (false≢true (ap is_err (sym e.counted) ∙ t))
+      by_answer : (o : Result (Growth ℕ) Refusal) → Lists o ended before numbers noughts steps → Laid (outcome_by o) ended numbers left
+      by_answer (Ok s) e = absurd (false≢true (ap is_err (sym e.0) ∙ t))
       by_answer (Err r) e = rw e (record { told = refl; few = omega arith; said = refl; noted = noted })
 
   -- A group.
   pub laid-group : is_err ended ≡ false → Laid (outcome_by o) ended numbers steps
   laid-group t = by_answer o E
     where
-      by_answer : (o : Result (Growth ℕ) Refusal) → Ends o ended before numbers noughts steps → Laid (outcome_by o) ended numbers steps
+      by_answer : (o : Result (Growth ℕ) Refusal) → Lists o ended before numbers noughts steps → Laid (outcome_by o) ended numbers steps
       by_answer (Ok s) e =
           let long : length before ≡ 48 = ap length slots in
-          rw e.counted (record {
+          rw e.0 (record {
             told = ap (λ (n : ℕ). Ok n) (sym (length-map s.found said_by));
-            few = omega (arith, e.few);
-            said = ap (map said_by) (held-front s ended before numbers noughts steps e);
-            noted = e.noted ∙ ap (λ l. s.steps ++ drop (length s.steps) l) clear ∙ front-padded (length s.steps) 432 0 s.steps refl;
+            few = omega (arith, e.1.few);
+            said = ap (map said_by) (held-front s ended before numbers noughts steps e.1);
+            noted = e.1.noted ∙ ap (λ l. s.steps ++ drop (length s.steps) l) clear ∙ front-padded (length s.steps) 432 0 s.steps refl;
           })
       by_answer (Err r) e = absurd (false≢true (sym t ∙ ap is_err e))
 
 module _ (c : Centering) (gens : List Operation) (factors : List ℕ) (made : factors ≡ map generator_number gens ++ drop (length gens) (replicate 9 0))
     (ended : Result ℕ Refusal) (before numbers noughts steps : List ℕ)
-    (E : Ends (numbers_listing c (length before) gens (take (length gens) factors)) ended before numbers noughts steps)
+    (E : Lists (numbers_listing c (length before) gens (take (length gens) factors)) ended before numbers noughts steps)
     (slots : before ≡ replicate 48 unit_number) (clear : noughts ≡ replicate 432 0) where
   abbrev list : Result (Growth ℕ) Refusal
   list = numbers_listing c (length before) gens (take (length gens) factors)

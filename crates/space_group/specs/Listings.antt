@@ -22,7 +22,7 @@ unfoldable pub numbers_listing : Centering → ℕ → List Operation → List �
 numbers_listing c limit gens factors =
     cond (ltb (first_off c gens) (length gens)) (Err (Lattice (first_off c gens))) (of_growth (number_growth c limit factors))
 
-off-first : (c : Centering) (gens : List Operation) → position_or_len (λ (g : Operation). not (keeps_of c g.rotation)) gens ≡ first_off c gens
+pub off-first : (c : Centering) (gens : List Operation) → position_or_len (λ (g : Operation). not (keeps_of c g.rotation)) gens ≡ first_off c gens
 unfolding first_off
 off-first c [] = refl
 off-first c (g ∷ gens) = by-test (keeps_of c g.rotation) (off-first c gens)

@@ -22,22 +22,37 @@ use Rattle.space_group.specs.declared.refusal.Refusal.{Refusal}
 use Rattle.space_group.specs.declared.refusal.Refusal.TheVariants.{Rotations, Translations}
 
 -- ---- the end
--- The list and the indices at the front of the slots, all behind them as it was.
+-- The list and the indices at the front of the slots, all behind them as it was; and the count is told, or that the translations do not agree.
 pub record Holds (s : Growth ℕ) (ended : Result ℕ Refusal) (before numbers noughts steps : List ℕ) : Type 0 where
-  pub counted : ended ≡ Ok (length s.found)
+  pub counted : ended ≡ cond s.steady (Ok (length s.found)) (Err Translations)
   pub few : length s.found ≤ length before
   pub listed : numbers ≡ s.found ++ drop (length s.found) before
   pub noted : steps ≡ s.steps ++ drop (length s.steps) noughts
+
+-- How a growth ends: with the list in the slots, also where its translations do not agree, or that it does not end.
+abbrev pub Ends : Option (Growth ℕ) → Result ℕ Refusal → List ℕ → List ℕ → List ℕ → List ℕ → Type 0
+Ends none ended before numbers noughts steps = ended ≡ Err Rotations
+Ends (some s) ended before numbers noughts steps = Holds s ended before numbers noughts steps
 
 -- A growth whose translations agree; the refusal of one that does not end, or whose translations do not agree.
 abbrev pub of_growth : Option (Growth ℕ) → Result (Growth ℕ) Refusal
 of_growth none = Err Rotations
 of_growth (some s) = cond s.steady (Ok s) (Err Translations)
 
--- How a growth ends: with the list in the slots, or with a refusal.
-abbrev pub Ends : Result (Growth ℕ) Refusal → Result ℕ Refusal → List ℕ → List ℕ → List ℕ → List ℕ → Type 0
-Ends (Err r) ended before numbers noughts steps = ended ≡ Err r
-Ends (Ok s) ended before numbers noughts steps = Holds s ended before numbers noughts steps
+-- How a listing ends: with the list in the slots and its count, or with a refusal.
+abbrev pub Lists : Result (Growth ℕ) Refusal → Result ℕ Refusal → List ℕ → List ℕ → List ℕ → List ℕ → Type 0
+Lists (Err r) ended before numbers noughts steps = ended ≡ Err r
+Lists (Ok s) ended before numbers noughts steps = (ended ≡ Ok (length s.found)) × Holds s ended before numbers noughts steps
+
+-- So a listing ends as its growth does.
+pub lists-grown : (o : Option (Growth ℕ)) (ended : Result ℕ Refusal) (before numbers noughts steps : List ℕ) → Ends o ended before numbers noughts steps
+    → Lists (of_growth o) ended before numbers noughts steps
+lists-grown none ended before numbers noughts steps e = e
+lists-grown (some s) ended before numbers noughts steps h = by-test s.steady h.counted
+  where
+    by-test : (b : Bool) → ended ≡ cond b (Ok (length s.found)) (Err Translations) → Lists (cond b (Ok s) (Err Translations)) ended before numbers noughts steps
+    by-test true e = (e, h)
+    by-test false e = e
 
 -- ---- slots filled from the front
 -- One more element in the first slot behind a list.
@@ -159,27 +174,42 @@ module _ (c : Centering) (s : Growth ℕ) (count : ℕ) (steady : Bool) (made : 
           noted = one-noted k;
         }
 
-  -- At the end, where the translations agree,
-  pub shows-end : (o : Option (Growth ℕ)) → o ≡ some s → count ≤ length before → steady ≡ true
-      → Ends (of_growth o) (Ok count) before numbers noughts steps
-  shows-end o e h on =
-      let steadily : s.steady ≡ true = sym S.agreeing ∙ on in
-      rw (e, steadily) (record {
-        counted = ap Ok S.counted;
-        few = omega (arith, S.counted);
-        listed = S.listed;
-        noted = S.noted;
-      })
-
-  -- and where they do not.
-  pub shows-torn : (o : Option (Growth ℕ)) → o ≡ some s → steady ≡ false → Ends (of_growth o) (Err Translations) before numbers noughts steps
-  shows-torn o e off =
-      let torn : s.steady ≡ false = sym S.agreeing ∙ off in
-      rw (e, torn) refl
+  -- At the end.
+  pub shows-end : (o : Option (Growth ℕ)) → o ≡ some s → count ≤ length before → (ended : Result ℕ Refusal)
+      → ended ≡ cond steady (Ok count) (Err Translations) → Ends o ended before numbers noughts steps
+  shows-end o e h ended told = rw e (record {
+    counted = told ∙ ap₂ (λ (b : Bool) (n : ℕ). cond b (Ok n) (Err Translations)) S.agreeing S.counted;
+    few = omega (arith, S.counted);
+    listed = S.listed;
+    noted = S.noted;
+  })
 
 -- It does not end.
-pub ends-none : (o : Option (Growth ℕ)) (before numbers noughts steps : List ℕ) → o ≡ none → Ends (of_growth o) (Err Rotations) before numbers noughts steps
+pub ends-none : (o : Option (Growth ℕ)) (before numbers noughts steps : List ℕ) → o ≡ none → Ends o (Err Rotations) before numbers noughts steps
 ends-none o before numbers noughts steps e = rw e refl
+
+-- ---- the list laid out as operations
+module _ (o : Option (Growth ℕ)) (ended : Result ℕ Refusal) (before numbers noughts steps : List ℕ) (E : Ends o ended before numbers noughts steps) where
+  -- It did not end,
+  pub ended-none : ended ≡ Err Rotations → o ≡ none
+  ended-none w = by_answer o refl E
+    where
+      by_answer : (p : Option (Growth ℕ)) → o ≡ p → Ends p ended before numbers noughts steps → o ≡ none
+      by_answer none e h = e
+      by_answer (some s) e h = by-test s.steady (sym w ∙ h.counted)
+        where
+          by-test : (b : Bool) → ◌≡◌ {A = Result ℕ Refusal} (Err Rotations) (cond b (Ok (length s.found)) (Err Translations)) → o ≡ none
+          by-test true both = absurd (cc)
+          by-test false both = absurd (cc)
+
+  -- or the slots hold it.
+  pub ended_some : ¬ (ended ≡ Err Rotations) → (s : Growth ℕ) × (o ≡ some s) × Holds s ended before numbers noughts steps
+  ended_some w = by_answer o refl E
+    where
+      by_answer : (p : Option (Growth ℕ)) → o ≡ p → Ends p ended before numbers noughts steps
+          → (s : Growth ℕ) × (o ≡ some s) × Holds s ended before numbers noughts steps
+      by_answer none e h = absurd (w h)
+      by_answer (some s) e h = (s, e, h)
 
 -- The numbers in front are the list.
 pub held-front : (s : Growth ℕ) (ended : Result ℕ Refusal) (before numbers noughts steps : List ℕ) → Holds s ended before numbers noughts steps

@@ -73,7 +73,9 @@ fn laid(
     ended
 }
 
-// The group that at most nine generators make: a list of numbers while it grows, laid out once as operations.
+// The group that at most nine generators make: a list of numbers while it grows, laid out once as operations. Put into its caller, it would keep its slots on
+// the stack while the text is read.
+#[inline(never)]
 pub(crate) fn group_of(c: Centering, generators: &[Operation]) -> SpaceGroup
     requires { length generators.now ≤ 9 }
     ensures { result ≡ group_answer c generators.now }

@@ -6,7 +6,7 @@ ghost use Rattle.std.specs.Prelude.{◌≡◌, ◌++◌, map, ◌≤◌, ◌*◌
 ghost use Rattle.laws.specs.Growth.{place};
 ghost use Rattle.space_group.specs.NumberGrowth.{sign_of, same_shift, unit_number, number_growth, generator_number};
 ghost use Rattle.space_group.specs.Hints.{Hinted};
-ghost use Rattle.space_group.specs.NumberSlots.{sign_position, of_growth, Ends};
+ghost use Rattle.space_group.specs.NumberSlots.{sign_position, Ends, Lists};
 ghost use Rattle.space_group.specs.Listings.{off_position, numbers_listing};
 
 use crate::refusal::Refusal;
@@ -74,8 +74,7 @@ fn traverse(
     requires limit { length numbers.old ≤ 96 }
     requires room { 9 * length numbers.old ≤ length steps.old }
     requires first { get_or numbers.old 0 0 ≡ unit_number }
-    ensures { Ends (of_growth (number_growth c (length numbers.old) generators.now)) result numbers.old numbers.new
-        steps.old steps.new }
+    ensures { Ends (number_growth c (length numbers.old) generators.now) result numbers.old numbers.new steps.old steps.new }
 {
     let mut hints = [0u8; 151];
     hints[START] = 1;
@@ -133,7 +132,7 @@ pub(crate) fn listed(
     requires limit { length numbers.old ≤ 96 }
     requires room { 9 * length numbers.old ≤ length steps.old }
     requires first { get_or numbers.old 0 0 ≡ unit_number }
-    ensures { Ends (numbers_listing c (length numbers.old) generators.now factors.now) result numbers.old numbers.new
+    ensures { Lists (numbers_listing c (length numbers.old) generators.now factors.now) result numbers.old numbers.new
         steps.old steps.new }
 {
     if let Some(generator) = first_off(c, generators) {

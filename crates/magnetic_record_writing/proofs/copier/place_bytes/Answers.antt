@@ -1,11 +1,8 @@
--- Two tests for room; with room the part from the start on becomes the bytes.
-use mathlib.Core.Path.{◌≡◌, refl, sym, ◌∙◌, ap}
-use mathlib.Core.List.{List, ◌++◌}
-use Prim.Native.Nat.{ℕ, ◌+◌, ◌-◌}
+-- Two tests for room; with room the part from the start on begins with the bytes.
+use mathlib.Core.Path.{refl, sym, ◌∙◌}
 use native.Mathlib.Omega.{arith}
-use borrow.Rule.Slice.PartMut.{put_mid}
-use lib.ListN.{length, take}
-use Rattle.std.proofs.Common.{drop-drop}
+use lib.ListN.{length}
+use Rattle.laws.specs.LentParts.{put-at}
 use Rattle.record_writing.specs.Places.{start-beyond, too-near-end, room-there, nothing_placed, all_placed}
 use Rattle.magnetic_record_writing.proofs.copier.place_bytes.Goals as goal
 use Rattle.magnetic_record_writing.proofs.copier.place_bytes.Goals.{then-size-start-via-then-size-start, then-size-start-via-else-size-start+then-size-start-2}
@@ -25,10 +22,4 @@ returns c =
     let long = length c.args.bytes.now in
     let room = room-there c.args.start long (length c.args.out.now) (omega arith) (omega (arith, c.if-size-start-2.false)) in
     let placed = all_placed c.args.out.now c.args.start long c.args.bytes.now refl room in
-    let out = c.args.out.now in
-    let count : c.args.start + long - c.args.start ≡ long = omega arith in (
-      sym room,
-      ap (put_mid c.args.start (c.args.start + long - c.args.start) out) c.copy_from_slice.ensures.after
-          ∙ ap (λ (k : ℕ). put_mid c.args.start k out c.args.bytes.now) count
-          ∙ ap (λ (r : List ℕ). take c.args.start out ++ (c.args.bytes.now ++ r)) (drop-drop long c.args.start out) ∙ sym placed,
-    )
+    (sym room, put-at c.args.out.now _ c.args.bytes.now c.args.start long c.copy_bytes.ensures ∙ sym placed)

@@ -15,7 +15,7 @@ loop-i-preserved c =
       length-set c.loop-i.bytes c.loop-i.i _ ∙ c.loop-i.invariant.0,
       rw (c.copied_byte.ensures, c.after-mode.ensures, reversed, last)
           (copy_more text c.loop-i.i there c.loop-i.mode c.loop-i.bytes (omega arith) ∙ c.loop-i.invariant.1),
-      rw (c.noted-list.ensures, c.after-mode.ensures, reversed, last)
+      rw (c.note.ensures, c.after-mode.ensures, reversed, last)
           (flag-more text c.loop-i.i there c.loop-i.mode c.loop-i.list _ (given ∙ rw last) ∙ c.loop-i.invariant.2),
     )
 

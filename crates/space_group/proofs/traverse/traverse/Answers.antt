@@ -1,8 +1,9 @@
 -- Each step of the loops is one law of the growth: the next number, a product outside −1..1, one that is listed, one too many, a new one.
-use Rattle.std.proofs.Common.{◌≡◌, ◌&&◌, get_or, set, sym, ◌∙◌, ap, arith}
+use Rattle.std.proofs.Common.{◌≡◌, ◌&&◌, get_or, set, cond, Ok, Err, sym, ◌∙◌, ap, arith}
 use Rattle.std.specs.Option.{unwrap_or}
 use Rattle.space_group.specs.NumberGrowth.{inside_number, same_shift}
-use Rattle.space_group.specs.NumberSlots.{growing-start, growing-end, growing-over, growing-outside, growing-again, growing-full, growing-new, shows-end, shows-torn, ends-none}
+use Rattle.space_group.specs.NumberSlots.{growing-start, growing-end, growing-over, growing-outside, growing-again, growing-full, growing-new, shows-end, ends-none}
+use Rattle.space_group.specs.declared.refusal.Refusal.TheVariants.{Translations}
 use Rattle.space_group.proofs.traverse.traverse.Goals as goal
 use Rattle.space_group.proofs.traverse.traverse.Goals.{then-steady, else-steady}
 
@@ -58,10 +59,12 @@ pub returns-then-steady-2 : goal.returns-then-steady-2
 returns-then-steady-2 c =
     let G = c.loop-i.invariant in
     shows-end c.args.c G.grown c.loop-i.count c.loop-i.steady c.loop-i.made c.args.numbers.now c.loop-i.numbers c.args.steps.now c.loop-i.steps G.shows _
-    (growing-end _ _ _ _ _ _ _ _ _ _ _ _ G c.loop-i-test.false) G.few c.if-steady-2.true
+    (growing-end _ _ _ _ _ _ _ _ _ _ _ _ G c.loop-i-test.false) G.few _
+    (ap (λ b. cond b (Ok c.loop-i.count) (Err Translations)) (sym c.if-steady-2.true))
 
 pub returns-else-steady-2 : goal.returns-else-steady-2
 returns-else-steady-2 c =
     let G = c.loop-i.invariant in
-    shows-torn c.args.c G.grown c.loop-i.count c.loop-i.steady c.loop-i.made c.args.numbers.now c.loop-i.numbers c.args.steps.now c.loop-i.steps G.shows _
-    (growing-end _ _ _ _ _ _ _ _ _ _ _ _ G c.loop-i-test.false) c.if-steady-2.false
+    shows-end c.args.c G.grown c.loop-i.count c.loop-i.steady c.loop-i.made c.args.numbers.now c.loop-i.numbers c.args.steps.now c.loop-i.steps G.shows _
+    (growing-end _ _ _ _ _ _ _ _ _ _ _ _ G c.loop-i-test.false) G.few _
+    (ap (λ b. cond b (Ok c.loop-i.count) (Err Translations)) (sym c.if-steady-2.false))
