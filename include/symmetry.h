@@ -43,7 +43,7 @@
  * below are for that. A list of conjugates or positions never has more than SYMMETRY_MOST_ORDER entries, and a list of classes never more than that
  * of subgroups.
  *
- * Stack. The deepest call that was measured takes 8,656 bytes below its caller (docs/MEASURES.md has the functions and their figures): 10 KiB is enough.
+ * Stack. The deepest call that was measured takes 7,792 bytes below its caller (docs/MEASURES.md has the functions and their figures): 10 KiB is enough.
  */
 #ifndef SYMMETRY_H
 #define SYMMETRY_H

@@ -1,7 +1,7 @@
 // Writing an operation, given by its five bytes, as a line: the letters of each row in their order, no leading plus, then the fraction in lowest terms.
 #![tactic(auto)]
 
-ghost use Rattle.std.specs.Prelude.{◌≡◌, [], ◌∷◌, ◌+◌, ◌≤◌, ◌<◌, length};
+ghost use Rattle.std.specs.Prelude.{◌≡◌, ◌+◌, ◌≤◌, ◌<◌, length};
 ghost use Rattle.five_bytes.specs.FiveBytes.{Sayable};
 ghost use Rattle.placed_text.specs.Placing.{Put};
 ghost use Rattle.operation_line.specs.Spelling.{numeral};
@@ -40,113 +40,98 @@ fn is_writable(f: Operation) -> bool
     }
 }
 
-// The line is made aside, since its length is known only then.
+// The line is made aside, since its length is known only then. Each part says where the next goes: a length in a struct beside the bytes would stand in memory,
+// and each byte would wait for the one before.
 fn write_fitting(f: Operation, out: &mut [u8]) -> Result<usize, WritingRefusal>
     requires { Sayable f }
     ensures { (result ≡ fitted_answer (written_line f) (length out.old)) × (out.new ≡ fitted (written_line f) out.old) }
 {
-    let mut line = Line {
-        bytes: [0; 64],
-        length: 0,
-    };
-    line.put_line(f);
-    let size = line.length;
+    let mut line = [0u8; 64];
+    let size = put_line(&mut line, f);
     if out.len() < size {
         return Err(WritingRefusal::NoRoom);
     }
-    out[..size].copy_from_slice(&line.bytes[..size]);
+    out[..size].copy_from_slice(&line[..size]);
     Ok(size)
 }
 
-// A line that is being written: what is written stands at the start.
-#[derive(Drop)]
-struct Line {
-    bytes: [u8; 64],
-    length: usize,
+// Three parts with commas between them, at the start of out.
+fn put_line(out: &mut [u8], f: Operation) -> usize
+    requires { Sayable f × (38 ≤ length out.old) }
+    ensures { Put out.old 0 (written_line f) out.new result }
+{
+    let r = f.rotation;
+    let t = f.translation;
+    let x = put_part(out, 0, r.xx, r.xy, r.xz, t.x);
+    out[x] = b',';
+    let y = put_part(out, x + 1, r.yx, r.yy, r.yz, t.y);
+    out[y] = b',';
+    put_part(out, y + 1, r.zx, r.zy, r.zz, t.z)
 }
 
-impl Line {
-    fn push(&mut self, byte: u8)
-        requires { self.old.length < 64 }
-        ensures { Put self.old.bytes self.old.length (byte ∷ []) self.new.bytes self.new.length }
-    {
-        self.bytes[self.length] = byte;
-        self.length += 1;
-    }
+// The letters of a row in their order, then its twelfths.
+fn put_part(out: &mut [u8], at: usize, x: u8, y: u8, z: u8, k: u8) -> usize
+    requires { (k < 12) × (at + 12 ≤ length out.old) }
+    ensures { Put out.old at (plain_bytes (row_terms x y z k)) out.new result }
+{
+    let second = put_letter(out, true, at, x, b'x');
+    let third = put_letter(out, second == at, second, y, b'y');
+    let last = put_letter(out, third == at, third, z, b'z');
+    put_fraction(out, last == at, last, k)
+}
 
-    // Three parts with commas between them.
-    fn put_line(&mut self, f: Operation)
-        requires { Sayable f × (self.old.length + 38 ≤ 64) }
-        ensures { Put self.old.bytes self.old.length (written_line f) self.new.bytes self.new.length }
-    {
-        let r = f.rotation;
-        let t = f.translation;
-        self.put_part(r.xx, r.xy, r.xz, t.x);
-        self.push(b',');
-        self.put_part(r.yx, r.yy, r.yz, t.y);
-        self.push(b',');
-        self.put_part(r.zx, r.zy, r.zz, t.z);
+// An entry's letter with its sign, or nothing for the entry 0, whose digit is 1.
+fn put_letter(out: &mut [u8], first: bool, at: usize, digit: u8, letter: u8) -> usize
+    requires { at + 2 ≤ length out.old }
+    ensures { Put out.old at (letter_bytes first letter digit) out.new result }
+{
+    if digit == 1 {
+        return at;
     }
+    let next = put_sign(out, first, at, digit == 0);
+    out[next] = letter;
+    next + 1
+}
 
-    // The letters of a row in their order, then its twelfths.
-    fn put_part(&mut self, x: u8, y: u8, z: u8, k: u8)
-        requires { (k < 12) × (self.old.length + 12 ≤ 64) }
-        ensures { Put self.old.bytes self.old.length (plain_bytes (row_terms x y z k)) self.new.bytes self.new.length }
-    {
-        let start = self.length;
-        self.put_letter(true, x, b'x');
-        self.put_letter(self.length == start, y, b'y');
-        self.put_letter(self.length == start, z, b'z');
-        self.put_fraction(self.length == start, k);
+fn put_fraction(out: &mut [u8], first: bool, at: usize, k: u8) -> usize
+    requires { (k < 12) × (at + 6 ≤ length out.old) }
+    ensures { Put out.old at (fraction_bytes first k) out.new result }
+{
+    if k == 0 {
+        return at;
     }
+    let i = k as usize;
+    let next = put_sign(out, first, at, false);
+    let bar = put_numeral(out, next, NUMERATORS[i]);
+    out[bar] = b'/';
+    put_numeral(out, bar + 1, DENOMINATORS[i])
+}
 
-    // An entry's letter with its sign, or nothing for the entry 0, whose digit is 1.
-    fn put_letter(&mut self, first: bool, digit: u8, letter: u8)
-        requires { self.old.length + 2 ≤ 64 }
-        ensures { Put self.old.bytes self.old.length (letter_bytes first letter digit) self.new.bytes self.new.length }
-    {
-        if digit == 1 {
-            return;
-        }
-        self.put_sign(first, digit == 0);
-        self.push(letter);
+// A part's first plus is not written.
+fn put_sign(out: &mut [u8], first: bool, at: usize, negative: bool) -> usize
+    requires { at + 1 ≤ length out.old }
+    ensures { Put out.old at (sign_bytes first negative) out.new result }
+{
+    if negative {
+        out[at] = b'-';
+        return at + 1;
     }
+    if first {
+        return at;
+    }
+    out[at] = b'+';
+    at + 1
+}
 
-    fn put_fraction(&mut self, first: bool, k: u8)
-        requires { (k < 12) × (self.old.length + 6 ≤ 64) }
-        ensures { Put self.old.bytes self.old.length (fraction_bytes first k) self.new.bytes self.new.length }
-    {
-        if k == 0 {
-            return;
-        }
-        let i = k as usize;
-        self.put_sign(first, false);
-        self.put_numeral(NUMERATORS[i]);
-        self.push(b'/');
-        self.put_numeral(DENOMINATORS[i]);
+fn put_numeral(out: &mut [u8], at: usize, n: u8) -> usize
+    requires { (n < 100) × (at + 2 ≤ length out.old) }
+    ensures { Put out.old at (numeral n) out.new result }
+{
+    if n < 10 {
+        out[at] = b'0' + n;
+        return at + 1;
     }
-
-    // A part's first plus is not written.
-    fn put_sign(&mut self, first: bool, negative: bool)
-        requires { self.old.length + 1 ≤ 64 }
-        ensures { Put self.old.bytes self.old.length (sign_bytes first negative) self.new.bytes self.new.length }
-    {
-        if negative {
-            self.push(b'-');
-        } else if !first {
-            self.push(b'+');
-        }
-    }
-
-    fn put_numeral(&mut self, n: u8)
-        requires { (n < 100) × (self.old.length + 2 ≤ 64) }
-        ensures { Put self.old.bytes self.old.length (numeral n) self.new.bytes self.new.length }
-    {
-        if n < 10 {
-            self.push(b'0' + n);
-            return;
-        }
-        self.push(b'0' + n / 10);
-        self.push(b'0' + n % 10);
-    }
+    out[at] = b'0' + n / 10;
+    out[at + 1] = b'0' + n % 10;
+    at + 2
 }

@@ -12,16 +12,19 @@ within {before} {text} {after} {size} p h =
 
 pub returns-then-out-size : goal.returns-then-out-size
 returns-then-out-size c =
-    no_room c.put_line.ensures (omega (arith, line-short c.args.f)) c.args.out.now c.if-out-size.true
+    no_room c.put_line-size.ensures (omega (arith, line-short c.args.f)) c.args.out.now c.if-out-size.true
 
-pub shared_ref_as_front-copy_from_slice : goal.shared_ref_as_front-copy_from_slice
-shared_ref_as_front-copy_from_slice c = omega (arith, line-short c.args.f, c.put_line.ensures.place)
+pub slice_bounds-line-end : goal.slice_bounds-line-end
+slice_bounds-line-end c = within c.put_line-size.ensures (omega (arith, line-short c.args.f))
+
+pub slice_bounds-copy_from_slice-end-3 : goal.slice_bounds-copy_from_slice-end-3
+slice_bounds-copy_from_slice-end-3 c = sym (length-take-le _ _ (within c.put_line-size.ensures (omega (arith, line-short c.args.f))))
 
 pub copy_from_slice-requires : goal.copy_from_slice-requires
 copy_from_slice-requires c =
-    length-take-le _ _ c.if-out-size.false ∙ sym (length-take-le _ _ (within c.put_line.ensures (omega (arith, line-short c.args.f))))
+    length-take-le _ _ c.if-out-size.false ∙ sym (length-take-le _ _ (within c.put_line-size.ensures (omega (arith, line-short c.args.f))))
 
 pub returns : goal.returns
 returns c =
-    with-room c.put_line.ensures (omega (arith, line-short c.args.f)) c.args.out.now _
-    c.if-out-size.false (ap (λ (l : List ℕ). l ++ drop c.put_line.new.self.length c.args.out.now) c.copy_from_slice.ensures.after)
+    with-room c.put_line-size.ensures (omega (arith, line-short c.args.f)) c.args.out.now _
+    c.if-out-size.false (ap (λ (l : List ℕ). l ++ drop c.put_line-size.result c.args.out.now) c.copy_from_slice.ensures.after)
